@@ -1,0 +1,4 @@
+pub mod Base64url
+pub mod Fault
+pub mod Answers
+pub mod Samples
