@@ -137,3 +137,287 @@ pub fn check(text: &[u8]) -> Checked
     }
     Checked::Sound
 }
+
+// Lengths
+
+// How many characters n octets make, floor((4n+2)/3), or the largest number where that does not fit: no slice is so long.
+pub fn encoded_length(n: usize) -> usize
+    ensures { λ r. ⌜ r ≡ min (encodedLength n) (2 ^ 64 - 1) ⌝ }
+{
+    if 13835058055282163711 < n {
+        return 18446744073709551615;
+    }
+    n / 3 * 4 + (n % 3 * 4 + 2) / 3
+}
+
+// Where the block that begins at i ends.
+fn block_end(i: usize, n: usize, size: usize) -> usize
+    requires { ⌜ i ≤ n ⌝ }
+    ensures { λ r. ⌜ r ≡ min (i + size) n ⌝ }
+{
+    if n - i < size {
+        n
+    } else {
+        i + size
+    }
+}
+
+// Decoding: a block of characters becomes values, and these become octets
+
+// The values of characters.
+fn values(text: &[u8], into: &mut [u8])
+    requires { ⌜ length (map sixBits (now text)) ≤ length (now into) ⌝ }
+    ensures { λ _. ⌜ now (into .exit) ≡ written 0 (map sixBits (now (text .entry))) (now (into .entry)) ⌝ }
+{
+    let mut k: usize = 0;
+    while k < text.len() {
+        into[k] = six_bits(text[k]);
+        k += 1;
+    }
+}
+
+fn first_octet(p: u8, q: u8) -> u8
+    requires { ⌜ (p < 64) × (q < 64) ⌝ }
+    ensures { λ o. ⌜ o ≡ p * 4 + q / 16 ⌝ }
+{
+    p * 4 + q / 16
+}
+
+fn second_octet(q: u8, r: u8) -> u8
+    requires { ⌜ r < 64 ⌝ }
+    ensures { λ o. ⌜ o ≡ q % 16 * 16 + r / 4 ⌝ }
+{
+    q % 16 * 16 + r / 4
+}
+
+fn third_octet(r: u8, s: u8) -> u8
+    requires { ⌜ s < 64 ⌝ }
+    ensures { λ o. ⌜ o ≡ r % 4 * 64 + s ⌝ }
+{
+    r % 4 * 64 + s
+}
+
+// The three octets of four values, written from a position on. Answers the position after them.
+fn pack_four(six: &[u8], out: &mut [u8], at: usize) -> usize
+    requires { ⌜ length (now six) ≡ 4 ⌝ }
+    requires { ⌜ AllBelow 64 (now six) ⌝ }
+    requires { ⌜ at + length (octets (now six)) ≤ length (now out) ⌝ }
+    ensures { λ r. ⌜ r ≡ at + length (octets (now (six .entry))) ⌝ }
+    ensures { λ _. ⌜ now (out .exit) ≡ written at (octets (now (six .entry))) (now (out .entry)) ⌝ }
+{
+    out[at] = first_octet(six[0], six[1]);
+    out[at + 1] = second_octet(six[1], six[2]);
+    out[at + 2] = third_octet(six[2], six[3]);
+    at + 3
+}
+
+// The octets of fewer than four values, likewise.
+fn pack_few(six: &[u8], out: &mut [u8], at: usize) -> usize
+    requires { ⌜ length (now six) < 4 ⌝ }
+    requires { ⌜ AllBelow 64 (now six) ⌝ }
+    requires { ⌜ at + length (octets (now six)) ≤ length (now out) ⌝ }
+    ensures { λ r. ⌜ r ≡ at + length (octets (now (six .entry))) ⌝ }
+    ensures { λ _. ⌜ now (out .exit) ≡ written at (octets (now (six .entry))) (now (out .entry)) ⌝ }
+{
+    let n = six.len();
+    if n < 2 {
+        return at;
+    }
+    out[at] = first_octet(six[0], six[1]);
+    if n < 3 {
+        return at + 1;
+    }
+    out[at + 1] = second_octet(six[1], six[2]);
+    at + 2
+}
+
+// The octets of values, likewise.
+fn pack(six: &[u8], out: &mut [u8], at: usize) -> usize
+    requires { ⌜ AllBelow 64 (now six) ⌝ }
+    requires { ⌜ at + length (octets (now six)) ≤ length (now out) ⌝ }
+    ensures { λ r. ⌜ r ≡ at + length (octets (now (six .entry))) ⌝ }
+    ensures { λ _. ⌜ now (out .exit) ≡ written at (octets (now (six .entry))) (now (out .entry)) ⌝ }
+{
+    let n = six.len();
+    let mut k: usize = 0;
+    let mut j = at;
+    while 4 <= n - k {
+        let e = k + 4;
+        j = pack_four(&six[k..e], out, j);
+        k = e;
+    }
+    pack_few(&six[k..n], out, j)
+}
+
+// The octets of a text of at most 256 characters, likewise.
+fn decode_block(text: &[u8], out: &mut [u8], at: usize) -> usize
+    requires { ⌜ length (now text) ≤ 256 ⌝ }
+    requires { ⌜ AllBelow 64 (map sixBits (now text)) ⌝ }
+    requires { ⌜ at + length (decoded (now text)) ≤ length (now out) ⌝ }
+    ensures { λ r. ⌜ r ≡ at + length (decoded (now (text .entry))) ⌝ }
+    ensures { λ _. ⌜ now (out .exit) ≡ written at (decoded (now (text .entry))) (now (out .entry)) ⌝ }
+{
+    let mut six = [0u8; 256];
+    let n = text.len();
+    values(text, &mut six[..n]);
+    pack(&six[..n], out, at)
+}
+
+// The octets of a text, likewise.
+fn decode_at(text: &[u8], out: &mut [u8], at: usize) -> usize
+    requires { ⌜ AllBelow 64 (map sixBits (now text)) ⌝ }
+    requires { ⌜ at + length (decoded (now text)) ≤ length (now out) ⌝ }
+    ensures { λ r. ⌜ r ≡ at + length (decoded (now (text .entry))) ⌝ }
+    ensures { λ _. ⌜ now (out .exit) ≡ written at (decoded (now (text .entry))) (now (out .entry)) ⌝ }
+{
+    let n = text.len();
+    let mut i: usize = 0;
+    let mut j = at;
+    while i < n {
+        let e = block_end(i, n, 256);
+        j = decode_block(&text[i..e], out, j);
+        i = e;
+    }
+    j
+}
+
+// Decodes a text into out: document 01's 5, then 1 if out is shorter than the octets. Refused, out is as it was.
+pub fn decode(text: &[u8], out: &mut [u8]) -> Decoded
+    ensures { λ r. ⌜ r ≡ decodeAnswer (now (text .entry)) (length (now (out .entry))) ⌝ }
+    ensures { λ r. ⌜ now (out .exit) ≡ decodeInto r (now (text .entry)) (now (out .entry)) ⌝ }
+{
+    let Checked::Sound = check(text) else {
+        return Decoded::Misspelled;
+    };
+    let n = text.len();
+    if out.len() < n / 4 * 3 + n % 4 * 3 / 4 {
+        return Decoded::Short;
+    }
+    Decoded::Octets(decode_at(text, out, 0))
+}
+
+// Encoding: a block of octets becomes values, and these become characters
+
+fn second_value(a: u8, b: u8) -> u8
+    ensures { λ v. ⌜ v ≡ a % 4 * 16 + b / 16 ⌝ }
+{
+    a % 4 * 16 + b / 16
+}
+
+fn third_value(b: u8, c: u8) -> u8
+    ensures { λ v. ⌜ v ≡ b % 16 * 4 + c / 64 ⌝ }
+{
+    b % 16 * 4 + c / 64
+}
+
+// The four values of three octets, written from a position on. Answers the position after them.
+fn split_three(octets: &[u8], into: &mut [u8], at: usize) -> usize
+    requires { ⌜ length (now octets) ≡ 3 ⌝ }
+    requires { ⌜ at + length (sextets (now octets)) ≤ length (now into) ⌝ }
+    ensures { λ r. ⌜ r ≡ at + length (sextets (now (octets .entry))) ⌝ }
+    ensures { λ _. ⌜ now (into .exit) ≡ written at (sextets (now (octets .entry))) (now (into .entry)) ⌝ }
+{
+    into[at] = octets[0] / 4;
+    into[at + 1] = second_value(octets[0], octets[1]);
+    into[at + 2] = third_value(octets[1], octets[2]);
+    into[at + 3] = octets[2] % 64;
+    at + 4
+}
+
+// The values of fewer than three octets, likewise.
+fn split_few(octets: &[u8], into: &mut [u8], at: usize) -> usize
+    requires { ⌜ length (now octets) < 3 ⌝ }
+    requires { ⌜ at + length (sextets (now octets)) ≤ length (now into) ⌝ }
+    ensures { λ r. ⌜ r ≡ at + length (sextets (now (octets .entry))) ⌝ }
+    ensures { λ _. ⌜ now (into .exit) ≡ written at (sextets (now (octets .entry))) (now (into .entry)) ⌝ }
+{
+    let n = octets.len();
+    if n < 1 {
+        return at;
+    }
+    into[at] = octets[0] / 4;
+    if n < 2 {
+        into[at + 1] = second_value(octets[0], 0);
+        return at + 2;
+    }
+    into[at + 1] = second_value(octets[0], octets[1]);
+    into[at + 2] = third_value(octets[1], 0);
+    at + 3
+}
+
+// The values of octets, likewise.
+fn split(octets: &[u8], into: &mut [u8], at: usize) -> usize
+    requires { ⌜ at + length (sextets (now octets)) ≤ length (now into) ⌝ }
+    ensures { λ r. ⌜ r ≡ at + length (sextets (now (octets .entry))) ⌝ }
+    ensures { λ _. ⌜ now (into .exit) ≡ written at (sextets (now (octets .entry))) (now (into .entry)) ⌝ }
+{
+    let n = octets.len();
+    let mut k: usize = 0;
+    let mut j = at;
+    while 3 <= n - k {
+        let e = k + 3;
+        j = split_three(&octets[k..e], into, j);
+        k = e;
+    }
+    split_few(&octets[k..n], into, j)
+}
+
+// The characters of values, written from a position on. Answers the position after them.
+fn characters(six: &[u8], out: &mut [u8], at: usize) -> usize
+    requires { ⌜ AllBelow 64 (now six) ⌝ }
+    requires { ⌜ at + length (map character (now six)) ≤ length (now out) ⌝ }
+    ensures { λ r. ⌜ r ≡ at + length (map character (now (six .entry))) ⌝ }
+    ensures { λ _. ⌜ now (out .exit) ≡ written at (map character (now (six .entry))) (now (out .entry)) ⌝ }
+{
+    let mut k: usize = 0;
+    let mut j = at;
+    while k < six.len() {
+        out[j] = character(six[k]);
+        k += 1;
+        j += 1;
+    }
+    j
+}
+
+// The text of at most 192 octets, likewise.
+fn encode_block(octets: &[u8], out: &mut [u8], at: usize) -> usize
+    requires { ⌜ length (now octets) ≤ 192 ⌝ }
+    requires { ⌜ at + length (encoded (now octets)) ≤ length (now out) ⌝ }
+    ensures { λ r. ⌜ r ≡ at + length (encoded (now (octets .entry))) ⌝ }
+    ensures { λ _. ⌜ now (out .exit) ≡ written at (encoded (now (octets .entry))) (now (out .entry)) ⌝ }
+{
+    let mut six = [0u8; 256];
+    let n = split(octets, &mut six, 0);
+    characters(&six[..n], out, at)
+}
+
+// The text of octets, likewise.
+fn encode_at(octets: &[u8], out: &mut [u8], at: usize) -> usize
+    requires { ⌜ at + length (encoded (now octets)) ≤ length (now out) ⌝ }
+    ensures { λ r. ⌜ r ≡ at + length (encoded (now (octets .entry))) ⌝ }
+    ensures { λ _. ⌜ now (out .exit) ≡ written at (encoded (now (octets .entry))) (now (out .entry)) ⌝ }
+{
+    let n = octets.len();
+    let mut i: usize = 0;
+    let mut j = at;
+    while i < n {
+        let e = block_end(i, n, 192);
+        j = encode_block(&octets[i..e], out, j);
+        i = e;
+    }
+    j
+}
+
+// Encodes octets into out from a position on: document 01's 1 where the text does not fit, and then out is as it was.
+pub fn encode(octets: &[u8], out: &mut [u8], at: usize) -> Encoded
+    ensures { λ r. ⌜ r ≡ encodeAnswer (now (octets .entry)) at (length (now (out .entry))) ⌝ }
+    ensures { λ r. ⌜ now (out .exit) ≡ encodeInto r (now (octets .entry)) at (now (out .entry)) ⌝ }
+{
+    if out.len() < at {
+        return Encoded::Full;
+    }
+    if out.len() - at < encoded_length(octets.len()) {
+        return Encoded::Full;
+    }
+    Encoded::End(encode_at(octets, out, at))
+}

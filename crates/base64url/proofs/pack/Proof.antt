@@ -1,0 +1,145 @@
+use Prim.Native.Nat.{_+_, _-_, _≤_, _<_}
+use mathlib.Core.Path.{_≡_, ap, sym, _∙_}
+use mathlib.Core.List.{[], _++_, append-nil}
+use native.Mathlib.Omega.{arith}
+use lib.ListN.{length, take, drop, length-take, length-drop}
+use lib.Seq.{take-all}
+use Rattle.prelude.proofs.Lists.{below-take, below-drop}
+use Rattle.prelude.proofs.Writing.{Writing, begin, put-part, room-part, ended}
+use Rattle.base64url.specs.Base64url.{octets}
+use Rattle.base64url.proofs.Groups.{octets-group}
+use borrow.Author.Needs.{needs}
+use Rattle.base64url.proofs.pack.Statement.{statement}
+use Rattle.base64url.proofs.pack.Tie as tie
+use Rattle.base64url.proofs.pack.Reads as reads
+use Rattle.base64url.proofs.pack.Lts as lts
+use Rattle.base64url.proofs.pack_few.Reads as pack-few-reads
+use Rattle.base64url.proofs.pack_four.Reads as pack-four-reads
+
+abbrev Inv-loop : tie.InvT-loop
+Inv-loop six out₀ at n k₀ j₀ out k j = (k ≤ length six) × Writing at (octets six) out₀ (octets (drop k six)) j out
+
+abbrev μ-loop : tie.MeasureT-loop
+μ-loop six out₀ at n k₀ j₀ out k j = length six - k
+
+-- src/lib.rt:244:5
+loop-holds : tie.Need-loop-holds Inv-loop μ-loop
+loop-holds c =
+    let start = c .before .before in
+    (search needs, begin (start .args .at) (octets (start .args .six .now)) (start .args .out .now) (start .pre .1))
+
+-- src/lib.rt:244:16
+sub-loop : tie.Need-sub-loop Inv-loop μ-loop
+sub-loop c = search needs
+
+-- src/lib.rt:245:17
+add-e : tie.Need-add-e Inv-loop μ-loop
+add-e c = search needs
+
+-- src/lib.rt:246:23
+sub-pack-four : tie.Need-sub-pack-four Inv-loop μ-loop
+sub-pack-four c = search needs
+
+-- src/lib.rt:246:23
+part-pack-four-start : tie.Need-part-pack-four-start Inv-loop μ-loop
+part-pack-four-start c = search needs
+
+-- src/lib.rt:246:23
+part-pack-four-end : tie.Need-part-pack-four-end Inv-loop μ-loop
+part-pack-four-end c = search needs
+
+-- src/lib.rt:246:9
+pack-four-requires : tie.Need-pack-four-requires Inv-loop μ-loop
+pack-four-requires c κs =
+    let start = c .before .before .before .before .before .before in
+    let loop = c .before .before .before .loop in
+    let six = start .args .six .now in
+    let k = loop .k in
+    let parts = octets-group six k (k + 4) (omega arith) (omega arith) in
+    let size : length (take (k + 4 - k) (drop k six)) ≡ 4 = length-take (k + 4 - k) (drop k six) ∙ omega (arith, length-drop k six) in
+    (size, (below-take 64 (k + 4 - k) (drop k six) (below-drop 64 k six (start .pre .0)), room-part (octets (take (k + 4 - k) (drop k six))) (octets (drop (k + 4) six)) parts (loop .inv .1)))
+
+-- src/lib.rt:244:5
+loop-less : tie.Need-loop-less Inv-loop μ-loop
+loop-less c = search needs
+
+-- src/lib.rt:244:5
+loop-again : tie.Need-loop-again Inv-loop μ-loop
+loop-again c =
+    let start = c .before .before .before .before .before .before .before .before .before in
+    let loop = c .before .before .before .before .before .before .loop in
+    let six = start .args .six .now in
+    let k = loop .k in
+    let parts = octets-group six k (k + 4) (omega arith) (omega arith) in
+    let call = c .before .before .pack-four in
+    (omega arith, put-part (octets (take (k + 4 - k) (drop k six))) (octets (drop (k + 4) six)) parts (loop .inv .1) (call .ensures .0) (call .ensures .1))
+
+-- src/lib.rt:249:14
+sub-pack-few : tie.Need-sub-pack-few Inv-loop μ-loop
+sub-pack-few c = search needs
+
+-- src/lib.rt:249:14
+part-pack-few-start : tie.Need-part-pack-few-start Inv-loop μ-loop
+part-pack-few-start c = search needs
+
+-- src/lib.rt:249:14
+part-pack-few-end : tie.Need-part-pack-few-end Inv-loop μ-loop
+part-pack-few-end c = search needs
+
+-- src/lib.rt:249:5
+pack-few-requires : tie.Need-pack-few-requires Inv-loop μ-loop
+pack-few-requires c κs =
+    let start = c .before .before .before .before .before .before in
+    let loop = c .before .before .before .loop in
+    let six = start .args .six .now in
+    let k = loop .k in
+    let all : drop k six ≡ (take (length six - k) (drop k six)) = sym (take-all (length six - k) (drop k six) (omega (arith, length-drop k six))) in
+    let parts : octets (drop k six) ≡ octets (take (length six - k) (drop k six)) ++ [] = ap octets all ∙ sym (append-nil (octets (take (length six - k) (drop k six)))) in
+    let few : length (take (length six - k) (drop k six)) < 4 = omega (arith, length-take (length six - k) (drop k six)) in
+    (few, (below-take 64 (length six - k) (drop k six) (below-drop 64 k six (start .pre .0)), room-part (octets (take (length six - k) (drop k six))) [] parts (loop .inv .1)))
+
+-- src/lib.rt:235:1
+same-length : tie.Need-same-length Inv-loop μ-loop
+same-length c =
+    let start = c .before .before .before .before .before .before .before .before .before in
+    let loop = c .before .before .before .before .before .before .loop in
+    let six = start .args .six .now in
+    let k = loop .k in
+    let all : drop k six ≡ (take (length six - k) (drop k six)) = sym (take-all (length six - k) (drop k six) (omega (arith, length-drop k six))) in
+    let parts : octets (drop k six) ≡ octets (take (length six - k) (drop k six)) ++ [] = ap octets all ∙ sym (append-nil (octets (take (length six - k) (drop k six)))) in
+    let call = c .before .before .pack-few in
+    (put-part (octets (take (length six - k) (drop k six))) [] parts (loop .inv .1) (call .ensures .0) (call .ensures .1)) .same
+
+-- src/lib.rt:235:1
+returns : tie.Need-returns Inv-loop μ-loop
+returns c =
+    let start = c .before .before .before .before .before .before .before .before .before in
+    let loop = c .before .before .before .before .before .before .loop in
+    let six = start .args .six .now in
+    let k = loop .k in
+    let all : drop k six ≡ (take (length six - k) (drop k six)) = sym (take-all (length six - k) (drop k six) (omega (arith, length-drop k six))) in
+    let parts : octets (drop k six) ≡ octets (take (length six - k) (drop k six)) ++ [] = ap octets all ∙ sym (append-nil (octets (take (length six - k) (drop k six)))) in
+    let call = c .before .before .pack-few in
+    ended (put-part (octets (take (length six - k) (drop k six))) [] parts (loop .inv .1) (call .ensures .0) (call .ensures .1))
+
+pub pack-spec : {M : Type 1} → statement M
+pack-spec =
+    tie.close
+    (tie.spec
+    Inv-loop
+    μ-loop
+    loop-holds
+    sub-loop
+    add-e
+    sub-pack-four
+    part-pack-four-start
+    part-pack-four-end
+    pack-four-requires
+    loop-less
+    loop-again
+    sub-pack-few
+    part-pack-few-start
+    part-pack-few-end
+    pack-few-requires
+    same-length
+    returns)

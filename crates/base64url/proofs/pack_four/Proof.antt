@@ -1,0 +1,129 @@
+use Prim.Native.Nat.{ℕ, _+_, _<_}
+use mathlib.Core.Path.{_≡_, refl}
+use mathlib.Core.List.{List, [], _∷_}
+use native.Mathlib.Omega.{arith}
+use lib.ListN.{length, length-set}
+use Rattle.prelude.proofs.Lists.{below-at}
+use Rattle.prelude.proofs.Writing.{begin-as, put, ended}
+use Rattle.base64url.specs.Base64url.{octets}
+use Rattle.base64url.proofs.Groups.{octets-length, octets-of-four}
+use borrow.Author.Needs.{needs}
+use Rattle.base64url.proofs.pack_four.Statement.{statement}
+use Rattle.base64url.proofs.pack_four.Tie as tie
+use Rattle.base64url.proofs.pack_four.Reads as reads
+use Rattle.base64url.proofs.pack_four.Lts as lts
+use Rattle.base64url.proofs.first_octet.Reads as first-octet-reads
+use Rattle.base64url.proofs.second_octet.Reads as second-octet-reads
+use Rattle.base64url.proofs.third_octet.Reads as third-octet-reads
+
+-- src/lib.rt:208:27
+shared-slice-read-first-octet : tie.Need-shared-slice-read-first-octet
+shared-slice-read-first-octet c = search needs
+
+-- src/lib.rt:208:35
+shared-slice-read-first-octet-2 : tie.Need-shared-slice-read-first-octet-2
+shared-slice-read-first-octet-2 c = search needs
+
+-- src/lib.rt:208:15
+first-octet-requires : tie.Need-first-octet-requires
+first-octet-requires c κs =
+    let start = c .before .before .before .before in
+    let six = start .args .six .now in
+    (below-at 64 six (start .pre .1 .0) 0 (omega (arith, start .pre .0)), below-at 64 six (start .pre .1 .0) 1 (omega (arith, start .pre .0)))
+
+-- src/lib.rt:208:5
+slice-write-out : tie.Need-slice-write-out
+slice-write-out c =
+    let start = c .before .before .before .before .before in
+    omega (arith, start .pre .0, start .pre .1 .1, octets-length (start .args .six .now))
+
+-- src/lib.rt:209:32
+shared-slice-read-second-octet : tie.Need-shared-slice-read-second-octet
+shared-slice-read-second-octet c = search needs
+
+-- src/lib.rt:209:40
+shared-slice-read-second-octet-2 : tie.Need-shared-slice-read-second-octet-2
+shared-slice-read-second-octet-2 c = search needs
+
+-- src/lib.rt:209:19
+second-octet-requires : tie.Need-second-octet-requires
+second-octet-requires c κs =
+    let start = c .before .before .before .before .before .before .before in
+    let six = start .args .six .now in
+    below-at 64 six (start .pre .1 .0) 2 (omega (arith, start .pre .0))
+
+-- src/lib.rt:209:9
+add-out : tie.Need-add-out
+add-out c = search needs
+
+-- src/lib.rt:209:5
+slice-write-out-2 : tie.Need-slice-write-out-2
+slice-write-out-2 c =
+    let start = c .before .before .before .before .before .before .before .before in
+    simp length-set (omega (arith, start .pre .0, start .pre .1 .1, octets-length (start .args .six .now)))
+
+-- src/lib.rt:210:31
+shared-slice-read-third-octet : tie.Need-shared-slice-read-third-octet
+shared-slice-read-third-octet c = search needs
+
+-- src/lib.rt:210:39
+shared-slice-read-third-octet-2 : tie.Need-shared-slice-read-third-octet-2
+shared-slice-read-third-octet-2 c = search needs
+
+-- src/lib.rt:210:19
+third-octet-requires : tie.Need-third-octet-requires
+third-octet-requires c κs =
+    let start = c .before .before .before .before .before .before .before .before .before .before in
+    let six = start .args .six .now in
+    below-at 64 six (start .pre .1 .0) 3 (omega (arith, start .pre .0))
+
+-- src/lib.rt:210:9
+add-out-2 : tie.Need-add-out-2
+add-out-2 c = search needs
+
+-- src/lib.rt:210:5
+slice-write-out-3 : tie.Need-slice-write-out-3
+slice-write-out-3 c =
+    let start = c .before .before .before .before .before .before .before .before .before .before .before in
+    simp length-set (omega (arith, start .pre .0, start .pre .1 .1, octets-length (start .args .six .now)))
+
+-- src/lib.rt:211:5
+add-result : tie.Need-add-result
+add-result c = search needs
+
+-- src/lib.rt:201:1
+same-length : tie.Need-same-length
+same-length c = simp length-set
+
+-- src/lib.rt:201:1
+returns : tie.Need-returns
+returns c =
+    let start = c .before .before .before .before .before .before .before .before .before .before .before in
+    let six = start .args .six .now in
+    let at = start .args .at in
+    let parts = octets-of-four six (start .pre .0) in
+    let group : octets six ≡ c .before .before .before .before .before .before .first-octet .result ∷ c .before .before .before .second-octet .result ∷ c .third-octet .result ∷ [] = cc (parts, c .before .before .before .before .before .before .first-octet .ensures, c .before .before .before .second-octet .ensures, c .third-octet .ensures) in
+    let opened = begin-as at (octets six) (c .before .before .before .before .before .before .first-octet .result ∷ c .before .before .before .second-octet .result ∷ c .third-octet .result ∷ []) (start .args .out .now) group (start .pre .1 .1) in
+    ended (put _ (at + 3) (omega arith) (put _ (at + 2) (omega arith) (put _ (at + 1) refl opened)))
+
+pub pack-four-spec : {M : Type 1} → statement M
+pack-four-spec =
+    tie.close
+    (tie.spec
+    shared-slice-read-first-octet
+    shared-slice-read-first-octet-2
+    first-octet-requires
+    slice-write-out
+    shared-slice-read-second-octet
+    shared-slice-read-second-octet-2
+    second-octet-requires
+    add-out
+    slice-write-out-2
+    shared-slice-read-third-octet
+    shared-slice-read-third-octet-2
+    third-octet-requires
+    add-out-2
+    slice-write-out-3
+    add-result
+    same-length
+    returns)

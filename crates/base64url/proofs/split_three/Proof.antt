@@ -1,0 +1,125 @@
+use Prim.Native.Nat.{ℕ, _+_, _/_, _%_}
+use mathlib.Core.Path.{_≡_, refl}
+use mathlib.Core.List.{List, [], _∷_}
+use native.Mathlib.Omega.{arith}
+use lib.ListN.{getD, length-set}
+use Rattle.prelude.proofs.Writing.{begin-as, put, ended}
+use Rattle.base64url.specs.Base64url.{sextets}
+use Rattle.base64url.proofs.Groups.{sextets-length, sextets-of-three}
+use borrow.Author.Needs.{needs}
+use Rattle.base64url.proofs.split_three.Statement.{statement}
+use Rattle.base64url.proofs.split_three.Tie as tie
+use Rattle.base64url.proofs.split_three.Reads as reads
+use Rattle.base64url.proofs.split_three.Lts as lts
+use Rattle.base64url.proofs.second_value.Reads as second-value-reads
+use Rattle.base64url.proofs.third_value.Reads as third-value-reads
+
+-- src/lib.rt:309:16
+shared-slice-read-into : tie.Need-shared-slice-read-into
+shared-slice-read-into c = search needs
+
+-- src/lib.rt:309:5
+slice-write-into : tie.Need-slice-write-into
+slice-write-into c =
+    let start = c .before .before .before in
+    omega (arith, start .pre .0, start .pre .1, sextets-length (start .args .octets .now))
+
+-- src/lib.rt:310:33
+shared-slice-read-second-value : tie.Need-shared-slice-read-second-value
+shared-slice-read-second-value c = search needs
+
+-- src/lib.rt:310:44
+shared-slice-read-second-value-2 : tie.Need-shared-slice-read-second-value-2
+shared-slice-read-second-value-2 c = search needs
+
+-- src/lib.rt:310:20
+second-value-requires : tie.Need-second-value-requires
+second-value-requires c κs = search needs
+
+-- src/lib.rt:310:10
+add-into : tie.Need-add-into
+add-into c = search needs
+
+-- src/lib.rt:310:5
+slice-write-into-2 : tie.Need-slice-write-into-2
+slice-write-into-2 c =
+    let start = c .before .before .before .before .before .before in
+    simp length-set (omega (arith, start .pre .0, start .pre .1, sextets-length (start .args .octets .now)))
+
+-- src/lib.rt:311:32
+shared-slice-read-third-value : tie.Need-shared-slice-read-third-value
+shared-slice-read-third-value c = search needs
+
+-- src/lib.rt:311:43
+shared-slice-read-third-value-2 : tie.Need-shared-slice-read-third-value-2
+shared-slice-read-third-value-2 c = search needs
+
+-- src/lib.rt:311:20
+third-value-requires : tie.Need-third-value-requires
+third-value-requires c κs = search needs
+
+-- src/lib.rt:311:10
+add-into-2 : tie.Need-add-into-2
+add-into-2 c = search needs
+
+-- src/lib.rt:311:5
+slice-write-into-3 : tie.Need-slice-write-into-3
+slice-write-into-3 c =
+    let start = c .before .before .before .before .before .before .before .before .before in
+    simp length-set (omega (arith, start .pre .0, start .pre .1, sextets-length (start .args .octets .now)))
+
+-- src/lib.rt:312:20
+shared-slice-read-into-2 : tie.Need-shared-slice-read-into-2
+shared-slice-read-into-2 c = search needs
+
+-- src/lib.rt:312:10
+add-into-3 : tie.Need-add-into-3
+add-into-3 c = search needs
+
+-- src/lib.rt:312:5
+slice-write-into-4 : tie.Need-slice-write-into-4
+slice-write-into-4 c =
+    let start = c .before .before .before .before .before .before .before .before .before .before in
+    simp length-set (omega (arith, start .pre .0, start .pre .1, sextets-length (start .args .octets .now)))
+
+-- src/lib.rt:313:5
+add-result : tie.Need-add-result
+add-result c = search needs
+
+-- src/lib.rt:303:1
+same-length : tie.Need-same-length
+same-length c = simp length-set
+
+-- src/lib.rt:303:1
+returns : tie.Need-returns
+returns c =
+    let start = c .before .before .before .before .before .before .before .before .before .before in
+    let octets = start .args .octets .now in
+    let at = start .args .at in
+    let parts = sextets-of-three octets (start .pre .0) in
+    let group : sextets octets ≡ (getD octets 0 0 / 4) ∷ c .before .before .before .before .second-value .result ∷ c .before .third-value .result ∷ (getD octets 2 0 % 64) ∷ [] = cc (parts, c .before .before .before .before .second-value .ensures, c .before .third-value .ensures) in
+    let opened = begin-as at (sextets octets) ((getD octets 0 0 / 4) ∷ c .before .before .before .before .second-value .result ∷ c .before .third-value .result ∷ (getD octets 2 0 % 64) ∷ []) (start .args .into .now) group (start .pre .1) in
+    ended (put _ (at + 4) (omega arith) (put _ (at + 3) (omega arith) (put _ (at + 2) (omega arith) (put _ (at + 1) refl opened))))
+
+pub split-three-spec : {M : Type 1} → statement M
+split-three-spec =
+    tie.close
+    (tie.spec
+    shared-slice-read-into
+    slice-write-into
+    shared-slice-read-second-value
+    shared-slice-read-second-value-2
+    second-value-requires
+    add-into
+    slice-write-into-2
+    shared-slice-read-third-value
+    shared-slice-read-third-value-2
+    third-value-requires
+    add-into-2
+    slice-write-into-3
+    shared-slice-read-into-2
+    add-into-3
+    slice-write-into-4
+    add-result
+    same-length
+    returns)
