@@ -61,6 +61,11 @@ abbrev pub encodeRefusal : Encoded → ℕ
 encodeRefusal (End next) = 0
 encodeRefusal Full = 1
 
+-- the position after the text
+abbrev pub encodeNext : Encoded → ℕ
+encodeNext (End next) = next
+encodeNext Full = 0
+
 unfoldable pub encodeAnswer : List ℕ → ℕ → ℕ → Encoded
 encodeAnswer xs position size =
     cond (leb (position + length (encoded xs)) size) (End (position + length (encoded xs))) Full
