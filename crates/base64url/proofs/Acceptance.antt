@@ -86,18 +86,20 @@ three-tests false false true i j k e = (refl, refl, refl)
 pub sound : (text : List ℕ) → fault text ≡ none → AllBelow 64 (map sixBits text) × Canonical (map sixBits text)
 unfolding fault
 sound text e =
-    let tests = three-tests (ltb (firstOutside text) (length text)) (eqb (length text % 4) 1) (eqb (spareBits text) 0) _ _ _ e in
-    ( outside-none text (ltb-false (firstOutside text) (length text) (tests .0))
-    , canonical text (eqb-false (length text % 4) 1 (tests .1)) (eqb-true (spareBits text) 0 (tests .2)) )
+    let tests = three-tests (ltb (firstOutside text) (length text)) (eqb (length text % 4) 1) (eqb (spareBits text) 0) _ _ _ e in (
+      outside-none text (ltb-false (firstOutside text) (length text) (tests .0)),
+      canonical text (eqb-false (length text % 4) 1 (tests .1)) (eqb-true (spareBits text) 0 (tests .2)),
+    )
 
 pub faultless : (text : List ℕ) → AllBelow 64 (map sixBits text) → Canonical (map sixBits text) → fault text ≡ none
 unfolding fault
 faultless text h k =
     let inside = inside-all text h in
-    simp
-    ( le-ltb (firstOutside text) (length text) (omega arith)
-    , ne-eqb (length text % 4) 1 (not-lone text k)
-    , eq-eqb (spareBits text) 0 (none-spare text k) )
+    simp (
+      le-ltb (firstOutside text) (length text) (omega arith),
+      ne-eqb (length text % 4) 1 (not-lone text k),
+      eq-eqb (spareBits text) 0 (none-spare text k),
+    )
 
 -- Encodings
 

@@ -19,9 +19,10 @@ decode-encode = acceptance.decode-encode
 
 -- a text is accepted exactly when it is the encoding of some octets ..
 pub accepted-exactly : (text : List ℕ) → (fault text ≡ none) ↔ ((xs : List ℕ) × AllBelow 256 xs × (encoded xs ≡ text))
-accepted-exactly text =
-    ( (λ e. (decoded text, acceptance.accepted-octets text e, acceptance.encode-decode text e))
-    , (λ w. subst (λ (t : List ℕ). fault t ≡ none) (w .2) (acceptance.encoding-accepted (w .0) (w .1))) )
+accepted-exactly text = (
+  (λ e. (decoded text, acceptance.accepted-octets text e, acceptance.encode-decode text e)),
+  (λ w. subst (λ (t : List ℕ). fault t ≡ none) (w .2) (acceptance.encoding-accepted (w .0) (w .1))),
+)
 
 -- .. and then of exactly those that it decodes to: there is no second spelling
 pub spelled-once : (text xs : List ℕ) → AllBelow 256 xs → encoded xs ≡ text → xs ≡ decoded text

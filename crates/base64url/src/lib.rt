@@ -38,31 +38,40 @@ pub enum Encoded {
 fn choose(first: bool, a: u8, b: u8) -> u8
     ensures { λ r. ⌜ r ≡ cond first a b ⌝ }
 {
-    if first {
-        a
-    } else {
-        b
-    }
+    if first { a } else { b }
 }
 
-// The six bits of a character, or 64: the one place that turns a character into its value.
+// The six bits of a character, or 64: the one place that turns a character into its value. Each range has a number that,
+// added modulo 64, makes a character its value.
 fn six_bits(c: u8) -> u8
     ensures { λ r. ⌜ r ≡ sixBits c ⌝ }
 {
-    let lower = (97 <= c) & (c <= 122);
-    let upper = (65 <= c) & (c <= 90);
-    let digit = (48 <= c) & (c <= 57);
-    let minus = c == 45;
-    let add = choose(lower, 57, choose(upper, 63, choose(digit, 4, choose(minus, 17, 32))));
-    choose(lower | upper | digit | minus | (c == 95), (c % 128 + add % 64) % 64, 64)
+    let lower = (b'a' <= c) & (c <= b'z');
+    let upper = (b'A' <= c) & (c <= b'Z');
+    let digit = (b'0' <= c) & (c <= b'9');
+    let minus = c == b'-';
+    let add = choose(
+        lower,
+        57,
+        choose(upper, 63, choose(digit, 4, choose(minus, 17, 32))),
+    );
+    choose(
+        lower | upper | digit | minus | (c == b'_'),
+        (c % 128 + add % 64) % 64,
+        64,
+    )
 }
 
-// The character of a value below 64.
+// The character of a value below 64, likewise modulo 128.
 fn character(v: u8) -> u8
     requires { ⌜ v < 64 ⌝ }
     ensures { λ r. ⌜ r ≡ character v ⌝ }
 {
-    let add = choose(v < 26, 65, choose(v < 52, 71, choose(v < 62, 124, choose(v == 62, 111, 32))));
+    let add = choose(
+        v < 26,
+        65,
+        choose(v < 52, 71, choose(v < 62, 124, choose(v == 62, 111, 32))),
+    );
     (v + add % 128) % 128
 }
 
@@ -70,7 +79,11 @@ fn character(v: u8) -> u8
 fn outside(c: u8) -> bool
     ensures { λ r. ⌜ r ≡ leb 64 (sixBits c) ⌝ }
 {
-    !(((97 <= c) & (c <= 122)) | ((65 <= c) & (c <= 90)) | ((48 <= c) & (c <= 57)) | (c == 45) | (c == 95))
+    !(((b'a' <= c) & (c <= b'z'))
+        | ((b'A' <= c) & (c <= b'Z'))
+        | ((b'0' <= c) & (c <= b'9'))
+        | (c == b'-')
+        | (c == b'_'))
 }
 
 // Checking
@@ -155,11 +168,7 @@ fn block_end(i: usize, n: usize, size: usize) -> usize
     requires { ⌜ i ≤ n ⌝ }
     ensures { λ r. ⌜ r ≡ min (i + size) n ⌝ }
 {
-    if n - i < size {
-        n
-    } else {
-        i + size
-    }
+    if n - i < size { n } else { i + size }
 }
 
 // Decoding: a block of characters becomes values, and these become octets

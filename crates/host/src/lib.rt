@@ -2,7 +2,6 @@
 ghost use mathlib.Core.Path.{_≡_};
 ghost use lib.ListN.{length};
 ghost use Rattle.base64url.specs.Answers.{decodeRefusal, decodeCount, decodeAnswer, decodeInto};
-
 use base64url::Decoded;
 
 // Decodes one component. Answers document 01's refusal: 0, or 5 for a text that is not base64url, or 1 where out is shorter

@@ -41,7 +41,7 @@ unfolding written
 filled n xs last array e h w =
     let short : length (take n array) ≤ 0 + length xs = omega (arith, length-take-le n array h) in
     let all : last ≡ xs =
-          w ∙ ap (λ (l : List ℕ). xs ++ l) (drop-of-length-le (take n array) short) ∙ append-nil xs in
+    w ∙ ap (λ (l : List ℕ). xs ++ l) (drop-of-length-le (take n array) short) ∙ append-nil xs in
     ap (λ (l : List ℕ). take n (l ++ drop n array)) all ∙ take-at xs (drop n array) n e
 
 -- a local array in whose front xs was written begins with xs
@@ -69,7 +69,7 @@ module _ {at : ℕ} {xs before : List ℕ} where
       → Writing at xs before (map f (drop i s)) j now → Writing at xs before (map f (drop (i + 1) s)) k (set now j x)
   put-mapped {now} {j} f s i x k h v e w =
       let next : map f (drop i s) ≡ x ∷ map f (drop (i + 1) s) =
-            ap (map f) (drop-next s i (i + 1) refl h) ∙ ap (λ (y : ℕ). y ∷ map f (drop (i + 1) s)) (sym v) in
+      ap (map f) (drop-next s i (i + 1) refl h) ∙ ap (λ (y : ℕ). y ∷ map f (drop (i + 1) s)) (sym v) in
       put x k e (subst (λ (l : List ℕ). Writing at xs before l j now) next w)
 
   -- the end of such a loop

@@ -4,7 +4,6 @@ ghost use Prim.Native.Nat.{_-_, _^_, min};
 ghost use lib.ListN.{length};
 ghost use Rattle.base64url.specs.Base64url.{encodedLength};
 ghost use Rattle.base64url.specs.Answers.{checkRefusal, checkAnswer, encodeRefusal, encodeNext, encodeAnswer, encodeInto};
-
 use base64url::Checked;
 use base64url::Encoded;
 

@@ -1,39 +1,32 @@
+-- `character` finds the alphabet's character: its choices by range are one test, computed over all values.
 use Rattle.base64url.proofs.Alphabet.{character-by-range}
 use borrow.Author.Needs.{needs}
 use Rattle.base64url.proofs.character.Statement.{statement}
 use Rattle.base64url.proofs.character.Tie as tie
-use Rattle.base64url.proofs.character.Reads as reads
-use Rattle.base64url.proofs.character.Lts as lts
-use Rattle.base64url.proofs.choose.Reads as choose-reads
 
--- src/lib.rt:65:73
 choose-requires : tie.Need-choose-requires
 choose-requires c κs = search needs
 
--- src/lib.rt:65:53
 choose-requires-2 : tie.Need-choose-requires-2
 choose-requires-2 c κs = search needs
 
--- src/lib.rt:65:34
 choose-requires-3 : tie.Need-choose-requires-3
 choose-requires-3 c κs = search needs
 
--- src/lib.rt:65:9
 choose-requires-4 : tie.Need-choose-requires-4
 choose-requires-4 c κs = search needs
 
--- src/lib.rt:66:6
 add-result : tie.Need-add-result
 add-result c = search needs
 
--- src/lib.rt:61:1
 returns : tie.Need-returns
 returns c =
-    rw
-    ( c .choose4 .ensures
-    , c .before .choose3 .ensures
-    , c .before .before .choose2 .ensures
-    , c .before .before .before .choose .ensures )
+    rw (
+      c .choose4 .ensures,
+      c .before .choose3 .ensures,
+      c .before .before .choose2 .ensures,
+      c .before .before .before .choose .ensures,
+    )
     (character-by-range (c .before .before .before .before .args .v) (search needs))
 
 pub character-spec : {M : Type 1} → statement M

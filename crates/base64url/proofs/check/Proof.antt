@@ -1,3 +1,4 @@
+-- `check` answers by the definition: each test that it makes settles the fault, or leaves the next one to.
 use mathlib.Core.Path.{sym, _∙_}
 use borrow.Author.Tests.{eqb-true, eqb-false, not-true, not-false}
 use Rattle.base64url.specs.Fault.{countOutside}
@@ -5,41 +6,31 @@ use Rattle.base64url.proofs.Answers.{checked-outside, checked-lone, che
 use borrow.Author.Needs.{needs}
 use Rattle.base64url.proofs.check.Statement.{statement}
 use Rattle.base64url.proofs.check.Tie as tie
-use Rattle.base64url.proofs.check.Reads as reads
-use Rattle.base64url.proofs.check.Lts as lts
-use Rattle.base64url.proofs.in_alphabet.Reads as in-alphabet-reads
-use Rattle.base64url.proofs.spare_bits.Reads as spare-bits-reads
 
--- src/lib.rt:129:9
 in-alphabet-requires : tie.Need-in-alphabet-requires
 in-alphabet-requires c κs = search needs
 
--- src/lib.rt:130:9
 returns : tie.Need-returns
 returns c =
     let text = c .before .before .before .args .text .now in
     checked-outside text
     (eqb-false (countOutside text) 0 (sym (c .before .in-alphabet .ensures) ∙ not-true _ (c .if1 .taken)))
 
--- src/lib.rt:133:9
 returns-2 : tie.Need-returns-2
 returns-2 c =
     let text = c .before .before .before .before .args .text .now in
     let none = eqb-true (countOutside text) 0 (sym (c .before .before .in-alphabet .ensures) ∙ not-false _ (c .before .if1 .left)) in
     checked-lone text none (c .if2 .taken)
 
--- src/lib.rt:135:8
 spare-bits-requires : tie.Need-spare-bits-requires
 spare-bits-requires c κs = search needs
 
--- src/lib.rt:136:9
 returns-3 : tie.Need-returns-3
 returns-3 c =
     let text = c .before .before .before .before .before .before .args .text .now in
     let none = eqb-true (countOutside text) 0 (sym (c .before .before .before .before .in-alphabet .ensures) ∙ not-false _ (c .before .before .before .if1 .left)) in
     checked-spare text none (c .before .before .if2 .left) (λ zero. c .if3 .taken (c .before .spare-bits .ensures ∙ zero))
 
--- src/lib.rt:126:1
 returns-4 : tie.Need-returns-4
 returns-4 c =
     let text = c .before .before .before .before .before .before .args .text .now in

@@ -1,3 +1,4 @@
+-- `decode` answers by the definition: the check, then the room, then the octets.
 use mathlib.Core.Path.{refl, sym, _∙_}
 use native.Mathlib.Omega.{arith}
 use lib.ListN.{length}
@@ -7,23 +8,16 @@ use Rattle.base64url.proofs.Laws.{decoded-length}
 use borrow.Author.Needs.{needs}
 use Rattle.base64url.proofs.decode.Statement.{statement}
 use Rattle.base64url.proofs.decode.Tie as tie
-use Rattle.base64url.proofs.decode.Reads as reads
-use Rattle.base64url.proofs.decode.Lts as lts
-use Rattle.base64url.proofs.check.Reads as check-reads
-use Rattle.base64url.proofs.decode_at.Reads as decode-at-reads
 
--- src/lib.rt:289:26
 check-requires : tie.Need-check-requires
 check-requires c κs = search needs
 
 enum-told : tie.Need-enum-told
 enum-told c = search needs
 
--- src/lib.rt:290:9
 enum-told-2 : tie.Need-enum-told-2
 enum-told-2 c = search needs
 
--- src/lib.rt:290:9
 returns : tie.Need-returns
 returns c =
     let start = c .before .before .before .before .before in
@@ -32,19 +26,15 @@ returns c =
     let faulty = sym (c .enum-told2 .given .1) ∙ c .before .before .check .ensures in
     (decode-misspelled text size faulty, refl)
 
--- src/lib.rt:293:20
 mul-if1 : tie.Need-mul-if1
 mul-if1 c = search needs
 
--- src/lib.rt:293:32
 mul-if1-2 : tie.Need-mul-if1-2
 mul-if1-2 c = search needs
 
--- src/lib.rt:293:20
 add-if1 : tie.Need-add-if1
 add-if1 c = search needs
 
--- src/lib.rt:294:9
 returns-2 : tie.Need-returns-2
 returns-2 c =
     let start = c .before .before .before .before .before .before in
@@ -53,7 +43,6 @@ returns-2 c =
     let sound = sym (c .before .enum-told .given .1) ∙ c .before .before .before .check .ensures in
     (decode-short text size sound (omega (arith, decoded-length text)), refl)
 
--- src/lib.rt:296:21
 decode-at-requires : tie.Need-decode-at-requires
 decode-at-requires c κs =
     let start = c .before .before .before .before .before .before .before in
@@ -62,11 +51,9 @@ decode-at-requires c κs =
     let sound = sym (c .before .before .enum-told .given .1) ∙ c .before .before .before .before .check .ensures in
     (accepted-values text (faultless text size sound) .0, omega (arith, decoded-length text))
 
--- src/lib.rt:285:1
 same-length : tie.Need-same-length
 same-length c = search needs
 
--- src/lib.rt:285:1
 returns-3 : tie.Need-returns-3
 returns-3 c =
     let start = c .before .before .before .before .before .before .before .before .before .before in

@@ -1,3 +1,4 @@
+-- `decode_at` writes a text's octets: block by block, each of whole groups but the last.
 use Prim.Native.Nat.{ℕ, _-_, _≤_}
 use mathlib.Core.Path.{_≡_, subst}
 use mathlib.Core.List.{List, [], map}
@@ -11,10 +12,6 @@ use Rattle.base64url.proofs.Groups.{decoded-block}
 use borrow.Author.Needs.{needs}
 use Rattle.base64url.proofs.decode_at.Statement.{statement}
 use Rattle.base64url.proofs.decode_at.Tie as tie
-use Rattle.base64url.proofs.decode_at.Reads as reads
-use Rattle.base64url.proofs.decode_at.Lts as lts
-use Rattle.base64url.proofs.block_end.Reads as block-end-reads
-use Rattle.base64url.proofs.decode_block.Reads as decode-block-reads
 
 abbrev Inv-loop : tie.InvT-loop
 Inv-loop text out₀ at n i₀ j₀ out i j = (i ≤ length text) × Writing at (decoded text) out₀ (decoded (drop i text)) j out
@@ -22,29 +19,23 @@ Inv-loop text out₀ at n i₀ j₀ out i j = (i ≤ length text) × Writing at 
 abbrev μ-loop : tie.MeasureT-loop
 μ-loop text out₀ at n i₀ j₀ out i j = length text - i
 
--- src/lib.rt:276:5
 loop-holds : tie.Need-loop-holds Inv-loop μ-loop
 loop-holds c =
     let start = c .before .before in
     (search needs, begin (start .args .at) (decoded (start .args .text .now)) (start .args .out .now) (start .pre .1))
 
--- src/lib.rt:277:13
 block-end-requires : tie.Need-block-end-requires Inv-loop μ-loop
 block-end-requires c κs = search needs
 
--- src/lib.rt:278:26
 sub-decode-block : tie.Need-sub-decode-block Inv-loop μ-loop
 sub-decode-block c = search needs
 
--- src/lib.rt:278:26
 part-decode-block-start : tie.Need-part-decode-block-start Inv-loop μ-loop
 part-decode-block-start c = search needs
 
--- src/lib.rt:278:26
 part-decode-block-end : tie.Need-part-decode-block-end Inv-loop μ-loop
 part-decode-block-end c = search needs
 
--- src/lib.rt:278:9
 decode-block-requires : tie.Need-decode-block-requires Inv-loop μ-loop
 decode-block-requires c κs =
     let start = c .before .before .before .before .before .before .before in
@@ -58,11 +49,9 @@ decode-block-requires c κs =
     let below = subst (AllBelow 64) (map-part sixBits text i (e - i)) (below-take 64 (e - i) (drop i (map sixBits text)) (below-drop 64 i (map sixBits text) (start .pre .0))) in
     (size, (below, room-part (decoded (take (e - i) (drop i text))) (decoded (drop e text)) parts (loop .inv .1)))
 
--- src/lib.rt:276:5
 loop-less : tie.Need-loop-less Inv-loop μ-loop
 loop-less c = search needs
 
--- src/lib.rt:276:5
 loop-again : tie.Need-loop-again Inv-loop μ-loop
 loop-again c =
     let start = c .before .before .before .before .before .before .before .before .before .before in
@@ -72,15 +61,14 @@ loop-again c =
     let end = c .before .before .before .before .before .block-end in
     let e = end .result in
     let parts = decoded-block text i e (loop .inv .0) (end .ensures) in
-    let call = c .before .before .decode-block in
-    ( omega (arith, end .ensures)
-    , put-part (decoded (take (e - i) (drop i text))) (decoded (drop e text)) parts (loop .inv .1) (call .ensures .0) (call .ensures .1) )
+    let call = c .before .before .decode-block in (
+      omega (arith, end .ensures),
+      put-part (decoded (take (e - i) (drop i text))) (decoded (drop e text)) parts (loop .inv .1) (call .ensures .0) (call .ensures .1),
+    )
 
--- src/lib.rt:267:1
 same-length : tie.Need-same-length Inv-loop μ-loop
 same-length c = c .before .loop .inv .1 .same
 
--- src/lib.rt:267:1
 returns : tie.Need-returns Inv-loop μ-loop
 unfolding decoded octets
 returns c =

@@ -1,3 +1,4 @@
+-- `decode_block` writes a block's octets: the local array's front holds the values, of which `pack` makes them.
 use Prim.Native.Nat.{ℕ, _≤_}
 use mathlib.Core.Path.{_≡_, ap, sym, _∙_}
 use mathlib.Core.List.{List, _++_, map}
@@ -10,10 +11,6 @@ use Rattle.base64url.specs.Base64url.{sixBits, decoded}
 use borrow.Author.Needs.{needs}
 use Rattle.base64url.proofs.decode_block.Statement.{statement}
 use Rattle.base64url.proofs.decode_block.Tie as tie
-use Rattle.base64url.proofs.decode_block.Reads as reads
-use Rattle.base64url.proofs.decode_block.Lts as lts
-use Rattle.base64url.proofs.pack.Reads as pack-reads
-use Rattle.base64url.proofs.values.Reads as values-reads
 
 abbrev zeros : List ℕ
 zeros = replicate 256 0
@@ -23,24 +20,20 @@ values-stand : (text last : List ℕ) → length text ≤ 256 → last ≡ writt
     → take (length text) (last ++ drop (length text) zeros) ≡ map sixBits text
 values-stand text last h e = filled (length text) (map sixBits text) last zeros (length-map text sixBits) h e
 
--- src/lib.rt:262:18
 array-borrow-prefix-six : tie.Need-array-borrow-prefix-six
 array-borrow-prefix-six c = search needs
 
--- src/lib.rt:262:18
 slice-aggregate-values : tie.Need-slice-aggregate-values
 slice-aggregate-values c =
     let start = c .before .before .before in
     sym (length-take-le (length (start .args .text .now)) zeros (start .pre .0))
 
--- src/lib.rt:262:5
 values-requires : tie.Need-values-requires
 values-requires c κs =
     let start = c .before .before .before in
     let text = start .args .text .now in
     omega (arith, length-map text sixBits, length-take-le (length text) zeros (start .pre .0))
 
--- src/lib.rt:263:10
 array-share-prefix-six : tie.Need-array-share-prefix-six
 array-share-prefix-six c =
     let start = c .before .before .before .before .before in
@@ -50,7 +43,6 @@ array-share-prefix-six c =
     let kept = c .before .values .kept .1 .0 in
     omega (arith, length-append last (drop n zeros), length-take-le n zeros (start .pre .0))
 
--- src/lib.rt:263:10
 slice-aggregate-pack : tie.Need-slice-aggregate-pack
 slice-aggregate-pack c =
     let start = c .before .before .before .before .before .before in
@@ -59,7 +51,6 @@ slice-aggregate-pack c =
     let last = c .before .before .values .last .1 .0 in
     sym (ap length (values-stand text last (start .pre .0) (c .before .before .values .ensures)) ∙ length-map text sixBits)
 
--- src/lib.rt:263:5
 pack-requires : tie.Need-pack-requires
 unfolding decoded
 pack-requires c κs =
@@ -70,11 +61,9 @@ pack-requires c κs =
     let stand = values-stand text last (start .pre .0) (c .before .before .before .values .ensures) in
     rw stand (start .pre .1)
 
--- src/lib.rt:253:1
 same-length : tie.Need-same-length
 same-length c = search needs
 
--- src/lib.rt:253:1
 returns : tie.Need-returns
 unfolding decoded
 returns c =

@@ -1,3 +1,4 @@
+-- `encode` answers by the definition: the room, then the text.
 use mathlib.Core.Path.{refl}
 use native.Mathlib.Omega.{arith}
 use lib.ListN.{length}
@@ -6,12 +7,7 @@ use Rattle.base64url.proofs.Laws.{encoded-length}
 use borrow.Author.Needs.{needs}
 use Rattle.base64url.proofs.encode.Statement.{statement}
 use Rattle.base64url.proofs.encode.Tie as tie
-use Rattle.base64url.proofs.encode.Reads as reads
-use Rattle.base64url.proofs.encode.Lts as lts
-use Rattle.base64url.proofs.encode_at.Reads as encode-at-reads
-use Rattle.base64url.proofs.encoded_length.Reads as encoded-length-reads
 
--- src/lib.rt:417:9
 returns : tie.Need-returns
 returns c =
     let start = c .before .before .before in
@@ -20,15 +16,12 @@ returns c =
     let size = length (start .args .out .now) in
     (encode-full octets at size (omega arith), refl)
 
--- src/lib.rt:419:8
 sub-if2 : tie.Need-sub-if2
 sub-if2 c = search needs
 
--- src/lib.rt:419:25
 encoded-length-requires : tie.Need-encoded-length-requires
 encoded-length-requires c κs = search needs
 
--- src/lib.rt:420:9
 returns-2 : tie.Need-returns-2
 returns-2 c =
     let start = c .before .before .before .before .before in
@@ -37,7 +30,6 @@ returns-2 c =
     let size = length (start .args .out .now) in
     (encode-full octets at size (omega (arith, encoded-length octets, c .before .encoded-length .ensures)), refl)
 
--- src/lib.rt:422:18
 encode-at-requires : tie.Need-encode-at-requires
 encode-at-requires c κs =
     let start = c .before .before .before .before .before .before in
@@ -46,20 +38,19 @@ encode-at-requires c κs =
     let size = length (start .args .out .now) in
     omega (arith, encoded-length octets, c .before .before .encoded-length .ensures)
 
--- src/lib.rt:412:1
 same-length : tie.Need-same-length
 same-length c = search needs
 
--- src/lib.rt:412:1
 returns-3 : tie.Need-returns-3
 returns-3 c =
     let start = c .before .before .before .before .before .before .before .before .before in
     let octets = start .args .octets .now in
     let at = start .args .at in
     let size = length (start .args .out .now) in
-    let call = c .before .before .encode-at in
-    ( encode-end octets at size (call .result) (call .ensures .0) (omega (arith, encoded-length octets, c .before .before .before .before .before .encoded-length .ensures))
-    , call .ensures .1 )
+    let call = c .before .before .encode-at in (
+      encode-end octets at size (call .result) (call .ensures .0) (omega (arith, encoded-length octets, c .before .before .before .before .before .encoded-length .ensures)),
+      call .ensures .1,
+    )
 
 pub encode-spec : {M : Type 1} → statement M
 encode-spec =

@@ -1,3 +1,4 @@
+-- `encode_at` writes octets' text: block by block, each of whole groups but the last.
 use Prim.Native.Nat.{ℕ, _-_, _≤_}
 use mathlib.Core.Path.{_≡_, subst}
 use mathlib.Core.List.{List, []}
@@ -9,10 +10,6 @@ use Rattle.base64url.proofs.Groups.{encoded-block}
 use borrow.Author.Needs.{needs}
 use Rattle.base64url.proofs.encode_at.Statement.{statement}
 use Rattle.base64url.proofs.encode_at.Tie as tie
-use Rattle.base64url.proofs.encode_at.Reads as reads
-use Rattle.base64url.proofs.encode_at.Lts as lts
-use Rattle.base64url.proofs.block_end.Reads as block-end-reads
-use Rattle.base64url.proofs.encode_block.Reads as encode-block-reads
 
 abbrev Inv-loop : tie.InvT-loop
 Inv-loop octets out₀ at n i₀ j₀ out i j = (i ≤ length octets) × Writing at (encoded octets) out₀ (encoded (drop i octets)) j out
@@ -20,29 +17,23 @@ Inv-loop octets out₀ at n i₀ j₀ out i j = (i ≤ length octets) × Writing
 abbrev μ-loop : tie.MeasureT-loop
 μ-loop octets out₀ at n i₀ j₀ out i j = length octets - i
 
--- src/lib.rt:403:5
 loop-holds : tie.Need-loop-holds Inv-loop μ-loop
 loop-holds c =
     let start = c .before .before in
     (search needs, begin (start .args .at) (encoded (start .args .octets .now)) (start .args .out .now) (start .pre))
 
--- src/lib.rt:404:13
 block-end-requires : tie.Need-block-end-requires Inv-loop μ-loop
 block-end-requires c κs = search needs
 
--- src/lib.rt:405:26
 sub-encode-block : tie.Need-sub-encode-block Inv-loop μ-loop
 sub-encode-block c = search needs
 
--- src/lib.rt:405:26
 part-encode-block-start : tie.Need-part-encode-block-start Inv-loop μ-loop
 part-encode-block-start c = search needs
 
--- src/lib.rt:405:26
 part-encode-block-end : tie.Need-part-encode-block-end Inv-loop μ-loop
 part-encode-block-end c = search needs
 
--- src/lib.rt:405:9
 encode-block-requires : tie.Need-encode-block-requires Inv-loop μ-loop
 encode-block-requires c κs =
     let start = c .before .before .before .before .before .before .before in
@@ -55,11 +46,9 @@ encode-block-requires c κs =
     let size : length (take (e - i) (drop i octets)) ≤ 192 = omega (arith, length-take (e - i) (drop i octets), length-drop i octets, end .ensures) in
     (size, room-part (encoded (take (e - i) (drop i octets))) (encoded (drop e octets)) parts (loop .inv .1))
 
--- src/lib.rt:403:5
 loop-less : tie.Need-loop-less Inv-loop μ-loop
 loop-less c = search needs
 
--- src/lib.rt:403:5
 loop-again : tie.Need-loop-again Inv-loop μ-loop
 loop-again c =
     let start = c .before .before .before .before .before .before .before .before .before .before in
@@ -69,15 +58,14 @@ loop-again c =
     let end = c .before .before .before .before .before .block-end in
     let e = end .result in
     let parts = encoded-block octets i e (loop .inv .0) (end .ensures) in
-    let call = c .before .before .encode-block in
-    ( omega (arith, end .ensures)
-    , put-part (encoded (take (e - i) (drop i octets))) (encoded (drop e octets)) parts (loop .inv .1) (call .ensures .0) (call .ensures .1) )
+    let call = c .before .before .encode-block in (
+      omega (arith, end .ensures),
+      put-part (encoded (take (e - i) (drop i octets))) (encoded (drop e octets)) parts (loop .inv .1) (call .ensures .0) (call .ensures .1),
+    )
 
--- src/lib.rt:395:1
 same-length : tie.Need-same-length Inv-loop μ-loop
 same-length c = c .before .loop .inv .1 .same
 
--- src/lib.rt:395:1
 returns : tie.Need-returns Inv-loop μ-loop
 unfolding encoded sextets
 returns c =

@@ -1,3 +1,4 @@
+-- `encode_block` writes a block's text: the local array's front holds the values, of which `characters` makes it.
 use Prim.Native.Nat.{ℕ}
 use mathlib.Core.Path.{_≡_, ap}
 use mathlib.Core.List.{List}
@@ -10,26 +11,19 @@ use Rattle.base64url.proofs.Groups.{sextets-length, sextets-below}
 use borrow.Author.Needs.{needs}
 use Rattle.base64url.proofs.encode_block.Statement.{statement}
 use Rattle.base64url.proofs.encode_block.Tie as tie
-use Rattle.base64url.proofs.encode_block.Reads as reads
-use Rattle.base64url.proofs.encode_block.Lts as lts
-use Rattle.base64url.proofs.characters.Reads as characters-reads
-use Rattle.base64url.proofs.split.Reads as split-reads
 
 abbrev zeros : List ℕ
 zeros = replicate 256 0
 
--- src/lib.rt:390:27
 slice-aggregate-split : tie.Need-slice-aggregate-split
 slice-aggregate-split c = search needs
 
--- src/lib.rt:390:9
 split-requires : tie.Need-split-requires
 split-requires c κs =
     let start = c .before .before .before in
     let octets = start .args .octets .now in
     omega (arith, start .pre .0, sextets-length octets)
 
--- src/lib.rt:391:16
 array-share-prefix-six : tie.Need-array-share-prefix-six
 array-share-prefix-six c =
     let start = c .before .before .before .before .before in
@@ -39,7 +33,6 @@ array-share-prefix-six c =
     let last = call .last .1 .0 in
     omega (arith, start .pre .0, sextets-length octets, call .ensures .0, call .kept .1 .0)
 
--- src/lib.rt:391:16
 slice-aggregate-characters : tie.Need-slice-aggregate-characters
 slice-aggregate-characters c =
     let start = c .before .before .before .before .before .before in
@@ -50,7 +43,6 @@ slice-aggregate-characters c =
     let stand : take n last ≡ sextets octets = begins n (sextets octets) last zeros (omega (arith, call .ensures .0)) (call .ensures .1) in
     omega (arith, ap length stand, call .ensures .0)
 
--- src/lib.rt:391:5
 characters-requires : tie.Need-characters-requires
 unfolding encoded
 characters-requires c κs =
@@ -63,11 +55,9 @@ characters-requires c κs =
     let below = sextets-below octets (all-below 256 octets (λ k l. omega (arith, c .before .before .before .before .before .before .shared-slice-known .given k))) in
     rw stand (below, start .pre .1)
 
--- src/lib.rt:383:1
 same-length : tie.Need-same-length
 same-length c = search needs
 
--- src/lib.rt:383:1
 returns : tie.Need-returns
 unfolding encoded
 returns c =

@@ -1,3 +1,4 @@
+-- `in_alphabet` finds whether any character is outside the alphabet: as many are as there are from the next block on.
 use Prim.Native.Nat.{ℕ, _+_, _-_, _≤_}
 use mathlib.Core.Path.{_≡_, refl, ap, sym, _∙_}
 use native.Mathlib.Omega.{arith}
@@ -10,9 +11,6 @@ use Rattle.base64url.proofs.Counting.{some-found, none-found}
 use borrow.Author.Needs.{needs}
 use Rattle.base64url.proofs.in_alphabet.Statement.{statement}
 use Rattle.base64url.proofs.in_alphabet.Tie as tie
-use Rattle.base64url.proofs.in_alphabet.Reads as reads
-use Rattle.base64url.proofs.in_alphabet.Lts as lts
-use Rattle.base64url.proofs.count_outside.Reads as count-outside-reads
 
 abbrev Inv-loop : tie.InvT-loop
 Inv-loop text n i₀ i = (i ≤ length text) × (countOutside text ≡ countOutside (drop i text))
@@ -20,35 +18,27 @@ Inv-loop text n i₀ i = (i ≤ length text) × (countOutside text ≡ countOuts
 abbrev μ-loop : tie.MeasureT-loop
 μ-loop text n i₀ i = length text - i
 
--- src/lib.rt:101:5
 loop-holds : tie.Need-loop-holds Inv-loop μ-loop
 loop-holds c = search needs
 
--- src/lib.rt:101:17
 sub-loop : tie.Need-sub-loop Inv-loop μ-loop
 sub-loop c = search needs
 
--- src/lib.rt:102:17
 add-e : tie.Need-add-e Inv-loop μ-loop
 add-e c = search needs
 
--- src/lib.rt:103:26
 sub-count-outside : tie.Need-sub-count-outside Inv-loop μ-loop
 sub-count-outside c = search needs
 
--- src/lib.rt:103:26
 part-count-outside-start : tie.Need-part-count-outside-start Inv-loop μ-loop
 part-count-outside-start c = search needs
 
--- src/lib.rt:103:26
 part-count-outside-end : tie.Need-part-count-outside-end Inv-loop μ-loop
 part-count-outside-end c = search needs
 
--- src/lib.rt:103:12
 count-outside-requires : tie.Need-count-outside-requires Inv-loop μ-loop
 count-outside-requires c κs = search needs
 
--- src/lib.rt:104:13
 returns : tie.Need-returns Inv-loop μ-loop
 returns c =
     let at = c .before .before .before .before .loop in
@@ -56,11 +46,9 @@ returns c =
     let found = c .before .count-outside in
     sym (ne-eqb (countOutside text) 0 (some-found text (at .i) (at .i + 64) (omega arith) (at .inv .1) (found .result) (found .ensures) (c .if1 .taken)))
 
--- src/lib.rt:101:5
 loop-less : tie.Need-loop-less Inv-loop μ-loop
 loop-less c = search needs
 
--- src/lib.rt:101:5
 loop-again : tie.Need-loop-again Inv-loop μ-loop
 loop-again c =
     let at = c .before .before .before .before .loop in
@@ -68,23 +56,18 @@ loop-again c =
     let found = c .before .count-outside in
     (omega arith, none-found text (at .i) (at .i + 64) (omega arith) (at .inv .1) (found .result) (found .ensures) (c .if1 .left))
 
--- src/lib.rt:108:19
 sub-count-outside-2 : tie.Need-sub-count-outside-2 Inv-loop μ-loop
 sub-count-outside-2 c = search needs
 
--- src/lib.rt:108:19
 part-count-outside-start-2 : tie.Need-part-count-outside-start-2 Inv-loop μ-loop
 part-count-outside-start-2 c = search needs
 
--- src/lib.rt:108:19
 part-count-outside-end-2 : tie.Need-part-count-outside-end-2 Inv-loop μ-loop
 part-count-outside-end-2 c = search needs
 
--- src/lib.rt:108:5
 count-outside-requires-2 : tie.Need-count-outside-requires-2 Inv-loop μ-loop
 count-outside-requires-2 c κs = search needs
 
--- src/lib.rt:96:1
 returns-2 : tie.Need-returns-2 Inv-loop μ-loop
 returns-2 c =
     let at = c .before .before .before .loop in

@@ -1,3 +1,4 @@
+-- `pack` writes the octets of values: group by group, and then what is left.
 use Prim.Native.Nat.{_+_, _-_, _≤_, _<_}
 use mathlib.Core.Path.{_≡_, ap, sym, _∙_}
 use mathlib.Core.List.{[], _++_, append-nil}
@@ -11,10 +12,6 @@ use Rattle.base64url.proofs.Groups.{octets-group}
 use borrow.Author.Needs.{needs}
 use Rattle.base64url.proofs.pack.Statement.{statement}
 use Rattle.base64url.proofs.pack.Tie as tie
-use Rattle.base64url.proofs.pack.Reads as reads
-use Rattle.base64url.proofs.pack.Lts as lts
-use Rattle.base64url.proofs.pack_few.Reads as pack-few-reads
-use Rattle.base64url.proofs.pack_four.Reads as pack-four-reads
 
 abbrev Inv-loop : tie.InvT-loop
 Inv-loop six out₀ at n k₀ j₀ out k j = (k ≤ length six) × Writing at (octets six) out₀ (octets (drop k six)) j out
@@ -22,33 +19,26 @@ Inv-loop six out₀ at n k₀ j₀ out k j = (k ≤ length six) × Writing at (o
 abbrev μ-loop : tie.MeasureT-loop
 μ-loop six out₀ at n k₀ j₀ out k j = length six - k
 
--- src/lib.rt:244:5
 loop-holds : tie.Need-loop-holds Inv-loop μ-loop
 loop-holds c =
     let start = c .before .before in
     (search needs, begin (start .args .at) (octets (start .args .six .now)) (start .args .out .now) (start .pre .1))
 
--- src/lib.rt:244:16
 sub-loop : tie.Need-sub-loop Inv-loop μ-loop
 sub-loop c = search needs
 
--- src/lib.rt:245:17
 add-e : tie.Need-add-e Inv-loop μ-loop
 add-e c = search needs
 
--- src/lib.rt:246:23
 sub-pack-four : tie.Need-sub-pack-four Inv-loop μ-loop
 sub-pack-four c = search needs
 
--- src/lib.rt:246:23
 part-pack-four-start : tie.Need-part-pack-four-start Inv-loop μ-loop
 part-pack-four-start c = search needs
 
--- src/lib.rt:246:23
 part-pack-four-end : tie.Need-part-pack-four-end Inv-loop μ-loop
 part-pack-four-end c = search needs
 
--- src/lib.rt:246:9
 pack-four-requires : tie.Need-pack-four-requires Inv-loop μ-loop
 pack-four-requires c κs =
     let start = c .before .before .before .before .before .before in
@@ -59,11 +49,9 @@ pack-four-requires c κs =
     let size : length (take (k + 4 - k) (drop k six)) ≡ 4 = length-take (k + 4 - k) (drop k six) ∙ omega (arith, length-drop k six) in
     (size, (below-take 64 (k + 4 - k) (drop k six) (below-drop 64 k six (start .pre .0)), room-part (octets (take (k + 4 - k) (drop k six))) (octets (drop (k + 4) six)) parts (loop .inv .1)))
 
--- src/lib.rt:244:5
 loop-less : tie.Need-loop-less Inv-loop μ-loop
 loop-less c = search needs
 
--- src/lib.rt:244:5
 loop-again : tie.Need-loop-again Inv-loop μ-loop
 loop-again c =
     let start = c .before .before .before .before .before .before .before .before .before in
@@ -74,19 +62,15 @@ loop-again c =
     let call = c .before .before .pack-four in
     (omega arith, put-part (octets (take (k + 4 - k) (drop k six))) (octets (drop (k + 4) six)) parts (loop .inv .1) (call .ensures .0) (call .ensures .1))
 
--- src/lib.rt:249:14
 sub-pack-few : tie.Need-sub-pack-few Inv-loop μ-loop
 sub-pack-few c = search needs
 
--- src/lib.rt:249:14
 part-pack-few-start : tie.Need-part-pack-few-start Inv-loop μ-loop
 part-pack-few-start c = search needs
 
--- src/lib.rt:249:14
 part-pack-few-end : tie.Need-part-pack-few-end Inv-loop μ-loop
 part-pack-few-end c = search needs
 
--- src/lib.rt:249:5
 pack-few-requires : tie.Need-pack-few-requires Inv-loop μ-loop
 pack-few-requires c κs =
     let start = c .before .before .before .before .before .before in
@@ -98,7 +82,6 @@ pack-few-requires c κs =
     let few : length (take (length six - k) (drop k six)) < 4 = omega (arith, length-take (length six - k) (drop k six)) in
     (few, (below-take 64 (length six - k) (drop k six) (below-drop 64 k six (start .pre .0)), room-part (octets (take (length six - k) (drop k six))) [] parts (loop .inv .1)))
 
--- src/lib.rt:235:1
 same-length : tie.Need-same-length Inv-loop μ-loop
 same-length c =
     let start = c .before .before .before .before .before .before .before .before .before in
@@ -110,7 +93,6 @@ same-length c =
     let call = c .before .before .pack-few in
     (put-part (octets (take (length six - k) (drop k six))) [] parts (loop .inv .1) (call .ensures .0) (call .ensures .1)) .same
 
--- src/lib.rt:235:1
 returns : tie.Need-returns Inv-loop μ-loop
 returns c =
     let start = c .before .before .before .before .before .before .before .before .before in

@@ -1,3 +1,4 @@
+-- `pack_few` writes the octets of less than a group: none, one or two stores, by the length.
 use Prim.Native.Nat.{ℕ, _+_, _<_}
 use mathlib.Core.Path.{_≡_, refl}
 use mathlib.Core.List.{List, [], _∷_}
@@ -10,12 +11,7 @@ use Rattle.base64url.proofs.Groups.{octets-length, octets-of-few, octet
 use borrow.Author.Needs.{needs}
 use Rattle.base64url.proofs.pack_few.Statement.{statement}
 use Rattle.base64url.proofs.pack_few.Tie as tie
-use Rattle.base64url.proofs.pack_few.Reads as reads
-use Rattle.base64url.proofs.pack_few.Lts as lts
-use Rattle.base64url.proofs.first_octet.Reads as first-octet-reads
-use Rattle.base64url.proofs.second_octet.Reads as second-octet-reads
 
--- src/lib.rt:224:9
 returns : tie.Need-returns
 returns c =
     let start = c .before .before .before in
@@ -26,36 +22,29 @@ returns c =
     let opened = begin-as at (octets six) ([]) (start .args .out .now) group (start .pre .1 .1) in
     ended (opened)
 
--- src/lib.rt:226:27
 shared-slice-read-first-octet : tie.Need-shared-slice-read-first-octet
 shared-slice-read-first-octet c = search needs
 
--- src/lib.rt:226:35
 shared-slice-read-first-octet-2 : tie.Need-shared-slice-read-first-octet-2
 shared-slice-read-first-octet-2 c = search needs
 
--- src/lib.rt:226:15
 first-octet-requires : tie.Need-first-octet-requires
 first-octet-requires c κs =
     let start = c .before .before .before .before .before in
     let six = start .args .six .now in
     (below-at 64 six (start .pre .1 .0) 0 (omega arith), below-at 64 six (start .pre .1 .0) 1 (omega arith))
 
--- src/lib.rt:226:5
 slice-write-out : tie.Need-slice-write-out
 slice-write-out c =
     let start = c .before .before .before .before .before .before in
     omega (arith, start .pre .0, start .pre .1 .1, octets-length (start .args .six .now))
 
--- src/lib.rt:228:16
 add-result : tie.Need-add-result
 add-result c = search needs
 
--- src/lib.rt:228:9
 same-length : tie.Need-same-length
 same-length c = simp length-set
 
--- src/lib.rt:228:9
 returns-2 : tie.Need-returns-2
 returns-2 c =
     let start = c .before .before .before .before .before .before .before in
@@ -66,40 +55,32 @@ returns-2 c =
     let opened = begin-as at (octets six) (c .before .first-octet .result ∷ []) (start .args .out .now) group (start .pre .1 .1) in
     ended (put _ (at + 1) refl opened)
 
--- src/lib.rt:230:32
 shared-slice-read-second-octet : tie.Need-shared-slice-read-second-octet
 shared-slice-read-second-octet c = search needs
 
--- src/lib.rt:230:40
 shared-slice-read-second-octet-2 : tie.Need-shared-slice-read-second-octet-2
 shared-slice-read-second-octet-2 c = search needs
 
--- src/lib.rt:230:19
 second-octet-requires : tie.Need-second-octet-requires
 second-octet-requires c κs =
     let start = c .before .before .before .before .before .before .before .before .before in
     let six = start .args .six .now in
     below-at 64 six (start .pre .1 .0) 2 (omega arith)
 
--- src/lib.rt:230:9
 add-out : tie.Need-add-out
 add-out c = search needs
 
--- src/lib.rt:230:5
 slice-write-out-2 : tie.Need-slice-write-out-2
 slice-write-out-2 c =
     let start = c .before .before .before .before .before .before .before .before .before .before in
     simp length-set (omega (arith, start .pre .0, start .pre .1 .1, octets-length (start .args .six .now)))
 
--- src/lib.rt:231:5
 add-result-2 : tie.Need-add-result-2
 add-result-2 c = search needs
 
--- src/lib.rt:215:1
 same-length-2 : tie.Need-same-length-2
 same-length-2 c = simp length-set
 
--- src/lib.rt:215:1
 returns-3 : tie.Need-returns-3
 returns-3 c =
     let start = c .before .before .before .before .before .before .before .before .before .before in

@@ -1,3 +1,4 @@
+-- `pack_four` writes the octets of a whole group: three stores.
 use Prim.Native.Nat.{ℕ, _+_, _<_}
 use mathlib.Core.Path.{_≡_, refl}
 use mathlib.Core.List.{List, [], _∷_}
@@ -10,92 +11,70 @@ use Rattle.base64url.proofs.Groups.{octets-length, octets-of-four}
 use borrow.Author.Needs.{needs}
 use Rattle.base64url.proofs.pack_four.Statement.{statement}
 use Rattle.base64url.proofs.pack_four.Tie as tie
-use Rattle.base64url.proofs.pack_four.Reads as reads
-use Rattle.base64url.proofs.pack_four.Lts as lts
-use Rattle.base64url.proofs.first_octet.Reads as first-octet-reads
-use Rattle.base64url.proofs.second_octet.Reads as second-octet-reads
-use Rattle.base64url.proofs.third_octet.Reads as third-octet-reads
 
--- src/lib.rt:208:27
 shared-slice-read-first-octet : tie.Need-shared-slice-read-first-octet
 shared-slice-read-first-octet c = search needs
 
--- src/lib.rt:208:35
 shared-slice-read-first-octet-2 : tie.Need-shared-slice-read-first-octet-2
 shared-slice-read-first-octet-2 c = search needs
 
--- src/lib.rt:208:15
 first-octet-requires : tie.Need-first-octet-requires
 first-octet-requires c κs =
     let start = c .before .before .before .before in
     let six = start .args .six .now in
     (below-at 64 six (start .pre .1 .0) 0 (omega (arith, start .pre .0)), below-at 64 six (start .pre .1 .0) 1 (omega (arith, start .pre .0)))
 
--- src/lib.rt:208:5
 slice-write-out : tie.Need-slice-write-out
 slice-write-out c =
     let start = c .before .before .before .before .before in
     omega (arith, start .pre .0, start .pre .1 .1, octets-length (start .args .six .now))
 
--- src/lib.rt:209:32
 shared-slice-read-second-octet : tie.Need-shared-slice-read-second-octet
 shared-slice-read-second-octet c = search needs
 
--- src/lib.rt:209:40
 shared-slice-read-second-octet-2 : tie.Need-shared-slice-read-second-octet-2
 shared-slice-read-second-octet-2 c = search needs
 
--- src/lib.rt:209:19
 second-octet-requires : tie.Need-second-octet-requires
 second-octet-requires c κs =
     let start = c .before .before .before .before .before .before .before in
     let six = start .args .six .now in
     below-at 64 six (start .pre .1 .0) 2 (omega (arith, start .pre .0))
 
--- src/lib.rt:209:9
 add-out : tie.Need-add-out
 add-out c = search needs
 
--- src/lib.rt:209:5
 slice-write-out-2 : tie.Need-slice-write-out-2
 slice-write-out-2 c =
     let start = c .before .before .before .before .before .before .before .before in
     simp length-set (omega (arith, start .pre .0, start .pre .1 .1, octets-length (start .args .six .now)))
 
--- src/lib.rt:210:31
 shared-slice-read-third-octet : tie.Need-shared-slice-read-third-octet
 shared-slice-read-third-octet c = search needs
 
--- src/lib.rt:210:39
 shared-slice-read-third-octet-2 : tie.Need-shared-slice-read-third-octet-2
 shared-slice-read-third-octet-2 c = search needs
 
--- src/lib.rt:210:19
 third-octet-requires : tie.Need-third-octet-requires
 third-octet-requires c κs =
     let start = c .before .before .before .before .before .before .before .before .before .before in
     let six = start .args .six .now in
     below-at 64 six (start .pre .1 .0) 3 (omega (arith, start .pre .0))
 
--- src/lib.rt:210:9
 add-out-2 : tie.Need-add-out-2
 add-out-2 c = search needs
 
--- src/lib.rt:210:5
 slice-write-out-3 : tie.Need-slice-write-out-3
 slice-write-out-3 c =
     let start = c .before .before .before .before .before .before .before .before .before .before .before in
     simp length-set (omega (arith, start .pre .0, start .pre .1 .1, octets-length (start .args .six .now)))
 
--- src/lib.rt:211:5
 add-result : tie.Need-add-result
 add-result c = search needs
 
--- src/lib.rt:201:1
 same-length : tie.Need-same-length
 same-length c = simp length-set
 
--- src/lib.rt:201:1
 returns : tie.Need-returns
 returns c =
     let start = c .before .before .before .before .before .before .before .before .before .before .before in

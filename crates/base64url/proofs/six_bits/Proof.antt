@@ -1,44 +1,36 @@
+-- `six_bits` finds the alphabet's value: its choices by range are one test, computed over all octets.
 use Rattle.base64url.proofs.Alphabet.{value-by-range}
 use borrow.Author.Needs.{needs}
 use Rattle.base64url.proofs.six_bits.Statement.{statement}
 use Rattle.base64url.proofs.six_bits.Tie as tie
-use Rattle.base64url.proofs.six_bits.Reads as reads
-use Rattle.base64url.proofs.six_bits.Lts as lts
-use Rattle.base64url.proofs.choose.Reads as choose-reads
 
--- src/lib.rt:56:68
 choose-requires : tie.Need-choose-requires
 choose-requires c κs = search needs
 
--- src/lib.rt:56:51
 choose-requires-2 : tie.Need-choose-requires-2
 choose-requires-2 c κs = search needs
 
--- src/lib.rt:56:33
 choose-requires-3 : tie.Need-choose-requires-3
 choose-requires-3 c κs = search needs
 
--- src/lib.rt:56:9
 choose-requires-4 : tie.Need-choose-requires-4
 choose-requires-4 c κs = search needs
 
--- src/lib.rt:57:56
 add-choose : tie.Need-add-choose
 add-choose c = search needs
 
--- src/lib.rt:57:5
 choose-requires-5 : tie.Need-choose-requires-5
 choose-requires-5 c κs = search needs
 
--- src/lib.rt:49:1
 returns : tie.Need-returns
 returns c =
-    rw
-    ( c .choose5 .ensures
-    , c .before .choose4 .ensures
-    , c .before .before .choose3 .ensures
-    , c .before .before .before .choose2 .ensures
-    , c .before .before .before .before .choose .ensures )
+    rw (
+      c .choose5 .ensures,
+      c .before .choose4 .ensures,
+      c .before .before .choose3 .ensures,
+      c .before .before .before .choose2 .ensures,
+      c .before .before .before .before .choose .ensures,
+    )
     (value-by-range (c .before .before .before .before .before .args .c) (search needs))
 
 pub six-bits-spec : {M : Type 1} → statement M

@@ -1,3 +1,4 @@
+-- `split` writes the values of octets: group by group, and then what is left.
 use Prim.Native.Nat.{_+_, _-_, _≤_, _<_}
 use mathlib.Core.Path.{_≡_, ap, sym, _∙_}
 use mathlib.Core.List.{[], _++_, append-nil}
@@ -10,10 +11,6 @@ use Rattle.base64url.proofs.Groups.{sextets-group}
 use borrow.Author.Needs.{needs}
 use Rattle.base64url.proofs.split.Statement.{statement}
 use Rattle.base64url.proofs.split.Tie as tie
-use Rattle.base64url.proofs.split.Reads as reads
-use Rattle.base64url.proofs.split.Lts as lts
-use Rattle.base64url.proofs.split_few.Reads as split-few-reads
-use Rattle.base64url.proofs.split_three.Reads as split-three-reads
 
 abbrev Inv-loop : tie.InvT-loop
 Inv-loop octets into₀ at n k₀ j₀ into k j = (k ≤ length octets) × Writing at (sextets octets) into₀ (sextets (drop k octets)) j into
@@ -21,33 +18,26 @@ Inv-loop octets into₀ at n k₀ j₀ into k j = (k ≤ length octets) × Writi
 abbrev μ-loop : tie.MeasureT-loop
 μ-loop octets into₀ at n k₀ j₀ into k j = length octets - k
 
--- src/lib.rt:346:5
 loop-holds : tie.Need-loop-holds Inv-loop μ-loop
 loop-holds c =
     let start = c .before .before in
     (search needs, begin (start .args .at) (sextets (start .args .octets .now)) (start .args .into .now) (start .pre))
 
--- src/lib.rt:346:16
 sub-loop : tie.Need-sub-loop Inv-loop μ-loop
 sub-loop c = search needs
 
--- src/lib.rt:347:17
 add-e : tie.Need-add-e Inv-loop μ-loop
 add-e c = search needs
 
--- src/lib.rt:348:25
 sub-split-three : tie.Need-sub-split-three Inv-loop μ-loop
 sub-split-three c = search needs
 
--- src/lib.rt:348:25
 part-split-three-start : tie.Need-part-split-three-start Inv-loop μ-loop
 part-split-three-start c = search needs
 
--- src/lib.rt:348:25
 part-split-three-end : tie.Need-part-split-three-end Inv-loop μ-loop
 part-split-three-end c = search needs
 
--- src/lib.rt:348:9
 split-three-requires : tie.Need-split-three-requires Inv-loop μ-loop
 split-three-requires c κs =
     let start = c .before .before .before .before .before .before in
@@ -58,11 +48,9 @@ split-three-requires c κs =
     let size : length (take (k + 3 - k) (drop k octets)) ≡ 3 = length-take (k + 3 - k) (drop k octets) ∙ omega (arith, length-drop k octets) in
     (size, room-part (sextets (take (k + 3 - k) (drop k octets))) (sextets (drop (k + 3) octets)) parts (loop .inv .1))
 
--- src/lib.rt:346:5
 loop-less : tie.Need-loop-less Inv-loop μ-loop
 loop-less c = search needs
 
--- src/lib.rt:346:5
 loop-again : tie.Need-loop-again Inv-loop μ-loop
 loop-again c =
     let start = c .before .before .before .before .before .before .before .before .before in
@@ -73,19 +61,15 @@ loop-again c =
     let call = c .before .before .split-three in
     (omega arith, put-part (sextets (take (k + 3 - k) (drop k octets))) (sextets (drop (k + 3) octets)) parts (loop .inv .1) (call .ensures .0) (call .ensures .1))
 
--- src/lib.rt:351:15
 sub-split-few : tie.Need-sub-split-few Inv-loop μ-loop
 sub-split-few c = search needs
 
--- src/lib.rt:351:15
 part-split-few-start : tie.Need-part-split-few-start Inv-loop μ-loop
 part-split-few-start c = search needs
 
--- src/lib.rt:351:15
 part-split-few-end : tie.Need-part-split-few-end Inv-loop μ-loop
 part-split-few-end c = search needs
 
--- src/lib.rt:351:5
 split-few-requires : tie.Need-split-few-requires Inv-loop μ-loop
 split-few-requires c κs =
     let start = c .before .before .before .before .before .before in
@@ -97,7 +81,6 @@ split-few-requires c κs =
     let few : length (take (length octets - k) (drop k octets)) < 3 = omega (arith, length-take (length octets - k) (drop k octets)) in
     (few, room-part (sextets (take (length octets - k) (drop k octets))) [] parts (loop .inv .1))
 
--- src/lib.rt:338:1
 same-length : tie.Need-same-length Inv-loop μ-loop
 same-length c =
     let start = c .before .before .before .before .before .before .before .before .before in
@@ -109,7 +92,6 @@ same-length c =
     let call = c .before .before .split-few in
     (put-part (sextets (take (length octets - k) (drop k octets))) [] parts (loop .inv .1) (call .ensures .0) (call .ensures .1)) .same
 
--- src/lib.rt:338:1
 returns : tie.Need-returns Inv-loop μ-loop
 returns c =
     let start = c .before .before .before .before .before .before .before .before .before in

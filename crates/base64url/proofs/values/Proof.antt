@@ -1,3 +1,4 @@
+-- `values` writes the value of each character: a loop that writes a function of each element.
 use Prim.Native.Nat.{_+_, _-_, _≤_}
 use mathlib.Core.Path.{refl}
 use mathlib.Core.List.{map}
@@ -8,9 +9,6 @@ use Rattle.base64url.specs.Base64url.{sixBits}
 use borrow.Author.Needs.{needs}
 use Rattle.base64url.proofs.values.Statement.{statement}
 use Rattle.base64url.proofs.values.Tie as tie
-use Rattle.base64url.proofs.values.Reads as reads
-use Rattle.base64url.proofs.values.Lts as lts
-use Rattle.base64url.proofs.six_bits.Reads as six-bits-reads
 
 abbrev Inv-loop : tie.InvT-loop
 Inv-loop text into₀ k₀ into k = (k ≤ length text) × Writing 0 (map sixBits text) into₀ (map sixBits (drop k text)) k into
@@ -18,49 +16,41 @@ Inv-loop text into₀ k₀ into k = (k ≤ length text) × Writing 0 (map sixBit
 abbrev μ-loop : tie.MeasureT-loop
 μ-loop text into₀ k₀ into k = length text - k
 
--- src/lib.rt:173:5
 loop-holds : tie.Need-loop-holds Inv-loop μ-loop
 loop-holds c =
     let args = c .before .before .args in
     (search needs, begin 0 (map sixBits (args .text .now)) (args .into .now) (omega (arith, c .before .before .pre)))
 
--- src/lib.rt:174:28
 shared-slice-read-six-bits : tie.Need-shared-slice-read-six-bits Inv-loop μ-loop
 shared-slice-read-six-bits c = search needs
 
--- src/lib.rt:174:19
 six-bits-requires : tie.Need-six-bits-requires Inv-loop μ-loop
 six-bits-requires c κs = search needs
 
--- src/lib.rt:174:9
 slice-write-into : tie.Need-slice-write-into Inv-loop μ-loop
 slice-write-into c =
     let at = c .before .before .before .loop in
     let text = c .before .before .before .before .before .before .args .text .now in
     omega (arith, at .inv .1 .same, at .inv .1 .room, length-map (drop (at .k) text) sixBits, length-drop (at .k) text)
 
--- src/lib.rt:175:9
 add-k : tie.Need-add-k Inv-loop μ-loop
 add-k c = search needs
 
--- src/lib.rt:173:5
 loop-less : tie.Need-loop-less Inv-loop μ-loop
 loop-less c = search needs
 
--- src/lib.rt:173:5
 loop-again : tie.Need-loop-again Inv-loop μ-loop
 loop-again c =
     let at = c .before .before .before .loop in
-    let text = c .before .before .before .before .before .before .args .text .now in
-    ( omega arith
-    , put-mapped sixBits text (at .k) (c .six-bits .result) (at .k + 1) (c .before .before .loop-test .taken)
-      (c .six-bits .ensures) refl (at .inv .1) )
+    let text = c .before .before .before .before .before .before .args .text .now in (
+      omega arith,
+      put-mapped sixBits text (at .k) (c .six-bits .result) (at .k + 1) (c .before .before .loop-test .taken)
+          (c .six-bits .ensures) refl (at .inv .1),
+    )
 
--- src/lib.rt:168:1
 same-length : tie.Need-same-length Inv-loop μ-loop
 same-length c = c .before .loop .inv .1 .same
 
--- src/lib.rt:168:1
 returns : tie.Need-returns Inv-loop μ-loop
 returns c = done (mapped sixBits (c .before .before .before .before .args .text .now) (c .before .loop .k) (c .loop-test .left) (c .before .loop .inv .1))
 

@@ -1,3 +1,4 @@
+-- `jwe_decode` hands out what `decode` promises, case by case.
 use Prim.Native.Nat.{ℕ}
 use mathlib.Core.Path.{_≡_, ap, sym, _∙_}
 use mathlib.Core.List.{List}
@@ -7,9 +8,6 @@ use Rattle.base64url.specs.declared.Decoded.{Decoded}
 use borrow.Author.Needs.{needs}
 use Rattle.host.proofs.jwe_decode.Statement.{statement}
 use Rattle.host.proofs.jwe_decode.Tie as tie
-use Rattle.host.proofs.jwe_decode.Reads as reads
-use Rattle.host.proofs.jwe_decode.Lts as lts
-use Rattle.base64url.proofs.decode.Reads as decode-reads
 
 -- a case of the answer, by what `decode` promises of it
 handed : (text out last : List ℕ) (answer is : Decoded) → answer ≡ decodeAnswer text (length out) → last ≡ decodeInto answer text out
@@ -21,49 +19,39 @@ handed text out last answer is promised left told =
     let case = sym told ∙ promised in
     (ap decodeRefusal case, (ap decodeCount case, left ∙ ap (λ (a : Decoded). decodeInto a text out) promised))
 
--- src/lib.rt:16:9
 decode-requires : tie.Need-decode-requires
 decode-requires c κs = search needs
 
--- src/lib.rt:18:25
 enum-known-answer : tie.Need-enum-known-answer
 enum-known-answer c = search needs
 
--- src/lib.rt:23:13
 enum-told : tie.Need-enum-told
 enum-told c = search needs
 
--- src/lib.rt:27:13
 enum-told-2 : tie.Need-enum-told-2
 enum-told-2 c = search needs
 
--- src/lib.rt:10:1
 same-length : tie.Need-same-length
 same-length c = search needs
 
--- src/lib.rt:10:1
 returns : tie.Need-returns
 returns c =
     let start = c .before .before .before .before .before .before .before .before .before in
     let call = c .before .before .before .before .before .decode in
     handed (start .args .text .now) (start .args .out .now) (call .last .1 .0) (call .result) _ (call .ensures .0) (call .ensures .1) (c .before .answer .given .1)
 
--- src/lib.rt:10:1
 same-length-2 : tie.Need-same-length-2
 same-length-2 c = search needs
 
--- src/lib.rt:10:1
 returns-2 : tie.Need-returns-2
 returns-2 c =
     let start = c .before .before .before .before .before .before .before .before in
     let call = c .before .before .before .before .decode in
     handed (start .args .text .now) (start .args .out .now) (call .last .1 .0) (call .result) _ (call .ensures .0) (call .ensures .1) (c .enum-told .given .1)
 
--- src/lib.rt:10:1
 same-length-3 : tie.Need-same-length-3
 same-length-3 c = search needs
 
--- src/lib.rt:10:1
 returns-3 : tie.Need-returns-3
 returns-3 c =
     let start = c .before .before .before .before .before .before .before .before in

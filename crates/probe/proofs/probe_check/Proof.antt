@@ -1,29 +1,22 @@
+-- `probe_check` hands out what `check` promises, case by case.
 use mathlib.Core.Path.{ap, sym, _∙_}
 use Rattle.base64url.specs.Answers.{checkRefusal}
 use borrow.Author.Needs.{needs}
 use Rattle.probe.proofs.probe_check.Statement.{statement}
 use Rattle.probe.proofs.probe_check.Tie as tie
-use Rattle.probe.proofs.probe_check.Reads as reads
-use Rattle.probe.proofs.probe_check.Lts as lts
-use Rattle.base64url.proofs.check.Reads as check-reads
 
--- src/lib.rt:16:9
 check-requires : tie.Need-check-requires
 check-requires c κs = search needs
 
--- src/lib.rt:18:27
 enum-told : tie.Need-enum-told
 enum-told c = search needs
 
--- src/lib.rt:19:28
 enum-told-2 : tie.Need-enum-told-2
 enum-told-2 c = search needs
 
--- src/lib.rt:12:1
 returns : tie.Need-returns
 returns c = ap checkRefusal (sym (c .enum-told .given .1) ∙ c .before .before .check .ensures)
 
--- src/lib.rt:12:1
 returns-2 : tie.Need-returns-2
 returns-2 c = ap checkRefusal (sym (c .enum-told2 .given .1) ∙ c .before .before .check .ensures)
 
