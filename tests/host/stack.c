@@ -1,0 +1,146 @@
+/* Measures the stack that jwe_decode, check and encode use: they run on a stack of their own that was painted before, and
+ * the lowest octet that lost its paint shows how deep they went. Fails above 8 KiB.
+ *
+ * Not built with the sanitizers, which use the stack themselves. */
+#define _GNU_SOURCE
+#include "jwe_gateway.h"
+
+#include <stdio.h>
+#include <stdlib.h>
+#include <string.h>
+#include <sys/mman.h>
+#include <ucontext.h>
+
+uint32_t probe_check(const uint8_t *text, size_t text_len);
+uint32_t probe_encode(const uint8_t *octets, size_t octets_len, uint8_t *out, size_t out_len, size_t at, size_t *end);
+
+enum { LIMIT = 8192, STACK = 65536, FENCE = 65536, SHORT = 1000, LONG = 1 << 24 };
+
+typedef uint32_t call(const uint8_t *in, size_t in_len, uint8_t *out, size_t out_len, size_t *n);
+
+/* Uses nothing but its return address: where the others begin. */
+__attribute__((noipa)) static uint32_t idle(const uint8_t *in, size_t in_len, uint8_t *out, size_t out_len, size_t *n)
+{
+    (void)in, (void)in_len, (void)out, (void)out_len, (void)n;
+    return 0;
+}
+
+static uint32_t check(const uint8_t *in, size_t in_len, uint8_t *out, size_t out_len, size_t *n)
+{
+    (void)out, (void)out_len, (void)n;
+    return probe_check(in, in_len);
+}
+
+static uint32_t encode(const uint8_t *in, size_t in_len, uint8_t *out, size_t out_len, size_t *n)
+{
+    return probe_encode(in, in_len, out, out_len, 0, n);
+}
+
+static uint8_t *stack;
+static ucontext_t outside, inside;
+
+/* The call to be measured, and what came of it. */
+static struct {
+    call *function;
+    const uint8_t *in;
+    size_t in_len;
+    uint8_t *out;
+    size_t out_len;
+    uint8_t paint;
+    uint32_t answer;
+    size_t lowest;
+} run;
+
+/* Looks for the lowest touched octet before it returns, as what comes after uses the stack too. */
+static void on_painted_stack(void)
+{
+    size_t n;
+    run.answer = run.function(run.in, run.in_len, run.out, run.out_len, &n);
+    size_t lowest = 0;
+    while (stack[lowest] == run.paint)
+        lowest++;
+    run.lowest = lowest;
+}
+
+static size_t lowest_touched(call *function, uint8_t paint)
+{
+    run.function = function;
+    run.paint = paint;
+    memset(stack, paint, STACK);
+    getcontext(&inside);
+    inside.uc_stack.ss_sp = stack;
+    inside.uc_stack.ss_size = STACK;
+    inside.uc_link = &outside;
+    makecontext(&inside, on_painted_stack, 0);
+    swapcontext(&outside, &inside);
+    return run.lowest;
+}
+
+/* The octets a call uses, its return address among them. Two paints, as an octet written may look like one of them. */
+static size_t used(call *function, const uint8_t *in, size_t in_len, uint8_t *out, size_t out_len, uint32_t answer)
+{
+    run.in = in;
+    run.in_len = in_len;
+    run.out = out;
+    run.out_len = out_len;
+    size_t lowest = STACK, start = STACK;
+    for (int paint = 0x5a; paint <= 0xa5; paint += 0xa5 - 0x5a) {
+        size_t found = lowest_touched(idle, (uint8_t)paint);
+        start = found < start ? found : start;
+        found = lowest_touched(function, (uint8_t)paint);
+        lowest = found < lowest ? found : lowest;
+        if (run.answer != answer) {
+            printf("FAILED stack: %zu octets in, %zu out: expected %u, got %u\n", in_len, out_len, (unsigned)answer,
+                   (unsigned)run.answer);
+            exit(1);
+        }
+    }
+    return start + sizeof(void *) - lowest;
+}
+
+static size_t larger(size_t a, size_t b)
+{
+    return a < b ? b : a;
+}
+
+static int report(const char *name, size_t most_short, size_t most_long)
+{
+    int good = larger(most_short, most_long) <= LIMIT;
+    printf("stack: %-10s %5zu octets for 16 MiB, at most %zu for up to %d octets%s\n", name, most_long, most_short, SHORT,
+           good ? "" : ": FAILED, more than 8 KiB");
+    return good;
+}
+
+int main(void)
+{
+    uint8_t *text = malloc(LONG + 1), *out = malloc(LONG / 3 * 4 + 4);
+    uint8_t *map = mmap(NULL, FENCE + STACK, PROT_NONE, MAP_PRIVATE | MAP_ANONYMOUS, -1, 0);
+    if (text == NULL || out == NULL || map == MAP_FAILED || mprotect(map + FENCE, STACK, PROT_READ | PROT_WRITE) != 0) {
+        perror("stack: no memory");
+        return 2;
+    }
+    stack = map + FENCE;
+    memset(text, 'A', LONG + 1);
+
+    size_t decode_short = 0, check_short = 0, encode_short = 0;
+    for (size_t n = 0; n <= SHORT; n++) {
+        uint32_t answer = n % 4 == 1 ? JWE_NOT_BASE64URL : JWE_OK;
+        decode_short = larger(decode_short, used(jwe_decode, text, n, out, n, answer));
+        check_short = larger(check_short, used(check, text, n, out, 0, answer));
+        encode_short = larger(encode_short, used(encode, text, n, out, (4 * n + 2) / 3, JWE_OK));
+    }
+
+    size_t decode_long = used(jwe_decode, text, LONG, out, LONG / 4 * 3, JWE_OK);
+    decode_long = larger(decode_long, used(jwe_decode, text, LONG, out, LONG / 4 * 3 - 1, JWE_TOO_SHORT));
+    decode_long = larger(decode_long, used(jwe_decode, text, LONG + 1, out, LONG, JWE_NOT_BASE64URL));
+    size_t check_long = used(check, text, LONG, out, 0, JWE_OK);
+    size_t encode_long = used(encode, text, LONG, out, LONG / 3 * 4 + 2, JWE_OK);
+
+    int good = report("jwe_decode", decode_short, decode_long);
+    good &= report("check", check_short, check_long);
+    good &= report("encode", encode_short, encode_long);
+    free(text);
+    free(out);
+    munmap(map, FENCE + STACK);
+    return good ? 0 : 1;
+}
