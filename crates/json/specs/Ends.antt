@@ -3,14 +3,18 @@ use Prim.Native.Nat.{ℕ, _+_, _*_, _<_}
 use mathlib.Core.Path.{_≡_}
 use mathlib.Core.Bool.{Bool, true}
 use mathlib.Core.List.{List}
+use mathlib.Core.Option.{Option, none, some}
 use lib.ListN.{length, drop, getD}
 use Rattle.json.specs.Grammar.{isUnescaped, isHex}
 use Rattle.json.specs.Strings.{hexMore}
 use Rattle.json.specs.Utf8.{pick}
 use Rattle.json.specs.Reader.{octetAt, step, End, refused, ended, Turn, broken, closed, goOn, between, escaping, digit, scanString}
+use Rattle.json.specs.Reader.{Answer, nothing, found, Before}
 use Rattle.json.specs.declared.Position.{Position}
 use Rattle.json.specs.declared.Ends.{Ends}
 use Rattle.json.specs.declared.Ends.the-variants.{At, Refused}
+use Rattle.json.specs.declared.Found.{Found}
+use Rattle.json.specs.declared.Found.the-variants.{Value, Nothing}
 use Rattle.json.specs.declared.string.Hex.{Hex}
 use Rattle.json.specs.declared.string.Hex.the-variants.{More, Wrong as NoHex}
 use Rattle.json.specs.declared.string.Escape.{Escape}
@@ -19,6 +23,20 @@ use Rattle.json.specs.declared.string.Escape.the-variants.{Next, Wrong}
 abbrev pub endsOf : End → Ends
 endsOf refused = Refused
 endsOf (ended e) = At (record { at = e })
+
+abbrev pub foundOf : Answer → Found
+foundOf nothing = Nothing
+foundOf (found e k) = Value (record { at = e }) k
+
+-- What ends so, as a value of kind k.
+abbrev pub endsOfKind : ℕ → Ends → Found
+endsOfKind k (At p) = Value p k
+endsOfKind k Refused = Nothing
+
+-- Where the value stands behind what is before it.
+abbrev pub valueIn : Option Before → End
+valueIn none = refused
+valueIn (some x) = ended (x .value)
 
 -- One hexadecimal digit more, behind those that say x.
 unfoldable pub hexAt : List ℕ → ℕ → ℕ → Hex

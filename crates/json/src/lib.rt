@@ -6,6 +6,7 @@ ghost use Rattle.json.specs.Reader.{octetAt, step, skip, skipSpace};
 
 mod number;
 mod string;
+mod value;
 
 // A position in a text: it moves by methods that take it and give the next one.
 pub struct Position {
@@ -16,6 +17,13 @@ pub struct Position {
 pub enum Ends {
     At(Position),
     Refused,
+}
+
+// What a reader of a value answers: the position after it and its kind (0 object, 1 array, 2 string, 3 number, 4 true,
+// 5 false, 6 null), or that no value of so few levels stands here.
+pub enum Found {
+    Value(Position, u8),
+    Nothing,
 }
 
 // Space, tab, LF, CR.
