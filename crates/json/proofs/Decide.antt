@@ -19,7 +19,7 @@ use Rattle.json.proofs.Parse.{At, Got, failed, got, true→T, scan, run
 use Rattle.json.proofs.Scan.{T→true, scan-octets, scan-halts, scanned}
 use Rattle.json.proofs.Complete.{node}
 use Rattle.json.proofs.Values.{value-read, after-halts, after-skip}
-use Rattle.json.proofs.Utf8.{utf8-sound, utf8-complete}
+use Rattle.json.proofs.Utf8Test.{utf8-sound, utf8-complete}
 use Rattle.json.proofs.Positions.{Rest, rest-along, octet-nil, octet-cons, skip-scan, rest-scan}
 use Rattle.json.proofs.ReadLabels.{Valued, answerOf}
 use Rattle.json.proofs.ReadValues.{value-agrees}

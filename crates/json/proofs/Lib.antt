@@ -10,7 +10,7 @@ pub mod Complete
 pub mod Values
 pub mod Unambiguous
 -- UTF-8 and what strings say.
-pub mod Utf8
+pub mod Utf8Test
 pub mod Points
 pub mod Encoded
 pub mod Undone
@@ -35,4 +35,5 @@ pub mod Turns
 pub mod Here
 pub mod NumberParts
 pub mod StringParts
+pub mod Utf8Parts
 pub mod ValueParts

@@ -9,7 +9,7 @@ use Rattle.json.specs.Utf8.{Range, to, within, tail, Row, rows, fits, fi
 use Rattle.json.specs.Utf8.{pointsAfter, points, sixBits, encode, encodes}
 use Rattle.json.proofs.Parse.{true→T}
 use Rattle.json.proofs.Scan.{T→true, both-T}
-use Rattle.json.proofs.Utf8.{utf8-sound, both}
+use Rattle.json.proofs.Utf8Test.{utf8-sound, both}
 
 pub leb-true : (m n : ℕ) → m ≤ n → leb m n ≡ true
 leb-true m n h = T→true (leb m n) (le→leb m n h)

@@ -20,7 +20,7 @@ use Rattle.json.proofs.Parse.{Inside, Head, inside-last, inside-more, n
 use Rattle.json.proofs.Parse.{bracketed, start, begin, value}
 use Rattle.json.proofs.Scan.{no-got, got-val, got-at, then-inv, Spelled, spelled-then, scanned, word-inv}
 use Rattle.json.proofs.Numbers.{num-sound}
-use Rattle.json.proofs.Utf8.{both}
+use Rattle.json.proofs.Utf8Test.{both}
 use Rattle.json.proofs.Complete.{node, inside, place-path, sign-length}
 use Rattle.json.proofs.ReadLabels.{string-sound}
 use Rattle.json.proofs.Sound.{SoundValue, SoundLabel, SoundEntries, Reads, Went, went-on, went-out, go-on-inv}

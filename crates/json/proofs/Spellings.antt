@@ -19,7 +19,7 @@ use Rattle.json.specs.Utf8.{points, encodes, utf8, utf8After}
 use Rattle.json.specs.Readings.{Reading}
 use Rattle.json.proofs.Scan.{both-T}
 use Rattle.json.proofs.Characters.{unescaped-not, escape-not}
-use Rattle.json.proofs.Utf8.{both, utf8-complete}
+use Rattle.json.proofs.Utf8Test.{both, utf8-complete}
 use Rattle.json.proofs.Points.{encodes-points}
 use Rattle.json.proofs.Undone.{suffix, low-step, undone-utf8}
 

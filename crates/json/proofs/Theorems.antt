@@ -13,7 +13,7 @@ use Rattle.json.specs.Spellings.{alike, has, sayable}
 use Rattle.json.specs.Reader.{skipSpace, nothing, found, readText}
 use Rattle.json.specs.Readings.{Reading, Shown, Everywhere, StringsStand}
 use Rattle.json.proofs.Unambiguous as Unambiguous
-use Rattle.json.proofs.Utf8 as Utf
+use Rattle.json.proofs.Utf8Test as Utf
 use Rattle.json.proofs.Decide as Decide
 use Rattle.json.proofs.Encoded as Encoded
 use Rattle.json.proofs.Spellings as Spellings

@@ -13,7 +13,7 @@ use Rattle.json.specs.Strings.{undoneChar, undoneAfter}
 use Rattle.json.specs.Utf8.{pick, Range, within, Row, rows, follow, encode, utf8After}
 use Rattle.json.proofs.Parse.{true→T}
 use Rattle.json.proofs.Scan.{both-T, all, among-all}
-use Rattle.json.proofs.Utf8.{both, after-character}
+use Rattle.json.proofs.Utf8Test.{both, after-character}
 use Rattle.json.proofs.Points.{encode-one}
 use Rattle.json.proofs.Encoded.{encode-fits}
 

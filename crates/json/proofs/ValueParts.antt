@@ -11,10 +11,11 @@ use borrow.Author.Tests.{eq-eqb, ne-eqb}
 use Rattle.prelude.proofs.Lists.{drop-next}
 use Rattle.json.specs.Grammar.{colon, Bracket, curly, square, opening, letters, literal-true, literal-false}
 use Rattle.json.specs.Grammar.{literal-null}
-use Rattle.json.specs.Utf8.{pick}
+use Rattle.json.specs.Utf8.{pick, utf8}
 use Rattle.json.specs.Reader.{End, refused, ended, octetAt, step, skipSpace, stringAt, numberAt, wordAt}
 use Rattle.json.specs.Reader.{Answer, nothing, found, ofKind, Before, colonAt, beforeAt, valueAfter, entryAt}
 use Rattle.json.specs.Reader.{closeOr, afterEntry, entriesAt, isNumberStart, valueWith, valueAt}
+use Rattle.json.specs.Reader.{wholly, readText}
 use Rattle.json.specs.Ends.{endsOf, foundOf, endsOfKind, valueIn}
 use Rattle.json.specs.declared.Position.{Position}
 use Rattle.json.specs.declared.Ends.{Ends}
@@ -178,3 +179,30 @@ module _ (inner : ℕ → Answer) (b : Bracket) (s : List ℕ) where
 pub element-here : (s : List ℕ) (at : ℕ) → valueIn (beforeAt square s at) ≡ ended at
 unfolding beforeAt
 element-here s at = refl
+
+-- A text: it begins at `at`, behind space, with the octet c.
+module _ (s : List ℕ) (levels at c : ℕ) (h : at ≡ skipSpace s 0) (hc : c ≡ octetAt s at) where
+  pub text-no-brace : (c ≡ opening curly → ⊥) → nothing ≡ readText levels s
+  unfolding readText
+  text-no-brace f = sym (rw (sym h, sym hc, ne-eqb c (opening curly) f))
+
+  module _ (f : c ≡ opening curly) where
+    pub text-not-utf8 : utf8 s ≡ false → nothing ≡ readText levels s
+    unfolding readText
+    text-not-utf8 e = sym (rw (sym h, sym hc, eq-eqb c (opening curly) f, e))
+
+    pub text-wholly : utf8 s ≡ true → wholly s (valueAt levels s at) ≡ readText levels s
+    unfolding readText
+    text-wholly e = sym (rw (sym h, sym hc, eq-eqb c (opening curly) f, e))
+
+-- What stands behind a text's value.
+module _ (s : List ℕ) (x : Answer) where
+  pub wholly-nothing : x ≡ nothing → nothing ≡ wholly s x
+  wholly-nothing e = sym (ap (wholly s) e)
+
+  module _ (e k : ℕ) (f : x ≡ found e k) (q : ℕ) (hq : q ≡ skipSpace s e) where
+    pub wholly-not : (q ≡ length s → ⊥) → nothing ≡ wholly s x
+    wholly-not n = sym (ap (wholly s) f ∙ rw (sym hq, ne-eqb q (length s) n))
+
+    pub wholly-found : q ≡ length s → found e k ≡ wholly s x
+    wholly-found n = sym (ap (wholly s) f ∙ rw (sym hq, eq-eqb q (length s) n))

@@ -2,10 +2,12 @@
 // in specs/Reader.antt, which specs/Grammar.antt and proofs/Theorems.antt tie to the RFC's grammar.
 ghost use mathlib.Core.Path.{_≡_};
 ghost use Rattle.json.specs.Grammar.{isSpace, isDigit};
-ghost use Rattle.json.specs.Reader.{octetAt, step, skip, skipSpace};
+ghost use Rattle.json.specs.Reader.{octetAt, step, skip, skipSpace, readText};
+ghost use Rattle.json.specs.Ends.{foundOf};
 
 mod number;
 mod string;
+mod utf8;
 mod value;
 
 // A position in a text: it moves by methods that take it and give the next one.
@@ -94,4 +96,25 @@ impl Position {
         }
         Position { at }
     }
+}
+
+// Whether a text is one object of so many levels and well-formed UTF-8: where the object ends, and its kind, 0.
+pub fn judge(s: &[u8], levels: u32) -> Found
+    ensures { λ r. ⌜ r ≡ foundOf (readText levels (now (s .entry))) ⌝ }
+{
+    let first = Position { at: 0 }.skip_space(s);
+    if first.peek(s) != 123 {
+        return Found::Nothing;
+    }
+    if !utf8::utf8(s) {
+        return Found::Nothing;
+    }
+    let outer = first.value(s, levels);
+    let Found::Value(end, kind) = outer else {
+        return outer;
+    };
+    if end.skip_space(s).at != s.len() {
+        return Found::Nothing;
+    }
+    Found::Value(end, kind)
 }
