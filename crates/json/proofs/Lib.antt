@@ -35,3 +35,4 @@ pub mod Turns
 pub mod Here
 pub mod NumberParts
 pub mod StringParts
+pub mod Cursors

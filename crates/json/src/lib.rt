@@ -5,6 +5,7 @@ ghost use Rattle.json.specs.Grammar.{isSpace, isDigit};
 ghost use Rattle.json.specs.Reader.{octetAt, step, skip, skipSpace};
 
 mod number;
+pub mod spelling;
 mod string;
 
 // A position in a text: it moves by methods that take it and give the next one.
