@@ -7,11 +7,11 @@ use Prim.Native.Nat.{ℕ, zero, suc, _+_, _-_, _*_, _/_, _≤_, _<_}
 use native.Mathlib.Omega.{arith}
 use lib.ListN.{length, drop, getD, drop-of-length-le, length-drop}
 use lib.Dec.{eqb, leb}
-use borrow.Author.Tests.{eq-eqb, ne-eqb}
+use borrow.Author.Tests.{ne-eqb}
 use Rattle.prelude.proofs.Lists.{drop-next}
 use Rattle.json.specs.Strings.{hexDigit, hexMore, unit, escapePoint, isHigh, combined}
 use Rattle.json.specs.Utf8.{pick, sixBits, encode}
-use Rattle.json.specs.Spellings.{Spot, between, escaping, digit, unitOctets, adds, next, undoFrom, undo, equal, alike, has}
+use Rattle.json.specs.Spellings.{Spot, between, escaping, digit, unitOctets, adds, next, undoFrom}
 use Rattle.json.specs.Cursors.{halfOf, undoAt, rest, told, size, Falls, cursor, encoded, pendingOctet, pendingOf}
 use Rattle.json.specs.declared.spelling.Cursor.{Cursor}
 use Rattle.json.specs.declared.spelling.Octet.{Octet}
@@ -246,38 +246,3 @@ rest-between s p l = cases (p .left) l
     cases : (k : ℕ) → k ≤ 0 → undoAt s (p .half) (p .at) ≡ rest s (cursor (p .at) (p .half) (p .point) k)
     cases zero l = refl
     cases (suc k) l = absurd (omega arith)
-
--- Comparing
-
--- From the beginning of both.
-pub alike-start : (v w : List ℕ) → equal (rest v (cursor 0 0 0 0)) (rest w (cursor 0 0 0 0)) ≡ alike v w
-unfolding alike undo
-alike-start v w = refl
-
-pub has-start : (v w : List ℕ) → equal (rest v (cursor 0 0 0 0)) w ≡ has v w
-unfolding has undo
-has-start v w = refl
-
--- What the next octets say of it.
-module _ (v w : List ℕ) where
-  pub both-end : [] ≡ v → [] ≡ w → true ≡ equal v w
-  unfolding equal
-  both-end e f = ap₂ equal e f
-
-  module _ (c : ℕ) (t : List ℕ) where
-    pub left-ends : [] ≡ v → c ∷ t ≡ w → false ≡ equal v w
-    unfolding equal
-    left-ends e f = ap₂ equal e f
-
-    pub right-ends : c ∷ t ≡ v → [] ≡ w → false ≡ equal v w
-    unfolding equal
-    right-ends e f = ap₂ equal e f
-
-    module _ (d : ℕ) (u : List ℕ) (e : c ∷ t ≡ v) (f : d ∷ u ≡ w) where
-      pub differ : (c ≡ d → ⊥) → false ≡ equal v w
-      unfolding equal
-      differ n = ap (λ (b : Bool). b && equal t u) (sym (ne-eqb c d n)) ∙ ap₂ equal e f
-
-      pub same : c ≡ d → equal t u ≡ equal v w
-      unfolding equal
-      same i = ap (λ (b : Bool). b && equal t u) (sym (eq-eqb c d i)) ∙ ap₂ equal e f

@@ -36,3 +36,4 @@ pub mod Here
 pub mod NumberParts
 pub mod StringParts
 pub mod Cursors
+pub mod Compare

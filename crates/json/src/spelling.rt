@@ -1,10 +1,11 @@
 // Strings compared by their spellings, the octets between the quotation marks, escapes undone on the way.
 ghost use mathlib.Core.Path.{_≡_};
 ghost use Prim.Native.Nat.{_-_, _≤_, _<_};
+ghost use lib.ListN.{drop};
 ghost use Rattle.json.specs.Strings.{hexDigit, escapePoint, combined, unit, isHigh};
-ghost use Rattle.json.specs.Spellings.{alike, has};
+ghost use Rattle.json.specs.Spellings.{equal, alike, has};
 ghost use Rattle.json.specs.Utf8.{pick, sixBits};
-ghost use Rattle.json.specs.Cursors.{rest, told, Falls, pendingOf, encoded};
+ghost use Rattle.json.specs.Cursors.{undoAt, rest, told, Falls, pendingOf, encoded};
 
 // Where in a spelling we are, between characters: a first half that stands directly before, or 0; and of the code point that
 // the last escape said, how many octets are still to come.
@@ -257,18 +258,41 @@ impl Cursor {
     }
 }
 
+// How many octets both begin with, none of them a backslash: these stand for themselves.
+fn common(a: &[u8], b: &[u8]) -> usize
+    ensures { λ r. ⌜ equal (undoAt (now (a .entry)) 0 r) (undoAt (now (b .entry)) 0 r) ≡ alike (now (a .entry)) (now (b .entry)) ⌝ }
+    ensures { λ r. ⌜ equal (undoAt (now (a .entry)) 0 r) (drop r (now (b .entry))) ≡ has (now (a .entry)) (now (b .entry)) ⌝ }
+{
+    let mut k: usize = 0;
+    while k < a.len() {
+        if b.len() <= k {
+            return k;
+        }
+        let c = a[k];
+        if c != b[k] {
+            return k;
+        }
+        if c == 92 {
+            return k;
+        }
+        k += 1;
+    }
+    k
+}
+
 // Whether two spellings say the same.
 pub fn alike(a: &[u8], b: &[u8]) -> bool
     ensures { λ r. ⌜ r ≡ alike (now (a .entry)) (now (b .entry)) ⌝ }
 {
+    let k = common(a, b);
     let mut p = Cursor {
-        at: 0,
+        at: k,
         half: 0,
         point: 0,
         left: 0,
     };
     let mut q = Cursor {
-        at: 0,
+        at: k,
         half: 0,
         point: 0,
         left: 0,
@@ -277,10 +301,10 @@ pub fn alike(a: &[u8], b: &[u8]) -> bool
         let x = p.next(a);
         let y = q.next(b);
         let Octet::Next(c, after) = x else {
-            let Octet::Next(_, _) = y else {
-                return true;
+            let Octet::End = y else {
+                return false;
             };
-            return false;
+            return true;
         };
         let Octet::Next(d, behind) = y else {
             return false;
@@ -297,27 +321,25 @@ pub fn alike(a: &[u8], b: &[u8]) -> bool
 pub fn has(a: &[u8], w: &[u8]) -> bool
     ensures { λ r. ⌜ r ≡ has (now (a .entry)) (now (w .entry)) ⌝ }
 {
+    let mut k = common(a, w);
     let mut p = Cursor {
-        at: 0,
+        at: k,
         half: 0,
         point: 0,
         left: 0,
     };
-    let mut k: usize = 0;
-    while k < w.len() {
+    loop {
         let x = p.next(a);
         let Octet::Next(c, after) = x else {
-            return false;
+            return w.len() <= k;
         };
+        if w.len() <= k {
+            return false;
+        }
         if c != w[k] {
             return false;
         }
         p = after;
         k += 1;
     }
-    let x = p.next(a);
-    let Octet::Next(_, _) = x else {
-        return true;
-    };
-    false
 }

@@ -7,22 +7,25 @@ use lib.ListN.{length, drop, getD, drop-of-length-le}
 use Rattle.prelude.proofs.Lists.{drop-next}
 use Rattle.json.specs.Spellings.{equal}
 use Rattle.json.specs.Cursors.{rest, told, Falls}
-use Rattle.json.proofs.Cursors.{has-start, both-end, left-ends, right-ends, differ, same}
+use Rattle.json.proofs.Compare.{has-ends, right-ends, differ, same}
 use borrow.Author.Needs.{needs}
 use Rattle.json.proofs.spelling.has.Statement.{statement}
 use Rattle.json.proofs.spelling.has.Tie as tie
 
 abbrev Inv-loop : tie.InvT-loop
-Inv-loop a w p₀ k₀ p k = (equal (rest a p) (drop k w) ≡ equal (rest a p₀) (drop k₀ w)) × (p .half ≤ 56319)
+Inv-loop a w k₀ p₀ k p = (equal (rest a p) (drop k w) ≡ equal (rest a p₀) (drop k₀ w)) × (p .half ≤ 56319)
 
 abbrev μ-loop : tie.MeasureT-loop
-μ-loop a w p₀ k₀ p k = length w - k
+μ-loop a w k₀ p₀ k p = length w - k
+
+common-requires : tie.Need-common-requires Inv-loop μ-loop
+common-requires c κs = search needs
 
 loop-holds : tie.Need-loop-holds Inv-loop μ-loop
 loop-holds c = (refl, omega arith)
 
 next-requires : tie.Need-next-requires Inv-loop μ-loop
-next-requires c κs = c .before .loop .inv .1
+next-requires c κs = c .loop .inv .1
 
 enum-known-x : tie.Need-enum-known-x Inv-loop μ-loop
 enum-known-x c = search needs
@@ -35,31 +38,44 @@ returns c =
     let start = c .before .before .before .before .before .before .before in
     let a = start .args .a .now in
     let w = start .args .w .now in
-    let loop = c .before .before .before .before .loop in
+    let loop = c .before .before .before .loop in
     let k = loop .k in
     let next = c .before .before .next in
     let x = c .enum-told .given in
     let left = ap (told a) (sym (x .1)) ∙ next .ensures .0 in
-    let whole = loop .inv .0 ∙ has-start a w in
-    let right = sym (drop-next w k (k + 1) refl (c .before .before .before .loop-test .taken)) in
-    left-ends (rest a (loop .p)) (drop k w) (getD w k 0) (drop (k + 1) w) left right ∙ whole
-
-shared-slice-read-if1 : tie.Need-shared-slice-read-if1 Inv-loop μ-loop
-shared-slice-read-if1 c = search needs
+    let whole = loop .inv .0 ∙ c .before .before .before .before .common .ensures .1 in
+    has-ends (rest a (loop .p)) w k left ∙ whole
 
 returns-2 : tie.Need-returns-2 Inv-loop μ-loop
 returns-2 c =
-    let start = c .before .before .before .before .before .before .before .before .before .before in
+    let start = c .before .before .before .before .before .before .before .before .before in
+    let a = start .args .a .now in
+    let w = start .args .w .now in
+    let loop = c .before .before .before .before .before .loop in
+    let k = loop .k in
+    let next = c .before .before .before .before .next in
+    let x = c .before .before .x .given in
+    let left = ap (told a) (sym (x .1)) ∙ next .ensures .0 in
+    let whole = loop .inv .0 ∙ c .before .before .before .before .before .before .common .ensures .1 in
+    let right = sym (drop-of-length-le w {i = k} (c .if1 .taken)) in
+    right-ends (rest a (loop .p)) (drop k w) (x .0 .0) (rest a (x .0 .1 .0)) left right ∙ whole
+
+shared-slice-read-if2 : tie.Need-shared-slice-read-if2 Inv-loop μ-loop
+shared-slice-read-if2 c = search needs
+
+returns-3 : tie.Need-returns-3 Inv-loop μ-loop
+returns-3 c =
+    let start = c .before .before .before .before .before .before .before .before .before .before .before in
     let a = start .args .a .now in
     let w = start .args .w .now in
     let loop = c .before .before .before .before .before .before .before .loop in
     let k = loop .k in
-    let next = c .before .before .before .before .before .next in
-    let x = c .before .before .before .x .given in
+    let next = c .before .before .before .before .before .before .next in
+    let x = c .before .before .before .before .x .given in
     let left = ap (told a) (sym (x .1)) ∙ next .ensures .0 in
-    let whole = loop .inv .0 ∙ has-start a w in
-    let right = sym (drop-next w k (k + 1) refl (c .before .before .before .before .before .before .loop-test .taken)) in
-    differ (rest a (loop .p)) (drop k w) (x .0 .0) (rest a (x .0 .1 .0)) (getD w k 0) (drop (k + 1) w) left right (c .if1 .taken) ∙ whole
+    let whole = loop .inv .0 ∙ c .before .before .before .before .before .before .before .before .common .ensures .1 in
+    let right = sym (drop-next w k (k + 1) refl (c .before .before .if1 .left)) in
+    differ (rest a (loop .p)) (drop k w) (x .0 .0) (rest a (x .0 .1 .0)) (getD w k 0) (drop (k + 1) w) left right (c .if2 .taken) ∙ whole
 
 add-k : tie.Need-add-k Inv-loop μ-loop
 add-k c = search needs
@@ -69,56 +85,19 @@ loop-less c = search needs
 
 loop-again : tie.Need-loop-again Inv-loop μ-loop
 loop-again c =
-    let start = c .before .before .before .before .before .before .before .before .before .before in
+    let start = c .before .before .before .before .before .before .before .before .before .before .before in
     let a = start .args .a .now in
     let w = start .args .w .now in
     let loop = c .before .before .before .before .before .before .before .loop in
     let k = loop .k in
-    let next = c .before .before .before .before .before .next in
-    let x = c .before .before .before .x .given in
+    let next = c .before .before .before .before .before .before .next in
+    let x = c .before .before .before .before .x .given in
     let left = ap (told a) (sym (x .1)) ∙ next .ensures .0 in
-    let whole = loop .inv .0 ∙ has-start a w in
-    let right = sym (drop-next w k (k + 1) refl (c .before .before .before .before .before .before .loop-test .taken)) in (
-      same (rest a (loop .p)) (drop k w) (x .0 .0) (rest a (x .0 .1 .0)) (getD w k 0) (drop (k + 1) w) left right (c .if1 .left) ∙ loop .inv .0,
+    let whole = loop .inv .0 ∙ c .before .before .before .before .before .before .before .before .common .ensures .1 in
+    let right = sym (drop-next w k (k + 1) refl (c .before .before .if1 .left)) in (
+      same (rest a (loop .p)) (drop k w) (x .0 .0) (rest a (x .0 .1 .0)) (getD w k 0) (drop (k + 1) w) left right (c .if2 .left) ∙ loop .inv .0,
       subst (Falls a (loop .p)) (x .1) (next .ensures .1) .0,
     )
-
-next-requires-2 : tie.Need-next-requires-2 Inv-loop μ-loop
-next-requires-2 c κs = c .before .loop .inv .1
-
-enum-told-2 : tie.Need-enum-told-2 Inv-loop μ-loop
-enum-told-2 c = search needs
-
-enum-told-3 : tie.Need-enum-told-3 Inv-loop μ-loop
-enum-told-3 c = search needs
-
-returns-3 : tie.Need-returns-3 Inv-loop μ-loop
-returns-3 c =
-    let start = c .before .before .before .before .before .before .before in
-    let a = start .args .a .now in
-    let w = start .args .w .now in
-    let loop = c .before .before .before .before .loop in
-    let k = loop .k in
-    let next = c .before .before .next2 in
-    let x = c .enum-told3 .given in
-    let left = ap (told a) (sym (x .1)) ∙ next .ensures .0 in
-    let whole = loop .inv .0 ∙ has-start a w in
-    let right = sym (drop-of-length-le w {i = k} (c .before .before .before .loop-test .left)) in
-    both-end (rest a (loop .p)) (drop k w) left right ∙ whole
-
-returns-4 : tie.Need-returns-4 Inv-loop μ-loop
-returns-4 c =
-    let start = c .before .before .before .before .before .before .before in
-    let a = start .args .a .now in
-    let w = start .args .w .now in
-    let loop = c .before .before .before .before .loop in
-    let k = loop .k in
-    let next = c .before .before .next2 in
-    let x = c .enum-told2 .given in
-    let left = ap (told a) (sym (x .1)) ∙ next .ensures .0 in
-    let whole = loop .inv .0 ∙ has-start a w in
-    let right = sym (drop-of-length-le w {i = k} (c .before .before .before .loop-test .left)) in
-    right-ends (rest a (loop .p)) (drop k w) (x .0 .0) (rest a (x .0 .1 .0)) left right ∙ whole
 
 pub has-spec : {M : Type 1} → statement M
 has-spec =
@@ -126,18 +105,15 @@ has-spec =
     (tie.spec
     Inv-loop
     μ-loop
+    common-requires
     loop-holds
     next-requires
     enum-known-x
     enum-told
     returns
-    shared-slice-read-if1
     returns-2
+    shared-slice-read-if2
+    returns-3
     add-k
     loop-less
-    loop-again
-    next-requires-2
-    enum-told-2
-    enum-told-3
-    returns-3
-    returns-4)
+    loop-again)
