@@ -37,3 +37,5 @@ pub mod NumberParts
 pub mod StringParts
 pub mod Utf8Parts
 pub mod ValueParts
+pub mod Cursors
+pub mod Compare

@@ -8,3 +8,4 @@ pub mod Reader
 pub mod Readings
 pub mod Ends
 pub mod Utf8Parts
+pub mod Cursors

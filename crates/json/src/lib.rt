@@ -6,6 +6,7 @@ ghost use Rattle.json.specs.Reader.{octetAt, step, skip, skipSpace, read
 ghost use Rattle.json.specs.Ends.{foundOf};
 
 mod number;
+pub mod spelling;
 mod string;
 mod utf8;
 mod value;

@@ -1,0 +1,152 @@
+-- Two spellings say the same: what is to come from the two cursors is equal exactly where the wholes are.
+use Prim.Native.Nat.{_≤_}
+use mathlib.Core.Path.{_≡_, refl, ap, sym, subst, _∙_}
+use native.Mathlib.Omega.{arith}
+use Rattle.json.specs.Spellings.{equal}
+use Rattle.json.specs.Cursors.{rest, told, size, Falls}
+use Rattle.json.proofs.Compare.{both-end, left-ends, right-ends, differ, same}
+use borrow.Author.Needs.{needs}
+use Rattle.json.proofs.spelling.alike.Statement.{statement}
+use Rattle.json.proofs.spelling.alike.Tie as tie
+
+abbrev Inv-loop : tie.InvT-loop
+Inv-loop a b k p₀ q₀ p q = (equal (rest a p) (rest b q) ≡ equal (rest a p₀) (rest b q₀)) × (p .half ≤ 56319) × (q .half ≤ 56319)
+
+abbrev μ-loop : tie.MeasureT-loop
+μ-loop a b k p₀ q₀ p q = size a p
+
+common-requires : tie.Need-common-requires Inv-loop μ-loop
+common-requires c κs = search needs
+
+loop-holds : tie.Need-loop-holds Inv-loop μ-loop
+loop-holds c = (refl, omega arith, omega arith)
+
+next-requires : tie.Need-next-requires Inv-loop μ-loop
+next-requires c κs = c .loop .inv .1
+
+next-requires-2 : tie.Need-next-requires-2 Inv-loop μ-loop
+next-requires-2 c κs = c .before .loop .inv .2
+
+enum-known-x : tie.Need-enum-known-x Inv-loop μ-loop
+enum-known-x c = search needs
+
+enum-told : tie.Need-enum-told Inv-loop μ-loop
+enum-told c = search needs
+
+enum-told-2 : tie.Need-enum-told-2 Inv-loop μ-loop
+enum-told-2 c = search needs
+
+enum-told-3 : tie.Need-enum-told-3 Inv-loop μ-loop
+enum-told-3 c = search needs
+
+returns : tie.Need-returns Inv-loop μ-loop
+returns c =
+    let start = c .before .before .before .before .before .before .before .before .before .before in
+    let a = start .args .a .now in
+    let b = start .args .b .now in
+    let loop = c .before .before .before .before .before .before .loop in
+    let next = c .before .before .before .before .before .next in
+    let next2 = c .before .before .before .before .next2 in
+    let x = c .before .before .enum-told .given in
+    let y = c .enum-told3 .given in
+    let left = ap (told a) (sym (x .1)) ∙ next .ensures .0 in
+    let right = ap (told b) (sym (y .1)) ∙ next2 .ensures .0 in
+    let whole = loop .inv .0 ∙ c .before .before .before .before .before .before .before .common .ensures .0 in
+    left-ends (rest a (loop .p)) (rest b (loop .q)) (y .0 .0) (rest b (y .0 .1 .0)) left right ∙ whole
+
+returns-2 : tie.Need-returns-2 Inv-loop μ-loop
+returns-2 c =
+    let start = c .before .before .before .before .before .before .before .before .before .before in
+    let a = start .args .a .now in
+    let b = start .args .b .now in
+    let loop = c .before .before .before .before .before .before .loop in
+    let next = c .before .before .before .before .before .next in
+    let next2 = c .before .before .before .before .next2 in
+    let x = c .before .before .enum-told .given in
+    let y = c .enum-told2 .given in
+    let left = ap (told a) (sym (x .1)) ∙ next .ensures .0 in
+    let right = ap (told b) (sym (y .1)) ∙ next2 .ensures .0 in
+    let whole = loop .inv .0 ∙ c .before .before .before .before .before .before .before .common .ensures .0 in
+    both-end (rest a (loop .p)) (rest b (loop .q)) left right ∙ whole
+
+enum-known-y : tie.Need-enum-known-y Inv-loop μ-loop
+enum-known-y c = search needs
+
+enum-told-4 : tie.Need-enum-told-4 Inv-loop μ-loop
+enum-told-4 c = search needs
+
+returns-3 : tie.Need-returns-3 Inv-loop μ-loop
+returns-3 c =
+    let start = c .before .before .before .before .before .before .before .before .before .before .before in
+    let a = start .args .a .now in
+    let b = start .args .b .now in
+    let loop = c .before .before .before .before .before .before .before .loop in
+    let next = c .before .before .before .before .before .before .next in
+    let next2 = c .before .before .before .before .before .next2 in
+    let x = c .before .before .before .x .given in
+    let y = c .enum-told4 .given in
+    let left = ap (told a) (sym (x .1)) ∙ next .ensures .0 in
+    let right = ap (told b) (sym (y .1)) ∙ next2 .ensures .0 in
+    let whole = loop .inv .0 ∙ c .before .before .before .before .before .before .before .before .common .ensures .0 in
+    right-ends (rest a (loop .p)) (rest b (loop .q)) (x .0 .0) (rest a (x .0 .1 .0)) left right ∙ whole
+
+returns-4 : tie.Need-returns-4 Inv-loop μ-loop
+returns-4 c =
+    let start = c .before .before .before .before .before .before .before .before .before .before .before .before .before in
+    let a = start .args .a .now in
+    let b = start .args .b .now in
+    let loop = c .before .before .before .before .before .before .before .before .before .loop in
+    let next = c .before .before .before .before .before .before .before .before .next in
+    let next2 = c .before .before .before .before .before .before .before .next2 in
+    let x = c .before .before .before .before .before .x .given in
+    let y = c .before .before .y .given in
+    let left = ap (told a) (sym (x .1)) ∙ next .ensures .0 in
+    let right = ap (told b) (sym (y .1)) ∙ next2 .ensures .0 in
+    let whole = loop .inv .0 ∙ c .before .before .before .before .before .before .before .before .before .before .common .ensures .0 in
+    differ (rest a (loop .p)) (rest b (loop .q)) (x .0 .0) (rest a (x .0 .1 .0)) (y .0 .0) (rest b (y .0 .1 .0)) left right (c .if1 .taken) ∙ whole
+
+loop-less : tie.Need-loop-less Inv-loop μ-loop
+loop-less c =
+    let a = c .before .before .before .before .before .before .before .before .before .before .before .before .before .args .a .now in
+    subst (Falls a (c .before .before .before .before .before .before .before .before .before .loop .p)) (c .before .before .before .before .before .x .given .1) (c .before .before .before .before .before .before .before .before .next .ensures .1) .1
+
+loop-again : tie.Need-loop-again Inv-loop μ-loop
+loop-again c =
+    let start = c .before .before .before .before .before .before .before .before .before .before .before .before .before in
+    let a = start .args .a .now in
+    let b = start .args .b .now in
+    let loop = c .before .before .before .before .before .before .before .before .before .loop in
+    let next = c .before .before .before .before .before .before .before .before .next in
+    let next2 = c .before .before .before .before .before .before .before .next2 in
+    let x = c .before .before .before .before .before .x .given in
+    let y = c .before .before .y .given in
+    let left = ap (told a) (sym (x .1)) ∙ next .ensures .0 in
+    let right = ap (told b) (sym (y .1)) ∙ next2 .ensures .0 in
+    let whole = loop .inv .0 ∙ c .before .before .before .before .before .before .before .before .before .before .common .ensures .0 in (
+      same (rest a (loop .p)) (rest b (loop .q)) (x .0 .0) (rest a (x .0 .1 .0)) (y .0 .0) (rest b (y .0 .1 .0)) left right (c .if1 .left) ∙ loop .inv .0,
+      subst (Falls a (loop .p)) (x .1) (next .ensures .1) .0,
+      subst (Falls b (loop .q)) (y .1) (next2 .ensures .1) .0,
+    )
+
+pub alike-spec : {M : Type 1} → statement M
+alike-spec =
+    tie.close
+    (tie.spec
+    Inv-loop
+    μ-loop
+    common-requires
+    loop-holds
+    next-requires
+    next-requires-2
+    enum-known-x
+    enum-told
+    enum-told-2
+    enum-told-3
+    returns
+    returns-2
+    enum-known-y
+    enum-told-4
+    returns-3
+    returns-4
+    loop-less
+    loop-again)

@@ -1,0 +1,119 @@
+-- A spelling has given octets: what is to come from the cursor equals what is left of them exactly where the wholes are
+-- equal.
+use Prim.Native.Nat.{_+_, _-_, _≤_}
+use mathlib.Core.Path.{_≡_, refl, ap, sym, subst, _∙_}
+use native.Mathlib.Omega.{arith}
+use lib.ListN.{length, drop, getD, drop-of-length-le}
+use Rattle.prelude.proofs.Lists.{drop-next}
+use Rattle.json.specs.Spellings.{equal}
+use Rattle.json.specs.Cursors.{rest, told, Falls}
+use Rattle.json.proofs.Compare.{has-ends, right-ends, differ, same}
+use borrow.Author.Needs.{needs}
+use Rattle.json.proofs.spelling.has.Statement.{statement}
+use Rattle.json.proofs.spelling.has.Tie as tie
+
+abbrev Inv-loop : tie.InvT-loop
+Inv-loop a w k₀ p₀ k p = (equal (rest a p) (drop k w) ≡ equal (rest a p₀) (drop k₀ w)) × (p .half ≤ 56319)
+
+abbrev μ-loop : tie.MeasureT-loop
+μ-loop a w k₀ p₀ k p = length w - k
+
+common-requires : tie.Need-common-requires Inv-loop μ-loop
+common-requires c κs = search needs
+
+loop-holds : tie.Need-loop-holds Inv-loop μ-loop
+loop-holds c = (refl, omega arith)
+
+next-requires : tie.Need-next-requires Inv-loop μ-loop
+next-requires c κs = c .loop .inv .1
+
+enum-known-x : tie.Need-enum-known-x Inv-loop μ-loop
+enum-known-x c = search needs
+
+enum-told : tie.Need-enum-told Inv-loop μ-loop
+enum-told c = search needs
+
+returns : tie.Need-returns Inv-loop μ-loop
+returns c =
+    let start = c .before .before .before .before .before .before .before in
+    let a = start .args .a .now in
+    let w = start .args .w .now in
+    let loop = c .before .before .before .loop in
+    let k = loop .k in
+    let next = c .before .before .next in
+    let x = c .enum-told .given in
+    let left = ap (told a) (sym (x .1)) ∙ next .ensures .0 in
+    let whole = loop .inv .0 ∙ c .before .before .before .before .common .ensures .1 in
+    has-ends (rest a (loop .p)) w k left ∙ whole
+
+returns-2 : tie.Need-returns-2 Inv-loop μ-loop
+returns-2 c =
+    let start = c .before .before .before .before .before .before .before .before .before in
+    let a = start .args .a .now in
+    let w = start .args .w .now in
+    let loop = c .before .before .before .before .before .loop in
+    let k = loop .k in
+    let next = c .before .before .before .before .next in
+    let x = c .before .before .x .given in
+    let left = ap (told a) (sym (x .1)) ∙ next .ensures .0 in
+    let whole = loop .inv .0 ∙ c .before .before .before .before .before .before .common .ensures .1 in
+    let right = sym (drop-of-length-le w {i = k} (c .if1 .taken)) in
+    right-ends (rest a (loop .p)) (drop k w) (x .0 .0) (rest a (x .0 .1 .0)) left right ∙ whole
+
+shared-slice-read-if2 : tie.Need-shared-slice-read-if2 Inv-loop μ-loop
+shared-slice-read-if2 c = search needs
+
+returns-3 : tie.Need-returns-3 Inv-loop μ-loop
+returns-3 c =
+    let start = c .before .before .before .before .before .before .before .before .before .before .before in
+    let a = start .args .a .now in
+    let w = start .args .w .now in
+    let loop = c .before .before .before .before .before .before .before .loop in
+    let k = loop .k in
+    let next = c .before .before .before .before .before .before .next in
+    let x = c .before .before .before .before .x .given in
+    let left = ap (told a) (sym (x .1)) ∙ next .ensures .0 in
+    let whole = loop .inv .0 ∙ c .before .before .before .before .before .before .before .before .common .ensures .1 in
+    let right = sym (drop-next w k (k + 1) refl (c .before .before .if1 .left)) in
+    differ (rest a (loop .p)) (drop k w) (x .0 .0) (rest a (x .0 .1 .0)) (getD w k 0) (drop (k + 1) w) left right (c .if2 .taken) ∙ whole
+
+add-k : tie.Need-add-k Inv-loop μ-loop
+add-k c = search needs
+
+loop-less : tie.Need-loop-less Inv-loop μ-loop
+loop-less c = search needs
+
+loop-again : tie.Need-loop-again Inv-loop μ-loop
+loop-again c =
+    let start = c .before .before .before .before .before .before .before .before .before .before .before in
+    let a = start .args .a .now in
+    let w = start .args .w .now in
+    let loop = c .before .before .before .before .before .before .before .loop in
+    let k = loop .k in
+    let next = c .before .before .before .before .before .before .next in
+    let x = c .before .before .before .before .x .given in
+    let left = ap (told a) (sym (x .1)) ∙ next .ensures .0 in
+    let whole = loop .inv .0 ∙ c .before .before .before .before .before .before .before .before .common .ensures .1 in
+    let right = sym (drop-next w k (k + 1) refl (c .before .before .if1 .left)) in (
+      same (rest a (loop .p)) (drop k w) (x .0 .0) (rest a (x .0 .1 .0)) (getD w k 0) (drop (k + 1) w) left right (c .if2 .left) ∙ loop .inv .0,
+      subst (Falls a (loop .p)) (x .1) (next .ensures .1) .0,
+    )
+
+pub has-spec : {M : Type 1} → statement M
+has-spec =
+    tie.close
+    (tie.spec
+    Inv-loop
+    μ-loop
+    common-requires
+    loop-holds
+    next-requires
+    enum-known-x
+    enum-told
+    returns
+    returns-2
+    shared-slice-read-if2
+    returns-3
+    add-k
+    loop-less
+    loop-again)

@@ -1,0 +1,345 @@
+// Strings compared by their spellings, the octets between the quotation marks, escapes undone on the way.
+ghost use mathlib.Core.Path.{_≡_};
+ghost use Prim.Native.Nat.{_-_, _≤_, _<_};
+ghost use lib.ListN.{drop};
+ghost use Rattle.json.specs.Strings.{hexDigit, escapePoint, combined, unit, isHigh};
+ghost use Rattle.json.specs.Spellings.{equal, alike, has};
+ghost use Rattle.json.specs.Utf8.{pick, sixBits};
+ghost use Rattle.json.specs.Cursors.{undoAt, rest, told, Falls, pendingOf, encoded};
+
+// Where in a spelling we are, between characters: a first half that stands directly before, or 0; and of the code point that
+// the last escape said, how many octets are still to come.
+pub struct Cursor {
+    pub at: usize,
+    pub half: u32,
+    pub point: u32,
+    pub left: u8,
+}
+
+// The next octet after undoing escapes and the cursor behind it, or that none is to come.
+pub enum Octet {
+    Next(u8, Cursor),
+    End,
+}
+
+// The difference; 0 where there is none.
+fn less(a: u32, b: u32) -> u32
+    ensures { λ r. ⌜ r ≡ a - b ⌝ }
+{
+    if a < b {
+        return 0;
+    }
+    a - b
+}
+
+// What an octet says as a hexadecimal digit.
+fn hex_value(c: u8) -> u32
+    ensures { λ r. ⌜ (r ≡ hexDigit c) × (r ≤ 168) ⌝ }
+{
+    if c <= 57 {
+        return less(c as u32, 48);
+    }
+    if c <= 70 {
+        return less(c as u32, 55);
+    }
+    less(c as u32, 87)
+}
+
+// What four octets say as hexadecimal digits.
+fn unit_of(a: u8, b: u8, c: u8, d: u8) -> u32
+    ensures { λ r. ⌜ (r ≡ unit a b c d) × (r < 1048576) ⌝ }
+{
+    let first = hex_value(a);
+    let next = hex_value(b);
+    let more = hex_value(c);
+    let last = hex_value(d);
+    ((first * 16 + next) * 16 + more) * 16 + last
+}
+
+// What a backslash and an octet other than u stand for.
+fn escape_point(c: u8) -> u8
+    ensures { λ r. ⌜ r ≡ escapePoint c ⌝ }
+{
+    if c == 98 {
+        return 8;
+    }
+    if c == 102 {
+        return 12;
+    }
+    if c == 110 {
+        return 10;
+    }
+    if c == 114 {
+        return 13;
+    }
+    if c == 116 {
+        return 9;
+    }
+    c
+}
+
+// A first half, or 0.
+fn waiting(u: u32) -> u32
+    ensures { λ r. ⌜ (r ≡ pick (isHigh u) u 0) × (r ≤ 56319) ⌝ }
+{
+    if u < 55296 {
+        return 0;
+    }
+    if 56319 < u {
+        return 0;
+    }
+    u
+}
+
+// The code point that two halves stand for.
+fn combine(h: u32, l: u32) -> u32
+    requires { ⌜ (h ≤ 56319) × (l < 1048576) ⌝ }
+    ensures { λ r. ⌜ (r ≡ combined h l) × (r < 4194304) ⌝ }
+{
+    let high = less(h, 55296);
+    let low = less(l, 56320);
+    65536 + high * 1024 + low
+}
+
+// An octet with the lowest six bits.
+fn six_bits(n: u32) -> u8
+    ensures { λ r. ⌜ r ≡ sixBits n ⌝ }
+{
+    (128 + n % 64) as u8
+}
+
+// The first octet of a code point, and the cursor before the others.
+fn encode_first(at: usize, half: u32, n: u32) -> Octet
+    requires { ⌜ n < 4194304 ⌝ }
+    ensures { λ r. ⌜ r ≡ encoded at half n ⌝ }
+{
+    if n <= 127 {
+        return Octet::Next(
+            n as u8,
+            Cursor {
+                at,
+                half,
+                point: n,
+                left: 0,
+            },
+        );
+    }
+    if n <= 2047 {
+        return Octet::Next(
+            (192 + n / 64) as u8,
+            Cursor {
+                at,
+                half,
+                point: n,
+                left: 1,
+            },
+        );
+    }
+    if n <= 65535 {
+        return Octet::Next(
+            (224 + n / 4096) as u8,
+            Cursor {
+                at,
+                half,
+                point: n,
+                left: 2,
+            },
+        );
+    }
+    Octet::Next(
+        (240 + n / 262144) as u8,
+        Cursor {
+            at,
+            half,
+            point: n,
+            left: 3,
+        },
+    )
+}
+
+impl Cursor {
+    // One of the octets of a code point that are still to come.
+    fn pending(self) -> Octet
+        requires { ⌜ 0 < self .left ⌝ }
+        ensures { λ r. ⌜ r ≡ pendingOf self ⌝ }
+    {
+        let at = self.at;
+        let half = self.half;
+        let point = self.point;
+        let left = self.left;
+        if left == 1 {
+            return Octet::Next(
+                six_bits(point),
+                Cursor {
+                    at,
+                    half,
+                    point,
+                    left: 0,
+                },
+            );
+        }
+        if left == 2 {
+            return Octet::Next(
+                six_bits(point / 64),
+                Cursor {
+                    at,
+                    half,
+                    point,
+                    left: 1,
+                },
+            );
+        }
+        Octet::Next(
+            six_bits(point / 4096),
+            Cursor {
+                at,
+                half,
+                point,
+                left: 2,
+            },
+        )
+    }
+
+    // The next octet of a spelling.
+    fn next(self, s: &[u8]) -> Octet
+        requires { ⌜ self .half ≤ 56319 ⌝ }
+        ensures { λ r. ⌜ told (now (s .entry)) r ≡ rest (now (s .entry)) self ⌝ }
+        ensures { λ r. ⌜ Falls (now (s .entry)) self r ⌝ }
+    {
+        if 0 < self.left {
+            return self.pending();
+        }
+        let n = s.len();
+        let mut at = self.at;
+        let mut half = self.half;
+        while at < n {
+            let c = s[at];
+            if c != 92 {
+                return Octet::Next(
+                    c,
+                    Cursor {
+                        at: at + 1,
+                        half: 0,
+                        point: 0,
+                        left: 0,
+                    },
+                );
+            }
+            if n - at < 2 {
+                return Octet::End;
+            }
+            let e = s[at + 1];
+            if e != 117 {
+                return Octet::Next(
+                    escape_point(e),
+                    Cursor {
+                        at: at + 2,
+                        half: 0,
+                        point: 0,
+                        left: 0,
+                    },
+                );
+            }
+            if n - at < 6 {
+                return Octet::End;
+            }
+            let u = unit_of(s[at + 2], s[at + 3], s[at + 4], s[at + 5]);
+            let waits = waiting(u);
+            at += 6;
+            if half != 0 {
+                return encode_first(at, waits, combine(half, u));
+            }
+            if waits == 0 {
+                return encode_first(at, 0, u);
+            }
+            half = waits;
+        }
+        Octet::End
+    }
+}
+
+// How many octets both begin with, none of them a backslash: these stand for themselves.
+fn common(a: &[u8], b: &[u8]) -> usize
+    ensures { λ r. ⌜ equal (undoAt (now (a .entry)) 0 r) (undoAt (now (b .entry)) 0 r) ≡ alike (now (a .entry)) (now (b .entry)) ⌝ }
+    ensures { λ r. ⌜ equal (undoAt (now (a .entry)) 0 r) (drop r (now (b .entry))) ≡ has (now (a .entry)) (now (b .entry)) ⌝ }
+{
+    let mut k: usize = 0;
+    while k < a.len() {
+        if b.len() <= k {
+            return k;
+        }
+        let c = a[k];
+        if c != b[k] {
+            return k;
+        }
+        if c == 92 {
+            return k;
+        }
+        k += 1;
+    }
+    k
+}
+
+// Whether two spellings say the same.
+pub fn alike(a: &[u8], b: &[u8]) -> bool
+    ensures { λ r. ⌜ r ≡ alike (now (a .entry)) (now (b .entry)) ⌝ }
+{
+    let k = common(a, b);
+    let mut p = Cursor {
+        at: k,
+        half: 0,
+        point: 0,
+        left: 0,
+    };
+    let mut q = Cursor {
+        at: k,
+        half: 0,
+        point: 0,
+        left: 0,
+    };
+    loop {
+        let x = p.next(a);
+        let y = q.next(b);
+        let Octet::Next(c, after) = x else {
+            let Octet::End = y else {
+                return false;
+            };
+            return true;
+        };
+        let Octet::Next(d, behind) = y else {
+            return false;
+        };
+        if c != d {
+            return false;
+        }
+        p = after;
+        q = behind;
+    }
+}
+
+// Whether a spelling has the octets w.
+pub fn has(a: &[u8], w: &[u8]) -> bool
+    ensures { λ r. ⌜ r ≡ has (now (a .entry)) (now (w .entry)) ⌝ }
+{
+    let mut k = common(a, w);
+    let mut p = Cursor {
+        at: k,
+        half: 0,
+        point: 0,
+        left: 0,
+    };
+    loop {
+        let x = p.next(a);
+        let Octet::Next(c, after) = x else {
+            return w.len() <= k;
+        };
+        if w.len() <= k {
+            return false;
+        }
+        if c != w[k] {
+            return false;
+        }
+        p = after;
+        k += 1;
+    }
+}
