@@ -36,3 +36,4 @@ pub mod Here
 pub mod NumberParts
 pub mod StringParts
 pub mod ValueParts
+pub mod MemberParts

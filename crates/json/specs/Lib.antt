@@ -7,3 +7,4 @@ pub mod Spellings
 pub mod Reader
 pub mod Readings
 pub mod Ends
+pub mod Members

@@ -7,6 +7,7 @@ ghost use Rattle.json.specs.Reader.{octetAt, step, skip, skipSpace};
 mod number;
 mod string;
 mod value;
+mod member;
 
 // A position in a text: it moves by methods that take it and give the next one.
 pub struct Position {
