@@ -39,3 +39,4 @@ pub mod Utf8Parts
 pub mod ValueParts
 pub mod Cursors
 pub mod Compare
+pub mod MemberParts

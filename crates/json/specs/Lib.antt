@@ -9,3 +9,4 @@ pub mod Readings
 pub mod Ends
 pub mod Utf8Parts
 pub mod Cursors
+pub mod Members

@@ -10,6 +10,7 @@ pub mod spelling;
 mod string;
 mod utf8;
 mod value;
+mod member;
 
 // A position in a text: it moves by methods that take it and give the next one.
 pub struct Position {
