@@ -91,7 +91,7 @@ fn outside(c: u8) -> bool
 // How many characters are outside the alphabet. The loop has no other exit and the count is an octet, so that sixteen
 // characters are done at a time.
 fn count_outside(block: &[u8]) -> u8
-    requires { ⌜ length (now block) ≤ 64 ⌝ }
+    requires { ⌜ length (now block) ≤ 192 ⌝ }
     ensures { λ r. ⌜ r ≡ countOutside (now (block .entry)) ⌝ }
 {
     let mut count: u8 = 0;
@@ -111,8 +111,8 @@ fn in_alphabet(text: &[u8]) -> bool
 {
     let n = text.len();
     let mut i: usize = 0;
-    while 64 <= n - i {
-        let e = i + 64;
+    while 192 <= n - i {
+        let e = i + 192;
         if count_outside(&text[i..e]) != 0 {
             return false;
         }

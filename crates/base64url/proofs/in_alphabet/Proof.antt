@@ -44,7 +44,7 @@ returns c =
     let at = c .before .before .before .before .loop in
     let text = c .before .before .before .before .before .before .args .text .now in
     let found = c .before .count-outside in
-    sym (ne-eqb (countOutside text) 0 (some-found text (at .i) (at .i + 64) (omega arith) (at .inv .1) (found .result) (found .ensures) (c .if1 .taken)))
+    sym (ne-eqb (countOutside text) 0 (some-found text (at .i) (at .i + 192) (omega arith) (at .inv .1) (found .result) (found .ensures) (c .if1 .taken)))
 
 loop-less : tie.Need-loop-less Inv-loop μ-loop
 loop-less c = search needs
@@ -54,7 +54,7 @@ loop-again c =
     let at = c .before .before .before .before .loop in
     let text = c .before .before .before .before .before .before .args .text .now in
     let found = c .before .count-outside in
-    (omega arith, none-found text (at .i) (at .i + 64) (omega arith) (at .inv .1) (found .result) (found .ensures) (c .if1 .left))
+    (omega arith, none-found text (at .i) (at .i + 192) (omega arith) (at .inv .1) (found .result) (found .ensures) (c .if1 .left))
 
 sub-count-outside-2 : tie.Need-sub-count-outside-2 Inv-loop μ-loop
 sub-count-outside-2 c = search needs
