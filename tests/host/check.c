@@ -26,15 +26,14 @@ static int check(const char *name, int holds, const char *condition)
     return holds;
 }
 
-/* Lent memory. The sanitizers do not see what the archive's code does, so a buffer also stands against pages that nothing
- * may touch: an octet read or written beyond its end, or before its start, stops the program. */
+/* Lent memory. The sanitizers do not see what the archive's code does, so a buffer also stands against pages that
+ * nothing may touch: an octet read or written beyond its end, or before its start, stops the program. */
 enum place { BEFORE_FENCE, AFTER_FENCE, MALLOC, PLACES };
 
 static const char *const place_names[PLACES] = {"before a fence", "after a fence", "malloc"};
 
 struct lent {
     uint8_t *start;
-    size_t length;
     uint8_t *map;
     size_t span;
 };
@@ -51,14 +50,14 @@ static void *must(void *memory)
 static struct lent lend(enum place place, size_t length)
 {
     if (place == MALLOC)
-        return (struct lent){must(malloc(length)), length, NULL, 0};
+        return (struct lent){must(malloc(length)), NULL, 0};
     size_t page = (size_t)sysconf(_SC_PAGESIZE);
     size_t pages = (length + page - 1) / page * page;
     size_t span = pages + 2 * page;
     uint8_t *map = must(mmap(NULL, span, PROT_NONE, MAP_PRIVATE | MAP_ANONYMOUS, -1, 0));
     if (pages > 0 && mprotect(map + page, pages, PROT_READ | PROT_WRITE) != 0)
         must(NULL);
-    return (struct lent){map + page + (place == BEFORE_FENCE ? pages - length : 0), length, map, span};
+    return (struct lent){map + page + (place == BEFORE_FENCE ? pages - length : 0), map, span};
 }
 
 static void give_back(struct lent lent)
@@ -99,13 +98,13 @@ static void try_once(const char *name, const uint8_t *text, size_t length, struc
     good &= CHECK(name, all_are(out.start + n, room - n, paint));
     good &= CHECK(name, length == 0 || memcmp(in.start, text, length) == 0);
     if (!good)
-        printf("       %zu characters, buffer of %zu octets, %s, painted %#x: expected %u and %zu octets, got %u and %zu\n",
+        printf("       %zu characters, buffer of %zu, %s, painted %#x: expected %u and %zu octets, got %u and %zu\n",
                length, room, place_names[place], paint, (unsigned)refusal, n, (unsigned)got, octets);
     give_back(in);
     give_back(out);
 }
 
-/* One case: in each place over both paints; in one place over one paint where the text is so long that it takes time. */
+/* One case: in each place over both paints; in one place over one paint where a text is so long that it takes time. */
 static void try_rooms(const char *name, const void *text, size_t length, struct answer answer, const size_t *rooms,
                       size_t count)
 {
@@ -237,8 +236,8 @@ static void every_character(void)
     }
 }
 
-/* These many octets, then the same text with a fault at its start, in its middle and at its end, and one character more or
- * less where that makes the length 1 modulo 4. */
+/* So many octets; then their text with a fault at its start, in its middle and at its end; and the nearest length that
+ * is 1 modulo 4. */
 static void long_text(size_t n)
 {
     uint8_t *octets = must(malloc(n));
@@ -284,11 +283,12 @@ static void every_short_length(void)
 static void no_length_is_cut(void)
 {
     const size_t bits16 = (size_t)1 << 16, bits32 = (size_t)1 << 32;
+    const int reserved_late = MAP_PRIVATE | MAP_ANONYMOUS | MAP_NORESERVE;
     const size_t rooms[] = {bits16 - 1, bits16, bits16 + 2};
     try_rooms("buffers about 2^16", "Zm9v", 4, (struct answer){JWE_OK, (const uint8_t *)"foo", 3}, rooms, 3);
 
     size_t octets = 0;
-    uint8_t *out = must(mmap(NULL, bits32 + 2, PROT_READ | PROT_WRITE, MAP_PRIVATE | MAP_ANONYMOUS | MAP_NORESERVE, -1, 0));
+    uint8_t *out = must(mmap(NULL, bits32 + 2, PROT_READ | PROT_WRITE, reserved_late, -1, 0));
     CHECK("a buffer of 2^32 + 2", jwe_decode((const uint8_t *)"Zm9v", 4, out, bits32 + 2, &octets) == JWE_OK);
     CHECK("a buffer of 2^32 + 2", octets == 3 && memcmp(out, "foo", 3) == 0 && out[3] == 0);
     munmap(out, bits32 + 2);
@@ -296,7 +296,7 @@ static void no_length_is_cut(void)
     /* The same 16 MiB of A, one mapping after the other, and no more memory than that. */
     const size_t piece = (size_t)1 << 24;
     int file = memfd_create("A", 0);
-    uint8_t *text = must(mmap(NULL, bits32 + piece, PROT_NONE, MAP_PRIVATE | MAP_ANONYMOUS | MAP_NORESERVE, -1, 0));
+    uint8_t *text = must(mmap(NULL, bits32 + piece, PROT_NONE, reserved_late, -1, 0));
     if (file < 0 || ftruncate(file, (off_t)piece) != 0)
         must(NULL);
     for (size_t i = 0; i <= bits32; i += piece)

@@ -1,8 +1,8 @@
 /* Decodes one component of a message: base64url on standard input, its octets on standard output.
  *
- * The whole input is the component, a newline at its end too: a text that has one is refused. Refused, `refused N` and LF
- * are written, with a number of docs/REFUSALS.md, and the exit status is 1. Trouble with the files or the memory is told
- * on standard error, and the status is 2. */
+ * The whole input is the component, so a text with a newline at its end is refused. Refused, the program writes
+ * `refused N` and LF, with a number of docs/REFUSALS.md, and exits 1. Trouble with files or memory is told on standard
+ * error, and then it exits 2. */
 #include "jwe_gateway.h"
 
 #include <stdio.h>

@@ -1,5 +1,5 @@
-/* Measures the stack that jwe_decode, check and encode use: they run on a stack of their own that was painted before, and
- * the lowest octet that lost its paint shows how deep they went. Fails above 8 KiB.
+/* Measures the stack that jwe_decode, check and encode use: they run on a stack of their own that was painted before,
+ * and the lowest octet that lost its paint shows how deep they went. Fails above 8 KiB.
  *
  * Not built with the sanitizers, which use the stack themselves. */
 #define _GNU_SOURCE
@@ -106,8 +106,8 @@ static size_t larger(size_t a, size_t b)
 static int report(const char *name, size_t most_short, size_t most_long)
 {
     int good = larger(most_short, most_long) <= LIMIT;
-    printf("stack: %-10s %5zu octets for 16 MiB, at most %zu for up to %d octets%s\n", name, most_long, most_short, SHORT,
-           good ? "" : ": FAILED, more than 8 KiB");
+    printf("stack: %-10s %5zu octets for 16 MiB, at most %zu for up to %d octets%s\n", name, most_long, most_short,
+           SHORT, good ? "" : ": FAILED, more than 8 KiB");
     return good;
 }
 

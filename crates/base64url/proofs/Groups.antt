@@ -100,7 +100,8 @@ octets-of-three (p ∷ q ∷ r ∷ []) e = refl
 octets-of-three (p ∷ q ∷ r ∷ t ∷ rest) e = absurd (omega (arith, e))
 
 pub octets-of-four : (s : List ℕ) → length s ≡ 4
-    → octets s ≡ (getD s 0 0 * 4 + getD s 1 0 / 16) ∷ (getD s 1 0 % 16 * 16 + getD s 2 0 / 4) ∷ (getD s 2 0 % 4 * 64 + getD s 3 0) ∷ []
+    → octets s
+    ≡ (getD s 0 0 * 4 + getD s 1 0 / 16) ∷ (getD s 1 0 % 16 * 16 + getD s 2 0 / 4) ∷ (getD s 2 0 % 4 * 64 + getD s 3 0) ∷ []
 unfolding octets
 octets-of-four [] e = absurd (omega (arith, e))
 octets-of-four (p ∷ []) e = absurd (omega (arith, e))
@@ -131,7 +132,9 @@ sextets-of-two (a ∷ b ∷ []) e = refl
 sextets-of-two (a ∷ b ∷ c ∷ rest) e = absurd (omega (arith, e))
 
 pub sextets-of-three : (s : List ℕ) → length s ≡ 3
-    → sextets s ≡ (getD s 0 0 / 4) ∷ (getD s 0 0 % 4 * 16 + getD s 1 0 / 16) ∷ (getD s 1 0 % 16 * 4 + getD s 2 0 / 64) ∷ (getD s 2 0 % 64) ∷ []
+    → sextets s
+    ≡ (getD s 0 0 / 4) ∷ (getD s 0 0 % 4 * 16 + getD s 1 0 / 16)
+    ∷ (getD s 1 0 % 16 * 4 + getD s 2 0 / 64) ∷ (getD s 2 0 % 64) ∷ []
 unfolding sextets
 sextets-of-three [] e = absurd (omega (arith, e))
 sextets-of-three (a ∷ []) e = absurd (omega (arith, e))

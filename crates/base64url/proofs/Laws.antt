@@ -6,7 +6,8 @@ use Prim.Native.Nat.{ℕ, _*_, _/_}
 use lib.ListN.{length, length-map}
 use Rattle.prelude.specs.Ascii.{ascii}
 use Rattle.prelude.specs.Buffer.{AllBelow}
-use Rattle.base64url.specs.Base64url.{alphabet, character, placeIn, sixBits, sextets, octets, encoded, decoded, encodedLength}
+use Rattle.base64url.specs.Base64url.{alphabet, character, placeIn, sixBits, sextets, octets, encoded, decoded}
+use Rattle.base64url.specs.Base64url.{encodedLength}
 use Rattle.base64url.specs.Fault.{none, firstOutside, spareBits, fault}
 use Rattle.base64url.specs.Answers.{decodeAnswer}
 use Rattle.base64url.specs.Samples.{Row, answer, samples}

@@ -1,5 +1,5 @@
-// Base64url without padding (RFC 4648 section 5): check, decode and encode. What each function answers stands in specs/:
-// `Base64url` has the alphabet and the groups, `Fault` what is wrong with a text, `Answers` the answers and the buffers.
+// Base64url without padding (RFC 4648 section 5): check, decode and encode. What each function answers stands in
+// specs/: `Base64url` has the alphabet and the groups, `Fault` what is wrong with a text, `Answers` the answers.
 ghost use mathlib.Core.Path.{_≡_};
 ghost use Prim.Native.Nat.{_+_, _-_, _*_, _/_, _%_, _^_, _≤_, _<_, min};
 ghost use mathlib.Core.Bool.{true, false, cond};
@@ -9,7 +9,7 @@ ghost use lib.Dec.{leb, eqb};
 ghost use Rattle.prelude.specs.Buffer.{AllBelow, written};
 ghost use Rattle.base64url.specs.Base64url.{character, sixBits, sextets, octets, encoded, decoded, encodedLength};
 ghost use Rattle.base64url.specs.Fault.{countOutside, spareBits, fault, none};
-ghost use Rattle.base64url.specs.Answers.{checkAnswer, decodeAnswer, decodeInto, encodeAnswer, encodeInto};
+ghost use Rattle.base64url.specs.Answers.{checkAnswer, decodeAnswer, decodeBuffer, encodeAnswer, encodeBuffer};
 
 // Whether a text is base64url.
 pub enum Checked {
@@ -41,8 +41,8 @@ fn choose(first: bool, a: u8, b: u8) -> u8
     if first { a } else { b }
 }
 
-// The six bits of a character, or 64: the one place that turns a character into its value. Each range has a number that,
-// added modulo 64, makes a character its value.
+// The six bits of a character, or 64: the one place that turns a character into its value. Each range has a number
+// that, added modulo 64, makes a character its value.
 fn six_bits(c: u8) -> u8
     ensures { λ r. ⌜ r ≡ sixBits c ⌝ }
 {
@@ -91,7 +91,7 @@ fn outside(c: u8) -> bool
 // How many characters are outside the alphabet. The loop has no other exit and the count is an octet, so that sixteen
 // characters are done at a time.
 fn count_outside(block: &[u8]) -> u8
-    requires { ⌜ length (now block) ≤ 64 ⌝ }
+    requires { ⌜ length (now block) ≤ 192 ⌝ }
     ensures { λ r. ⌜ r ≡ countOutside (now (block .entry)) ⌝ }
 {
     let mut count: u8 = 0;
@@ -111,8 +111,8 @@ fn in_alphabet(text: &[u8]) -> bool
 {
     let n = text.len();
     let mut i: usize = 0;
-    while 64 <= n - i {
-        let e = i + 64;
+    while 192 <= n - i {
+        let e = i + 192;
         if count_outside(&text[i..e]) != 0 {
             return false;
         }
@@ -153,7 +153,8 @@ pub fn check(text: &[u8]) -> Checked
 
 // Lengths
 
-// How many characters n octets make, floor((4n+2)/3), or the largest number where that does not fit: no slice is so long.
+// How many characters n octets make, floor((4n+2)/3), or the largest number where that does not fit. No slice is so
+// long that it is met.
 pub fn encoded_length(n: usize) -> usize
     ensures { λ r. ⌜ r ≡ min (encodedLength n) (2 ^ 64 - 1) ⌝ }
 {
@@ -293,7 +294,7 @@ fn decode_at(text: &[u8], out: &mut [u8], at: usize) -> usize
 // Decodes a text into out: document 01's 5, then 1 if out is shorter than the octets. Refused, out is as it was.
 pub fn decode(text: &[u8], out: &mut [u8]) -> Decoded
     ensures { λ r. ⌜ r ≡ decodeAnswer (now (text .entry)) (length (now (out .entry))) ⌝ }
-    ensures { λ r. ⌜ now (out .exit) ≡ decodeInto r (now (text .entry)) (now (out .entry)) ⌝ }
+    ensures { λ _. ⌜ now (out .exit) ≡ decodeBuffer (now (text .entry)) (now (out .entry)) ⌝ }
 {
     let Checked::Sound = check(text) else {
         return Decoded::Misspelled;
@@ -420,7 +421,7 @@ fn encode_at(octets: &[u8], out: &mut [u8], at: usize) -> usize
 // Encodes octets into out from a position on: document 01's 1 where the text does not fit, and then out is as it was.
 pub fn encode(octets: &[u8], out: &mut [u8], at: usize) -> Encoded
     ensures { λ r. ⌜ r ≡ encodeAnswer (now (octets .entry)) at (length (now (out .entry))) ⌝ }
-    ensures { λ r. ⌜ now (out .exit) ≡ encodeInto r (now (octets .entry)) at (now (out .entry)) ⌝ }
+    ensures { λ _. ⌜ now (out .exit) ≡ encodeBuffer (now (octets .entry)) at (now (out .entry)) ⌝ }
 {
     if out.len() < at {
         return Encoded::Full;

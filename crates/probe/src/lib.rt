@@ -1,9 +1,10 @@
-// What the tests and the bench call of base64url beside the host's own functions. The gateway does not link this archive.
+// What the tests and the bench call of base64url beside the host's own functions. The gateway does not link this.
 ghost use mathlib.Core.Path.{_≡_};
 ghost use Prim.Native.Nat.{_-_, _^_, min};
 ghost use lib.ListN.{length};
 ghost use Rattle.base64url.specs.Base64url.{encodedLength};
-ghost use Rattle.base64url.specs.Answers.{checkRefusal, checkAnswer, encodeRefusal, encodeNext, encodeAnswer, encodeInto};
+ghost use Rattle.base64url.specs.Answers.{checkRefusal, checkAnswer, encodeRefusal, encodeNext, encodeAnswer};
+ghost use Rattle.base64url.specs.Answers.{encodeBuffer};
 use base64url::Checked;
 use base64url::Encoded;
 
@@ -32,7 +33,7 @@ pub extern "C" fn probe_encoded_length(n: usize) -> usize
 pub extern "C" fn probe_encode(octets: &[u8], out: &mut [u8], at: usize, end: &mut usize) -> u32
     ensures { λ r. ⌜ r ≡ encodeRefusal (encodeAnswer (now (octets .entry)) at (length (now (out .entry)))) ⌝ }
     ensures { λ _. ⌜ now (end .exit) ≡ encodeNext (encodeAnswer (now (octets .entry)) at (length (now (out .entry)))) ⌝ }
-    ensures { λ _. ⌜ now (out .exit) ≡ encodeInto (encodeAnswer (now (octets .entry)) at (length (now (out .entry)))) (now (octets .entry)) at (now (out .entry)) ⌝ }
+    ensures { λ _. ⌜ now (out .exit) ≡ encodeBuffer (now (octets .entry)) at (now (out .entry)) ⌝ }
 {
     let answer = base64url::encode(octets, out, at);
     match answer {

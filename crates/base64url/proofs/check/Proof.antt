@@ -19,7 +19,8 @@ returns c =
 returns-2 : tie.Need-returns-2
 returns-2 c =
     let text = c .before .before .before .before .args .text .now in
-    let none = eqb-true (countOutside text) 0 (sym (c .before .before .in-alphabet .ensures) ∙ not-false _ (c .before .if1 .left)) in
+    let found = sym (c .before .before .in-alphabet .ensures) ∙ not-false _ (c .before .if1 .left) in
+    let none = eqb-true (countOutside text) 0 found in
     checked-lone text none (c .if2 .taken)
 
 spare-bits-requires : tie.Need-spare-bits-requires
@@ -28,13 +29,16 @@ spare-bits-requires c κs = search needs
 returns-3 : tie.Need-returns-3
 returns-3 c =
     let text = c .before .before .before .before .before .before .args .text .now in
-    let none = eqb-true (countOutside text) 0 (sym (c .before .before .before .before .in-alphabet .ensures) ∙ not-false _ (c .before .before .before .if1 .left)) in
-    checked-spare text none (c .before .before .if2 .left) (λ zero. c .if3 .taken (c .before .spare-bits .ensures ∙ zero))
+    let inside = c .before .before .before .before .in-alphabet .ensures in
+    let none = eqb-true (countOutside text) 0 (sym inside ∙ not-false _ (c .before .before .before .if1 .left)) in
+    let spare = c .before .spare-bits .ensures in
+    checked-spare text none (c .before .before .if2 .left) (λ zero. c .if3 .taken (spare ∙ zero))
 
 returns-4 : tie.Need-returns-4
 returns-4 c =
     let text = c .before .before .before .before .before .before .args .text .now in
-    let none = eqb-true (countOutside text) 0 (sym (c .before .before .before .before .in-alphabet .ensures) ∙ not-false _ (c .before .before .before .if1 .left)) in
+    let inside = c .before .before .before .before .in-alphabet .ensures in
+    let none = eqb-true (countOutside text) 0 (sym inside ∙ not-false _ (c .before .before .before .if1 .left)) in
     checked-sound text none (c .before .before .if2 .left) (sym (c .before .spare-bits .ensures) ∙ c .if3 .left)
 
 pub check-spec : {M : Type 1} → statement M

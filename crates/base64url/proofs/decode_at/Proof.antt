@@ -5,7 +5,7 @@ use mathlib.Core.List.{List, [], map}
 use native.Mathlib.Omega.{arith}
 use lib.ListN.{length, take, drop, length-take, length-drop, drop-of-length-le}
 use Rattle.prelude.specs.Buffer.{AllBelow}
-use Rattle.prelude.proofs.Lists.{below-take, below-drop, map-part}
+use Rattle.prelude.proofs.Lists.{below-part, map-part}
 use Rattle.prelude.proofs.Writing.{Writing, begin, put-part, room-part, ended}
 use Rattle.base64url.specs.Base64url.{sixBits, octets, decoded}
 use Rattle.base64url.proofs.Groups.{decoded-block}
@@ -14,7 +14,8 @@ use Rattle.base64url.proofs.decode_at.Statement.{statement}
 use Rattle.base64url.proofs.decode_at.Tie as tie
 
 abbrev Inv-loop : tie.InvT-loop
-Inv-loop text out₀ at n i₀ j₀ out i j = (i ≤ length text) × Writing at (decoded text) out₀ (decoded (drop i text)) j out
+Inv-loop text out₀ at n i₀ j₀ out i j =
+    (i ≤ length text) × Writing at (decoded text) out₀ (decoded (drop i text)) j out
 
 abbrev μ-loop : tie.MeasureT-loop
 μ-loop text out₀ at n i₀ j₀ out i j = length text - i
@@ -44,10 +45,13 @@ decode-block-requires c κs =
     let i = loop .i in
     let end = c .before .before .block-end in
     let e = end .result in
+    let part = take (e - i) (drop i text) in
     let parts = decoded-block text i e (loop .inv .0) (end .ensures) in
-    let size : length (take (e - i) (drop i text)) ≤ 256 = omega (arith, length-take (e - i) (drop i text), length-drop i text, end .ensures) in
-    let below = subst (AllBelow 64) (map-part sixBits text i (e - i)) (below-take 64 (e - i) (drop i (map sixBits text)) (below-drop 64 i (map sixBits text) (start .pre .0))) in
-    (size, (below, room-part (decoded (take (e - i) (drop i text))) (decoded (drop e text)) parts (loop .inv .1)))
+    let size : length part ≤ 256 =
+    omega (arith, length-take (e - i) (drop i text), length-drop i text, end .ensures) in
+    let values = below-part 64 (map sixBits text) i (e - i) (start .pre .0) in
+    let below = subst (AllBelow 64) (map-part sixBits text i (e - i)) values in
+    (size, (below, room-part (decoded part) (decoded (drop e text)) parts (loop .inv .1)))
 
 loop-less : tie.Need-loop-less Inv-loop μ-loop
 loop-less c = search needs
@@ -60,11 +64,12 @@ loop-again c =
     let i = loop .i in
     let end = c .before .before .before .before .before .block-end in
     let e = end .result in
+    let part = take (e - i) (drop i text) in
     let parts = decoded-block text i e (loop .inv .0) (end .ensures) in
-    let call = c .before .before .decode-block in (
-      omega (arith, end .ensures),
-      put-part (decoded (take (e - i) (drop i text))) (decoded (drop e text)) parts (loop .inv .1) (call .ensures .0) (call .ensures .1),
-    )
+    let call = c .before .before .decode-block in
+    let later = decoded (drop e text) in
+    let inside = end .ensures in
+    (omega (arith, inside), put-part (decoded part) later parts (loop .inv .1) (call .ensures .0) (call .ensures .1))
 
 same-length : tie.Need-same-length Inv-loop μ-loop
 same-length c = c .before .loop .inv .1 .same
@@ -74,8 +79,10 @@ unfolding decoded octets
 returns c =
     let loop = c .before .loop in
     let start = c .before .before .before .before in
-    let none : drop (loop .i) (start .args .text .now) ≡ [] = drop-of-length-le (start .args .text .now) (c .loop-test .left) in
-    ended (subst (λ (l : List ℕ). Writing (start .args .at) (decoded (start .args .text .now)) (start .args .out .now) (decoded l) (loop .j) (loop .out)) none (loop .inv .1))
+    let text = start .args .text .now in
+    let none : drop (loop .i) text ≡ [] = drop-of-length-le text (c .loop-test .left) in
+    let all = Writing (start .args .at) (decoded text) (start .args .out .now) in
+    ended (subst (λ (l : List ℕ). all (decoded l) (loop .j) (loop .out)) none (loop .inv .1))
 
 pub decode-at-spec : {M : Type 1} → statement M
 decode-at-spec =

@@ -12,7 +12,8 @@ use Rattle.base64url.proofs.encode_at.Statement.{statement}
 use Rattle.base64url.proofs.encode_at.Tie as tie
 
 abbrev Inv-loop : tie.InvT-loop
-Inv-loop octets out₀ at n i₀ j₀ out i j = (i ≤ length octets) × Writing at (encoded octets) out₀ (encoded (drop i octets)) j out
+Inv-loop octets out₀ at n i₀ j₀ out i j =
+    (i ≤ length octets) × Writing at (encoded octets) out₀ (encoded (drop i octets)) j out
 
 abbrev μ-loop : tie.MeasureT-loop
 μ-loop octets out₀ at n i₀ j₀ out i j = length octets - i
@@ -42,9 +43,11 @@ encode-block-requires c κs =
     let i = loop .i in
     let end = c .before .before .block-end in
     let e = end .result in
+    let part = take (e - i) (drop i octets) in
     let parts = encoded-block octets i e (loop .inv .0) (end .ensures) in
-    let size : length (take (e - i) (drop i octets)) ≤ 192 = omega (arith, length-take (e - i) (drop i octets), length-drop i octets, end .ensures) in
-    (size, room-part (encoded (take (e - i) (drop i octets))) (encoded (drop e octets)) parts (loop .inv .1))
+    let size : length part ≤ 192 =
+    omega (arith, length-take (e - i) (drop i octets), length-drop i octets, end .ensures) in
+    (size, room-part (encoded part) (encoded (drop e octets)) parts (loop .inv .1))
 
 loop-less : tie.Need-loop-less Inv-loop μ-loop
 loop-less c = search needs
@@ -57,11 +60,12 @@ loop-again c =
     let i = loop .i in
     let end = c .before .before .before .before .before .block-end in
     let e = end .result in
+    let part = take (e - i) (drop i octets) in
     let parts = encoded-block octets i e (loop .inv .0) (end .ensures) in
-    let call = c .before .before .encode-block in (
-      omega (arith, end .ensures),
-      put-part (encoded (take (e - i) (drop i octets))) (encoded (drop e octets)) parts (loop .inv .1) (call .ensures .0) (call .ensures .1),
-    )
+    let call = c .before .before .encode-block in
+    let later = encoded (drop e octets) in
+    let inside = end .ensures in
+    (omega (arith, inside), put-part (encoded part) later parts (loop .inv .1) (call .ensures .0) (call .ensures .1))
 
 same-length : tie.Need-same-length Inv-loop μ-loop
 same-length c = c .before .loop .inv .1 .same
@@ -71,8 +75,10 @@ unfolding encoded sextets
 returns c =
     let loop = c .before .loop in
     let start = c .before .before .before .before in
-    let none : drop (loop .i) (start .args .octets .now) ≡ [] = drop-of-length-le (start .args .octets .now) (c .loop-test .left) in
-    ended (subst (λ (l : List ℕ). Writing (start .args .at) (encoded (start .args .octets .now)) (start .args .out .now) (encoded l) (loop .j) (loop .out)) none (loop .inv .1))
+    let octets = start .args .octets .now in
+    let none : drop (loop .i) octets ≡ [] = drop-of-length-le octets (c .loop-test .left) in
+    let all = Writing (start .args .at) (encoded octets) (start .args .out .now) in
+    ended (subst (λ (l : List ℕ). all (encoded l) (loop .j) (loop .out)) none (loop .inv .1))
 
 pub encode-at-spec : {M : Type 1} → statement M
 encode-at-spec =

@@ -1,9 +1,10 @@
 -- `encode_block` writes a block's text: the local array's front holds the values, of which `characters` makes it.
-use Prim.Native.Nat.{ℕ}
+use Prim.Native.Nat.{ℕ, _+_}
 use mathlib.Core.Path.{_≡_, ap}
 use mathlib.Core.List.{List}
 use native.Mathlib.Omega.{arith}
 use lib.ListN.{length, take, replicate}
+use Rattle.prelude.specs.Buffer.{written}
 use Rattle.prelude.proofs.Lists.{all-below}
 use Rattle.prelude.proofs.Writing.{begins}
 use Rattle.base64url.specs.Base64url.{sextets, encoded}
@@ -14,6 +15,11 @@ use Rattle.base64url.proofs.encode_block.Tie as tie
 
 abbrev zeros : List ℕ
 zeros = replicate 256 0
+
+-- the front of the array that was lent to `split` holds the values
+values-stand : (octets : List ℕ) (n : ℕ) (last : List ℕ) → n ≡ 0 + length (sextets octets)
+    → last ≡ written 0 (sextets octets) zeros → take n last ≡ sextets octets
+values-stand octets n last e w = begins n (sextets octets) last zeros (omega arith) w
 
 slice-aggregate-split : tie.Need-slice-aggregate-split
 slice-aggregate-split c = search needs
@@ -40,7 +46,7 @@ slice-aggregate-characters c =
     let call = c .before .before .split in
     let n = call .result in
     let last = call .last .1 .0 in
-    let stand : take n last ≡ sextets octets = begins n (sextets octets) last zeros (omega (arith, call .ensures .0)) (call .ensures .1) in
+    let stand = values-stand octets n last (call .ensures .0) (call .ensures .1) in
     omega (arith, ap length stand, call .ensures .0)
 
 characters-requires : tie.Need-characters-requires
@@ -51,8 +57,9 @@ characters-requires c κs =
     let call = c .before .before .before .split in
     let n = call .result in
     let last = call .last .1 .0 in
-    let stand : take n last ≡ sextets octets = begins n (sextets octets) last zeros (omega (arith, call .ensures .0)) (call .ensures .1) in
-    let below = sextets-below octets (all-below 256 octets (λ k l. omega (arith, c .before .before .before .before .before .before .shared-slice-known .given k))) in
+    let stand = values-stand octets n last (call .ensures .0) (call .ensures .1) in
+    let known = c .before .before .before .before .before .before .shared-slice-known .given in
+    let below = sextets-below octets (all-below 256 octets (λ k l. omega (arith, known k))) in
     rw stand (below, start .pre .1)
 
 same-length : tie.Need-same-length
@@ -66,7 +73,7 @@ returns c =
     let call = c .before .before .before .before .before .before .split in
     let n = call .result in
     let last = call .last .1 .0 in
-    let stand : take n last ≡ sextets octets = begins n (sextets octets) last zeros (omega (arith, call .ensures .0)) (call .ensures .1) in
+    let stand = values-stand octets n last (call .ensures .0) (call .ensures .1) in
     rw stand at (c .before .before .characters .ensures)
 
 pub encode-block-spec : {M : Type 1} → statement M

@@ -1,11 +1,10 @@
 -- `pack` writes the octets of values: group by group, and then what is left.
 use Prim.Native.Nat.{_+_, _-_, _≤_, _<_}
-use mathlib.Core.Path.{_≡_, ap, sym, _∙_}
-use mathlib.Core.List.{[], _++_, append-nil}
+use mathlib.Core.Path.{_≡_, _∙_}
+use mathlib.Core.List.{[]}
 use native.Mathlib.Omega.{arith}
 use lib.ListN.{length, take, drop, length-take, length-drop}
-use lib.Seq.{take-all}
-use Rattle.prelude.proofs.Lists.{below-take, below-drop}
+use Rattle.prelude.proofs.Lists.{below-part, rest-part}
 use Rattle.prelude.proofs.Writing.{Writing, begin, put-part, room-part, ended}
 use Rattle.base64url.specs.Base64url.{octets}
 use Rattle.base64url.proofs.Groups.{octets-group}
@@ -14,7 +13,8 @@ use Rattle.base64url.proofs.pack.Statement.{statement}
 use Rattle.base64url.proofs.pack.Tie as tie
 
 abbrev Inv-loop : tie.InvT-loop
-Inv-loop six out₀ at n k₀ j₀ out k j = (k ≤ length six) × Writing at (octets six) out₀ (octets (drop k six)) j out
+Inv-loop six out₀ at n k₀ j₀ out k j =
+    (k ≤ length six) × Writing at (octets six) out₀ (octets (drop k six)) j out
 
 abbrev μ-loop : tie.MeasureT-loop
 μ-loop six out₀ at n k₀ j₀ out k j = length six - k
@@ -45,9 +45,11 @@ pack-four-requires c κs =
     let loop = c .before .before .before .loop in
     let six = start .args .six .now in
     let k = loop .k in
+    let part = take (k + 4 - k) (drop k six) in
     let parts = octets-group six k (k + 4) (omega arith) (omega arith) in
-    let size : length (take (k + 4 - k) (drop k six)) ≡ 4 = length-take (k + 4 - k) (drop k six) ∙ omega (arith, length-drop k six) in
-    (size, (below-take 64 (k + 4 - k) (drop k six) (below-drop 64 k six (start .pre .0)), room-part (octets (take (k + 4 - k) (drop k six))) (octets (drop (k + 4) six)) parts (loop .inv .1)))
+    let size : length part ≡ 4 = length-take (k + 4 - k) (drop k six) ∙ omega (arith, length-drop k six) in
+    let below = below-part 64 six k (k + 4 - k) (start .pre .0) in
+    (size, (below, room-part (octets part) (octets (drop (k + 4) six)) parts (loop .inv .1)))
 
 loop-less : tie.Need-loop-less Inv-loop μ-loop
 loop-less c = search needs
@@ -58,9 +60,11 @@ loop-again c =
     let loop = c .before .before .before .before .before .before .loop in
     let six = start .args .six .now in
     let k = loop .k in
+    let part = take (k + 4 - k) (drop k six) in
     let parts = octets-group six k (k + 4) (omega arith) (omega arith) in
     let call = c .before .before .pack-four in
-    (omega arith, put-part (octets (take (k + 4 - k) (drop k six))) (octets (drop (k + 4) six)) parts (loop .inv .1) (call .ensures .0) (call .ensures .1))
+    let later = octets (drop (k + 4) six) in
+    (omega arith, put-part (octets part) later parts (loop .inv .1) (call .ensures .0) (call .ensures .1))
 
 sub-pack-few : tie.Need-sub-pack-few Inv-loop μ-loop
 sub-pack-few c = search needs
@@ -77,10 +81,11 @@ pack-few-requires c κs =
     let loop = c .before .before .before .loop in
     let six = start .args .six .now in
     let k = loop .k in
-    let all : drop k six ≡ (take (length six - k) (drop k six)) = sym (take-all (length six - k) (drop k six) (omega (arith, length-drop k six))) in
-    let parts : octets (drop k six) ≡ octets (take (length six - k) (drop k six)) ++ [] = ap octets all ∙ sym (append-nil (octets (take (length six - k) (drop k six)))) in
-    let few : length (take (length six - k) (drop k six)) < 4 = omega (arith, length-take (length six - k) (drop k six)) in
-    (few, (below-take 64 (length six - k) (drop k six) (below-drop 64 k six (start .pre .0)), room-part (octets (take (length six - k) (drop k six))) [] parts (loop .inv .1)))
+    let part = take (length six - k) (drop k six) in
+    let parts = rest-part octets six k in
+    let few : length part < 4 = omega (arith, length-take (length six - k) (drop k six)) in
+    let below = below-part 64 six k (length six - k) (start .pre .0) in
+    (few, (below, room-part (octets part) [] parts (loop .inv .1)))
 
 same-length : tie.Need-same-length Inv-loop μ-loop
 same-length c =
@@ -88,10 +93,11 @@ same-length c =
     let loop = c .before .before .before .before .before .before .loop in
     let six = start .args .six .now in
     let k = loop .k in
-    let all : drop k six ≡ (take (length six - k) (drop k six)) = sym (take-all (length six - k) (drop k six) (omega (arith, length-drop k six))) in
-    let parts : octets (drop k six) ≡ octets (take (length six - k) (drop k six)) ++ [] = ap octets all ∙ sym (append-nil (octets (take (length six - k) (drop k six)))) in
+    let part = take (length six - k) (drop k six) in
+    let parts = rest-part octets six k in
     let call = c .before .before .pack-few in
-    (put-part (octets (take (length six - k) (drop k six))) [] parts (loop .inv .1) (call .ensures .0) (call .ensures .1)) .same
+    let end = put-part (octets part) [] parts (loop .inv .1) (call .ensures .0) (call .ensures .1) in
+    end .same
 
 returns : tie.Need-returns Inv-loop μ-loop
 returns c =
@@ -99,10 +105,11 @@ returns c =
     let loop = c .before .before .before .before .before .before .loop in
     let six = start .args .six .now in
     let k = loop .k in
-    let all : drop k six ≡ (take (length six - k) (drop k six)) = sym (take-all (length six - k) (drop k six) (omega (arith, length-drop k six))) in
-    let parts : octets (drop k six) ≡ octets (take (length six - k) (drop k six)) ++ [] = ap octets all ∙ sym (append-nil (octets (take (length six - k) (drop k six)))) in
+    let part = take (length six - k) (drop k six) in
+    let parts = rest-part octets six k in
     let call = c .before .before .pack-few in
-    ended (put-part (octets (take (length six - k) (drop k six))) [] parts (loop .inv .1) (call .ensures .0) (call .ensures .1))
+    let end = put-part (octets part) [] parts (loop .inv .1) (call .ensures .0) (call .ensures .1) in
+    ended end
 
 pub pack-spec : {M : Type 1} → statement M
 pack-spec =

@@ -50,9 +50,10 @@ returns-2 c =
     let start = c .before .before .before .before .before .before .before in
     let six = start .args .six .now in
     let at = start .args .at in
+    let first = c .before .first-octet in
     let parts = octets-of-two six (omega arith) in
-    let group : octets six ≡ c .before .first-octet .result ∷ [] = cc (parts, c .before .first-octet .ensures) in
-    let opened = begin-as at (octets six) (c .before .first-octet .result ∷ []) (start .args .out .now) group (start .pre .1 .1) in
+    let group : octets six ≡ first .result ∷ [] = cc (parts, first .ensures) in
+    let opened = begin-as at (octets six) (first .result ∷ []) (start .args .out .now) group (start .pre .1 .1) in
     ended (put _ (at + 1) refl opened)
 
 shared-slice-read-second-octet : tie.Need-shared-slice-read-second-octet
@@ -86,10 +87,13 @@ returns-3 c =
     let start = c .before .before .before .before .before .before .before .before .before .before in
     let six = start .args .six .now in
     let at = start .args .at in
+    let first = c .before .before .before .before .first-octet in
+    let second = c .second-octet in
     let parts = octets-of-three six (omega arith) in
-    let group : octets six ≡ c .before .before .before .before .first-octet .result ∷ c .second-octet .result ∷ [] = cc (parts, c .before .before .before .before .first-octet .ensures, c .second-octet .ensures) in
-    let opened = begin-as at (octets six) (c .before .before .before .before .first-octet .result ∷ c .second-octet .result ∷ []) (start .args .out .now) group (start .pre .1 .1) in
-    ended (put _ (at + 2) (omega arith) (put _ (at + 1) refl opened))
+    let group : octets six ≡ first .result ∷ second .result ∷ [] = cc (parts, first .ensures, second .ensures) in
+    let opened = begin-as at (octets six) (first .result ∷ second .result ∷ []) (start .args .out .now) group (start .pre .1 .1) in
+    let one = put _ (at + 1) refl opened in
+    ended (put _ (at + 2) (omega arith) one)
 
 pub pack-few-spec : {M : Type 1} → statement M
 pack-few-spec =

@@ -22,7 +22,8 @@ first-octet-requires : tie.Need-first-octet-requires
 first-octet-requires c κs =
     let start = c .before .before .before .before in
     let six = start .args .six .now in
-    (below-at 64 six (start .pre .1 .0) 0 (omega (arith, start .pre .0)), below-at 64 six (start .pre .1 .0) 1 (omega (arith, start .pre .0)))
+    let below = below-at 64 six (start .pre .1 .0) in
+    (below 0 (omega (arith, start .pre .0)), below 1 (omega (arith, start .pre .0)))
 
 slice-write-out : tie.Need-slice-write-out
 slice-write-out c =
@@ -80,10 +81,15 @@ returns c =
     let start = c .before .before .before .before .before .before .before .before .before .before .before in
     let six = start .args .six .now in
     let at = start .args .at in
+    let first = c .before .before .before .before .before .before .first-octet in
+    let second = c .before .before .before .second-octet in
+    let third = c .third-octet in
     let parts = octets-of-four six (start .pre .0) in
-    let group : octets six ≡ c .before .before .before .before .before .before .first-octet .result ∷ c .before .before .before .second-octet .result ∷ c .third-octet .result ∷ [] = cc (parts, c .before .before .before .before .before .before .first-octet .ensures, c .before .before .before .second-octet .ensures, c .third-octet .ensures) in
-    let opened = begin-as at (octets six) (c .before .before .before .before .before .before .first-octet .result ∷ c .before .before .before .second-octet .result ∷ c .third-octet .result ∷ []) (start .args .out .now) group (start .pre .1 .1) in
-    ended (put _ (at + 3) (omega arith) (put _ (at + 2) (omega arith) (put _ (at + 1) refl opened)))
+    let group : octets six ≡ first .result ∷ second .result ∷ third .result ∷ [] = cc (parts, first .ensures, second .ensures, third .ensures) in
+    let opened = begin-as at (octets six) (first .result ∷ second .result ∷ third .result ∷ []) (start .args .out .now) group (start .pre .1 .1) in
+    let one = put _ (at + 1) refl opened in
+    let two = put _ (at + 2) (omega arith) one in
+    ended (put _ (at + 3) (omega arith) two)
 
 pub pack-four-spec : {M : Type 1} → statement M
 pack-four-spec =

@@ -11,7 +11,8 @@ use Rattle.base64url.proofs.values.Statement.{statement}
 use Rattle.base64url.proofs.values.Tie as tie
 
 abbrev Inv-loop : tie.InvT-loop
-Inv-loop text into₀ k₀ into k = (k ≤ length text) × Writing 0 (map sixBits text) into₀ (map sixBits (drop k text)) k into
+Inv-loop text into₀ k₀ into k =
+    (k ≤ length text) × Writing 0 (map sixBits text) into₀ (map sixBits (drop k text)) k into
 
 abbrev μ-loop : tie.MeasureT-loop
 μ-loop text into₀ k₀ into k = length text - k
@@ -52,7 +53,9 @@ same-length : tie.Need-same-length Inv-loop μ-loop
 same-length c = c .before .loop .inv .1 .same
 
 returns : tie.Need-returns Inv-loop μ-loop
-returns c = done (mapped sixBits (c .before .before .before .before .args .text .now) (c .before .loop .k) (c .loop-test .left) (c .before .loop .inv .1))
+returns c =
+    let text = c .before .before .before .before .args .text .now in
+    done (mapped sixBits text (c .before .loop .k) (c .loop-test .left) (c .before .loop .inv .1))
 
 pub values-spec : {M : Type 1} → statement M
 values-spec =

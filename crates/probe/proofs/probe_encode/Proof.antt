@@ -3,7 +3,7 @@ use Prim.Native.Nat.{ℕ}
 use mathlib.Core.Path.{_≡_, ap, sym, _∙_}
 use mathlib.Core.List.{List}
 use lib.ListN.{length}
-use Rattle.base64url.specs.Answers.{encodeRefusal, encodeNext, encodeAnswer, encodeInto}
+use Rattle.base64url.specs.Answers.{encodeRefusal, encodeNext, encodeAnswer, encodeBuffer}
 use Rattle.base64url.specs.declared.Encoded.{Encoded}
 use borrow.Author.Needs.{needs}
 use Rattle.probe.proofs.probe_encode.Statement.{statement}
@@ -11,13 +11,12 @@ use Rattle.probe.proofs.probe_encode.Tie as tie
 
 -- a case of the answer, by what `encode` promises of it
 handed : (xs : List ℕ) (at : ℕ) (out last : List ℕ) (answer is : Encoded) → answer ≡ encodeAnswer xs at (length out)
-    → last ≡ encodeInto answer xs at out → answer ≡ is
+    → last ≡ encodeBuffer xs at out → answer ≡ is
     → (encodeRefusal is ≡ encodeRefusal (encodeAnswer xs at (length out)))
-    × ((encodeNext is ≡ encodeNext (encodeAnswer xs at (length out)))
-    × (last ≡ encodeInto (encodeAnswer xs at (length out)) xs at out))
+    × ((encodeNext is ≡ encodeNext (encodeAnswer xs at (length out))) × (last ≡ encodeBuffer xs at out))
 handed xs at out last answer is promised left told =
     let case = sym told ∙ promised in
-    (ap encodeRefusal case, (ap encodeNext case, left ∙ ap (λ (a : Encoded). encodeInto a xs at out) promised))
+    (ap encodeRefusal case, (ap encodeNext case, left))
 
 encode-requires : tie.Need-encode-requires
 encode-requires c κs = search needs
@@ -35,7 +34,10 @@ returns : tie.Need-returns
 returns c =
     let start = c .before .before .before .before .before .before .before .before .before in
     let call = c .before .before .before .before .before .encode in
-    handed (start .args .octets .now) (start .args .at) (start .args .out .now) (call .last .1 .0) (call .result) _ (call .ensures .0) (call .ensures .1) (c .before .answer .given .1)
+    let octets = start .args .octets .now in
+    let out = start .args .out .now in
+    handed octets (start .args .at) out (call .last .1 .0) (call .result) _ (call .ensures .0) (call .ensures .1)
+    (c .before .answer .given .1)
 
 same-length-2 : tie.Need-same-length-2
 same-length-2 c = search needs
@@ -44,7 +46,10 @@ returns-2 : tie.Need-returns-2
 returns-2 c =
     let start = c .before .before .before .before .before .before .before .before in
     let call = c .before .before .before .before .encode in
-    handed (start .args .octets .now) (start .args .at) (start .args .out .now) (call .last .1 .0) (call .result) _ (call .ensures .0) (call .ensures .1) (c .enum-told .given .1)
+    let octets = start .args .octets .now in
+    let out = start .args .out .now in
+    handed octets (start .args .at) out (call .last .1 .0) (call .result) _ (call .ensures .0) (call .ensures .1)
+    (c .enum-told .given .1)
 
 pub probe-encode-spec : {M : Type 1} → statement M
 probe-encode-spec =
