@@ -40,3 +40,5 @@ pub mod ValueParts
 pub mod Cursors
 pub mod Compare
 pub mod MemberParts
+pub mod MemberRows
+pub mod MemberTable

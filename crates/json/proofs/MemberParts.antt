@@ -17,18 +17,18 @@ use Rattle.json.proofs.StringParts.{class-inside, scan}
 
 module _ (s : List ℕ) (at after c : ℕ) (ha : after ≡ skipSpace s at) (hc : c ≡ octetAt s after) where
   stands : (b : Bool) → eqb c comma ≡ b
-      → nextFrom s at ≡ pick b (skipSpace s (step s after)) after
+      → nextFrom s at ≡ pick b (skipSpace s (step s after)) (length s)
   unfolding nextFrom
   stands b e =
-      ap (λ (n : ℕ). pick (eqb (octetAt s n) comma) (skipSpace s (step s n)) n) (sym ha)
-      ∙ ap (λ (n : ℕ). pick (eqb n comma) (skipSpace s (step s after)) after) (sym hc)
-      ∙ ap (λ (t : Bool). pick t (skipSpace s (step s after)) after) e
+      ap (λ (n : ℕ). pick (eqb (octetAt s n) comma) (skipSpace s (step s n)) (length s)) (sym ha)
+      ∙ ap (λ (n : ℕ). pick (eqb n comma) (skipSpace s (step s after)) (length s)) (sym hc)
+      ∙ ap (λ (t : Bool). pick t (skipSpace s (step s after)) (length s)) e
 
   pub next-past : (q r : ℕ) → c ≡ comma → q ≡ step s after → r ≡ skipSpace s q → r ≡ nextFrom s at
   next-past q r e f g = g ∙ ap (skipSpace s) f ∙ sym (stands true (eq-eqb c comma e))
 
-  pub next-here : (c ≡ comma → ⊥) → after ≡ nextFrom s at
-  next-here n = sym (stands false (ne-eqb c comma n))
+  pub next-none : (c ≡ comma → ⊥) → length s ≡ nextFrom s at
+  next-none n = sym (stands false (ne-eqb c comma n))
 
 -- A string that is read begins inside the text.
 pub string-inside : (s : List ℕ) (at e : ℕ) → stringAt s at ≡ ended e → at < length s
@@ -50,6 +50,6 @@ module _ (s : List ℕ) (start size v a k : ℕ) where
       e f
       ∙ ap
       (λ (x : ℕ). Here
-        (record { name = record { start = start; len = size }; value = record { start = v; len = a - v }; kind = k })
-        (record { at = x }))
+      (record { name = record { start = start; len = size }; value = record { start = v; len = a - v }; kind = k })
+      (record { at = x }))
       g

@@ -1,8 +1,10 @@
 -- The code's answers for members and elements.
 use Prim.Native.Nat.{ℕ}
-use mathlib.Core.List.{List}
+use mathlib.Core.Bool.{Bool}
+use mathlib.Core.List.{List, [], _∷_, _++_}
 use mathlib.Core.Option.{Option, none, some}
-use lib.Dec.{eqb}
+use lib.ListN.{length}
+use lib.Dec.{eqb, leb}
 use Rattle.json.specs.Grammar.{comma}
 use Rattle.json.specs.Places as places
 use Rattle.json.specs.Utf8.{pick}
@@ -12,11 +14,14 @@ use Rattle.json.specs.declared.member.Place.{Place}
 use Rattle.json.specs.declared.member.Row.{Row}
 use Rattle.json.specs.declared.member.Member.{Member}
 use Rattle.json.specs.declared.member.Member.the-variants.{Here, End}
+use Rattle.json.specs.declared.member.Collected.{Collected}
+use Rattle.json.specs.declared.member.Collected.the-variants.{Rows, More}
 
--- Where the next one begins, a value having ended at a position: past a comma, if one stands there.
+-- Where the next one begins, a value having ended at a position: past a comma, if one stands there; else at the text's end,
+-- where none begins.
 unfoldable pub nextFrom : List ℕ → ℕ → ℕ
 nextFrom s at =
-    pick (eqb (octetAt s (skipSpace s at)) comma) (skipSpace s (step s (skipSpace s at))) (skipSpace s at)
+    pick (eqb (octetAt s (skipSpace s at)) comma) (skipSpace s (step s (skipSpace s at))) (length s)
 
 abbrev pub rowOf : places.Member → Row
 rowOf m = record {
@@ -28,3 +33,20 @@ rowOf m = record {
 abbrev pub memberOf : List ℕ → Option Entry → Member
 memberOf s none = End
 memberOf s (some x) = Here (rowOf (x .row)) (record { at = nextFrom s (x .after) })
+
+-- A table of members, laid flat
+
+-- The five numbers of a row: the name's start and length, the value's start and length, the kind.
+abbrev pub numbers : places.Member → List ℕ
+numbers m = m .nameStart ∷ m .nameSize ∷ m .valueStart ∷ m .valueSize ∷ m .kind ∷ []
+
+abbrev pub fiveOf : Row → List ℕ
+fiveOf r = r .name .start ∷ r .name .len ∷ r .value .start ∷ r .value .len ∷ r .kind ∷ []
+
+unfoldable pub flat : List places.Member → List ℕ
+flat [] = []
+flat (m ∷ rest) = numbers m ++ flat rest
+
+-- How many there are, or that there are more than the 32 of which a table has room.
+unfoldable pub collectedOf : List places.Member → Collected
+collectedOf rows = pick (leb (length rows) 32) (Rows (length rows)) More

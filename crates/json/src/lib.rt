@@ -5,12 +5,12 @@ ghost use Rattle.json.specs.Grammar.{isSpace, isDigit};
 ghost use Rattle.json.specs.Reader.{octetAt, step, skip, skipSpace, readText};
 ghost use Rattle.json.specs.Ends.{foundOf};
 
+mod member;
 mod number;
 pub mod spelling;
 mod string;
 mod utf8;
 mod value;
-mod member;
 
 // A position in a text: it moves by methods that take it and give the next one.
 pub struct Position {

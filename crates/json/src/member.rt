@@ -1,10 +1,11 @@
 // Members of objects and elements of arrays, one after the other.
 ghost use mathlib.Core.Path.{_≡_};
-ghost use Prim.Native.Nat.{_-_};
+ghost use Prim.Native.Nat.{_+_, _-_, _≤_};
+ghost use lib.ListN.{length, take};
+ghost use Rattle.prelude.specs.Buffer.{written};
 ghost use Rattle.json.specs.Grammar.{curly, square};
-ghost use Rattle.json.specs.Reader.{entryAt, valueAt};
-ghost use Rattle.json.specs.Members.{memberOf, nextFrom};
-
+ghost use Rattle.json.specs.Reader.{entryAt, valueAt, membersAt, elementsAt};
+ghost use Rattle.json.specs.Members.{memberOf, nextFrom, fiveOf, flat, collectedOf};
 use crate::Ends;
 use crate::Found;
 use crate::Position;
@@ -28,19 +29,35 @@ pub enum Member {
     End,
 }
 
+// What collecting answers: how many members there are, or that there are more than 32.
+pub enum Collected {
+    Rows(usize),
+    More,
+}
+
 // The difference, or 0.
 fn minus(a: usize, b: usize) -> usize
     ensures { λ r. ⌜ r ≡ a - b ⌝ }
 {
-    if b <= a {
-        a - b
-    } else {
-        0
-    }
+    if b <= a { a - b } else { 0 }
+}
+
+// The five numbers of a row, written from a position on.
+fn put_row(row: Row, table: &mut [usize], at: usize)
+    requires { ⌜ at + 5 ≤ length (now table) ⌝ }
+    ensures { λ _. ⌜ now (table .exit) ≡ written at (fiveOf row) (now (table .entry)) ⌝ }
+{
+    let name = row.name;
+    let value = row.value;
+    table[at] = name.start;
+    table[at + 1] = name.len;
+    table[at + 2] = value.start;
+    table[at + 3] = value.len;
+    table[at + 4] = row.kind as usize;
 }
 
 impl Position {
-    // Where the member or element after this one begins: past a comma, if one stands here.
+    // Where the member or element after this one begins: past a comma, if one stands here; else the text's end.
     fn next_entry(self, s: &[u8]) -> Position
         ensures { λ r. ⌜ r .at ≡ nextFrom (now (s .entry)) (self .at) ⌝ }
     {
@@ -48,7 +65,7 @@ impl Position {
         if after.peek(s) == 44 {
             after.step(s).skip_space(s)
         } else {
-            after
+            Position { at: s.len() }
         }
     }
 
@@ -98,5 +115,49 @@ impl Position {
         };
         let row = Row { name, value, kind };
         Member::Here(row, after.next_entry(s))
+    }
+
+    // The members of the object that begins here: the first 32 of them go into the table, five numbers each.
+    pub fn collect(self, s: &[u8], levels: u32, table: &mut [usize]) -> Collected
+        requires { ⌜ 160 ≤ length (now table) ⌝ }
+        ensures { λ r. ⌜ r ≡ collectedOf (membersAt levels (now (s .entry)) (self .at)) ⌝ }
+        ensures { λ _. ⌜ now (table .exit) ≡ written 0 (flat (take 32 (membersAt levels (now (s .entry)) (self .at)))) (now (table .entry)) ⌝ }
+    {
+        let mut p = self.step(s).skip_space(s);
+        let mut count: usize = 0;
+        let mut left = s.len();
+        while 0 < left {
+            let found = p.member(s, levels);
+            let Member::Here(row, next) = found else {
+                return Collected::Rows(count);
+            };
+            if count == 32 {
+                return Collected::More;
+            }
+            put_row(row, table, count * 5);
+            count += 1;
+            p = next;
+            left -= 1;
+        }
+        Collected::Rows(count)
+    }
+
+    // How many elements the array that begins here has.
+    pub fn count(self, s: &[u8], levels: u32) -> usize
+        ensures { λ r. ⌜ r ≡ length (elementsAt levels (now (s .entry)) (self .at)) ⌝ }
+    {
+        let mut p = self.step(s).skip_space(s);
+        let mut count: usize = 0;
+        let mut left = s.len();
+        while 0 < left {
+            let found = p.element(s, levels);
+            let Member::Here(_, next) = found else {
+                return count;
+            };
+            count += 1;
+            p = next;
+            left -= 1;
+        }
+        count
     }
 }

@@ -1,3 +1,4 @@
+-- `element` answers the entry that the reader finds here: its value.
 use mathlib.Core.Path.{refl, ap, sym, _∙_}
 use Rattle.json.specs.Reader.{nothing, found, valueAt}
 use Rattle.json.specs.Members.{memberOf}
@@ -7,25 +8,16 @@ use Rattle.json.proofs.MemberParts.{entry-here}
 use borrow.Author.Needs.{needs}
 use Rattle.json.proofs.Position.element.Statement.{statement}
 use Rattle.json.proofs.Position.element.Tie as tie
-use Rattle.json.proofs.Position.element.Reads as reads
-use Rattle.json.proofs.Position.element.Lts as lts
-use Rattle.json.proofs.Position.next_entry.Reads as next-entry-reads
-use Rattle.json.proofs.Position.value.Reads as value-reads
-use Rattle.json.proofs.member.minus.Reads as minus-reads
 
--- src/member.rt:90:13
 value-requires : tie.Need-value-requires
 value-requires c κs = search needs
 
--- src/member.rt:91:26
 enum-known-found : tie.Need-enum-known-found
 enum-known-found c = search needs
 
--- src/member.rt:92:13
 enum-told : tie.Need-enum-told
 enum-told c = search needs
 
--- src/member.rt:92:13
 returns : tie.Need-returns
 returns c =
     let start = c .before .before .before .before in
@@ -35,15 +27,12 @@ returns c =
     let none = is-nothing _ (sym (c .enum-told .given .1) ∙ c .before .before .value .ensures) in
     ap (memberOf s) (element-entry inner s at nothing (sym none))
 
--- src/member.rt:97:18
 minus-requires : tie.Need-minus-requires
 minus-requires c κs = search needs
 
--- src/member.rt:100:27
 next-entry-requires : tie.Need-next-entry-requires
 next-entry-requires c κs = search needs
 
--- src/member.rt:86:5
 returns-2 : tie.Need-returns-2
 returns-2 c =
     let start = c .before .before .before .before .before .before .before in

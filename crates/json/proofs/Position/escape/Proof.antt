@@ -1,3 +1,4 @@
+-- `escape` reads what follows a backslash, as the scan of the string does.
 use mathlib.Core.Path.{refl, ap, sym, _∙_}
 use native.Mathlib.Omega.{arith}
 use lib.Dec.{eqb}
@@ -7,26 +8,16 @@ use Rattle.json.proofs.StringParts.{class-steps, escape-unit, escape-wr
 use borrow.Author.Needs.{needs}
 use Rattle.json.proofs.Position.escape.Statement.{statement}
 use Rattle.json.proofs.Position.escape.Tie as tie
-use Rattle.json.proofs.Position.escape.Reads as reads
-use Rattle.json.proofs.Position.escape.Lts as lts
-use Rattle.json.proofs.Position.peek.Reads as peek-reads
-use Rattle.json.proofs.Position.step.Reads as step-reads
-use Rattle.json.proofs.Position.unit.Reads as unit-reads
-use Rattle.json.proofs.string.is_escape.Reads as is-escape-reads
 
--- src/string.rt:163:13
 peek-requires : tie.Need-peek-requires
 peek-requires c κs = search needs
 
--- src/string.rt:165:20
 step-requires : tie.Need-step-requires
 step-requires c κs = search needs
 
--- src/string.rt:165:13
 unit-requires : tie.Need-unit-requires
 unit-requires c κs = search needs
 
--- src/string.rt:165:13
 returns : tie.Need-returns
 returns c =
     let s = c .before .before .before .before .before .args .s .now in
@@ -38,11 +29,9 @@ returns c =
       farther at (past .result .at) (c .unit .result) (omega (arith, past .ensures, class-steps (λ n. eqb n letterU) s at refl here)) (c .unit .ensures .1),
     )
 
--- src/string.rt:167:13
 is-escape-requires : tie.Need-is-escape-requires
 is-escape-requires c κs = search needs
 
--- src/string.rt:168:13
 returns-2 : tie.Need-returns-2
 returns-2 c =
     let s = c .before .before .before .before .before .args .s .now in
@@ -50,7 +39,6 @@ returns-2 c =
     let at = c .before .before .before .before .before .args .self .at in
     (escape-wrong s half at (ne-eqb _ _ (λ e. c .before .before .if1 .left (c .before .before .before .peek .ensures ∙ e))) (sym (c .before .is-escape .ensures ∙ ap isEscape (c .before .before .before .peek .ensures)) ∙ not-true _ (c .if2 .taken)), tt)
 
--- src/string.rt:171:13
 returns-3 : tie.Need-returns-3
 returns-3 c =
     let s = c .before .before .before .before .before .before .args .s .now in
@@ -58,11 +46,9 @@ returns-3 c =
     let at = c .before .before .before .before .before .before .args .self .at in
     (escape-half s half at (ne-eqb _ _ (λ e. c .before .before .before .if1 .left (c .before .before .before .before .peek .ensures ∙ e))) (sym (c .before .before .is-escape .ensures ∙ ap isEscape (c .before .before .before .before .peek .ensures)) ∙ not-false _ (c .before .if2 .left)) (c .if3 .taken), tt)
 
--- src/string.rt:173:22
 step-requires-2 : tie.Need-step-requires-2
 step-requires-2 c κs = search needs
 
--- src/string.rt:159:5
 returns-4 : tie.Need-returns-4
 returns-4 c =
     let s = c .before .before .before .before .before .before .before .args .s .now in

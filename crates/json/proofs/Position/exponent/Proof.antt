@@ -1,40 +1,29 @@
+-- `exponent` reads e or E, perhaps a sign, and digits, or nothing.
 use mathlib.Core.Path.{ap, sym, _∙_}
 use Rattle.json.specs.Grammar.{isE}
 use Rattle.json.proofs.NumberParts.{exponent-yes, exponent-no}
 use borrow.Author.Needs.{needs}
 use Rattle.json.proofs.Position.exponent.Statement.{statement}
 use Rattle.json.proofs.Position.exponent.Tie as tie
-use Rattle.json.proofs.Position.exponent.Reads as reads
-use Rattle.json.proofs.Position.exponent.Lts as lts
-use Rattle.json.proofs.Position.digits.Reads as digits-reads
-use Rattle.json.proofs.Position.peek.Reads as peek-reads
-use Rattle.json.proofs.Position.skip_sign.Reads as skip-sign-reads
-use Rattle.json.proofs.Position.step.Reads as step-reads
 
--- src/number.rt:72:13
 peek-requires : tie.Need-peek-requires
 peek-requires c κs = search needs
 
--- src/number.rt:74:13
 step-requires : tie.Need-step-requires
 step-requires c κs = search needs
 
--- src/number.rt:74:13
 skip-sign-requires : tie.Need-skip-sign-requires
 skip-sign-requires c κs = search needs
 
--- src/number.rt:74:13
 digits-requires : tie.Need-digits-requires
 digits-requires c κs = search needs
 
--- src/number.rt:69:5
 returns : tie.Need-returns
 returns c =
     let s = c .before .before .before .before .before .before .args .s .now in
     let at = c .before .before .before .before .before .before .args .self .at in
     c .digits .ensures ∙ exponent-yes s at (c .before .before .step .result .at) (c .before .skip-sign .result .at) (sym (ap isE (c .before .before .before .before .peek .ensures)) ∙ c .before .before .before .if1 .taken) (c .before .before .step .ensures) (c .before .skip-sign .ensures)
 
--- src/number.rt:69:5
 returns-2 : tie.Need-returns-2
 returns-2 c =
     let s = c .before .before .before .args .s .now in

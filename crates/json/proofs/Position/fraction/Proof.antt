@@ -1,3 +1,4 @@
+-- `fraction` reads a point and digits, or nothing.
 use mathlib.Core.Path.{ap, sym, _∙_}
 use mathlib.Core.Bool.{Bool, false, _||_}
 use borrow.Author.Tests.{eq-eqb, ne-eqb}
@@ -5,32 +6,22 @@ use Rattle.json.proofs.NumberParts.{fraction-yes, fraction-no}
 use borrow.Author.Needs.{needs}
 use Rattle.json.proofs.Position.fraction.Statement.{statement}
 use Rattle.json.proofs.Position.fraction.Tie as tie
-use Rattle.json.proofs.Position.fraction.Reads as reads
-use Rattle.json.proofs.Position.fraction.Lts as lts
-use Rattle.json.proofs.Position.digits.Reads as digits-reads
-use Rattle.json.proofs.Position.peek.Reads as peek-reads
-use Rattle.json.proofs.Position.step.Reads as step-reads
 
--- src/number.rt:37:12
 peek-requires : tie.Need-peek-requires
 peek-requires c κs = search needs
 
--- src/number.rt:38:13
 step-requires : tie.Need-step-requires
 step-requires c κs = search needs
 
--- src/number.rt:38:13
 digits-requires : tie.Need-digits-requires
 digits-requires c κs = search needs
 
--- src/number.rt:34:5
 returns : tie.Need-returns
 returns c =
     let s = c .before .before .before .before .before .args .s .now in
     let at = c .before .before .before .before .before .args .self .at in
     c .digits .ensures ∙ fraction-yes s at (c .before .step .result .at) (ap (λ (b : Bool). b || false) (eq-eqb _ _ (sym (c .before .before .before .peek .ensures) ∙ c .before .before .if1 .taken))) (c .before .step .ensures)
 
--- src/number.rt:34:5
 returns-2 : tie.Need-returns-2
 returns-2 c =
     let s = c .before .before .before .args .s .now in

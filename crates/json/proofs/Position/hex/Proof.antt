@@ -1,3 +1,4 @@
+-- `hex` reads one hexadecimal digit more.
 use mathlib.Core.Path.{ap, sym, _∙_}
 use native.Mathlib.Omega.{arith}
 use borrow.Author.Tests.{not-true, not-false}
@@ -7,45 +8,31 @@ use Rattle.json.proofs.StringParts.{hex-no, hex-yes}
 use borrow.Author.Needs.{needs}
 use Rattle.json.proofs.Position.hex.Statement.{statement}
 use Rattle.json.proofs.Position.hex.Tie as tie
-use Rattle.json.proofs.Position.hex.Reads as reads
-use Rattle.json.proofs.Position.hex.Lts as lts
-use Rattle.json.proofs.Position.peek.Reads as peek-reads
-use Rattle.json.proofs.Position.step.Reads as step-reads
-use Rattle.json.proofs.string.hex_digit.Reads as hex-digit-reads
-use Rattle.json.proofs.string.is_hex.Reads as is-hex-reads
 
--- src/string.rt:128:13
 peek-requires : tie.Need-peek-requires
 peek-requires c κs = search needs
 
--- src/string.rt:129:13
 is-hex-requires : tie.Need-is-hex-requires
 is-hex-requires c κs = search needs
 
--- src/string.rt:130:13
 returns : tie.Need-returns
 returns c =
     let s = c .before .before .before .before .args .s .now in
     let at = c .before .before .before .before .args .self .at in
     (hex-no s at (c .before .before .before .before .args .x) (sym (c .before .is-hex .ensures ∙ ap isHex (c .before .before .peek .ensures)) ∙ not-true _ (c .if1 .taken)), tt)
 
--- src/string.rt:132:19
 step-requires : tie.Need-step-requires
 step-requires c κs = search needs
 
--- src/string.rt:132:33
 mul-t8 : tie.Need-mul-t8
 mul-t8 c = search needs
 
--- src/string.rt:132:42
 hex-digit-requires : tie.Need-hex-digit-requires
 hex-digit-requires c κs = sym (c .before .before .is-hex .ensures) ∙ not-false _ (c .before .if1 .left)
 
--- src/string.rt:132:33
 add-t10 : tie.Need-add-t10
 add-t10 c = omega (arith, c .hex-digit .ensures .1)
 
--- src/string.rt:123:5
 returns-2 : tie.Need-returns-2
 returns-2 c =
     let s = c .before .before .before .before .before .before .args .s .now in

@@ -1,3 +1,4 @@
+-- `member` answers the entry that the reader finds here, by what each of its steps found.
 use Prim.Native.Nat.{_+_, _-_}
 use mathlib.Core.Path.{ap, sym, _∙_}
 use native.Mathlib.Omega.{arith}
@@ -10,29 +11,16 @@ use Rattle.json.proofs.MemberParts.{entry-here, string-inside}
 use borrow.Author.Needs.{needs}
 use Rattle.json.proofs.Position.member.Statement.{statement}
 use Rattle.json.proofs.Position.member.Tie as tie
-use Rattle.json.proofs.Position.member.Reads as reads
-use Rattle.json.proofs.Position.member.Lts as lts
-use Rattle.json.proofs.Position.next_entry.Reads as next-entry-reads
-use Rattle.json.proofs.Position.peek.Reads as peek-reads
-use Rattle.json.proofs.Position.skip_space.Reads as skip-space-reads
-use Rattle.json.proofs.Position.step.Reads as step-reads
-use Rattle.json.proofs.Position.string.Reads as string-reads
-use Rattle.json.proofs.Position.value.Reads as value-reads
-use Rattle.json.proofs.member.minus.Reads as minus-reads
 
--- src/member.rt:60:13
 string-requires : tie.Need-string-requires
 string-requires c κs = search needs
 
--- src/member.rt:61:22
 enum-known-spelled : tie.Need-enum-known-spelled
 enum-known-spelled c = search needs
 
--- src/member.rt:62:13
 enum-told : tie.Need-enum-told
 enum-told c = search needs
 
--- src/member.rt:62:13
 returns : tie.Need-returns
 returns c =
     let start = c .before .before .before .before in
@@ -42,15 +30,12 @@ returns c =
     let none = is-refused _ (sym (c .enum-told .given .1) ∙ c .before .before .string .ensures) in
     ap (memberOf s) (member-no-name inner s at (sym none))
 
--- src/member.rt:64:13
 skip-space-requires : tie.Need-skip-space-requires
 skip-space-requires c κs = search needs
 
--- src/member.rt:65:12
 peek-requires : tie.Need-peek-requires
 peek-requires c κs = search needs
 
--- src/member.rt:66:13
 returns-2 : tie.Need-returns-2
 returns-2 c =
     let start = c .before .before .before .before .before .before .before .before in
@@ -65,27 +50,21 @@ returns-2 c =
     ap (memberOf s)
     (member-no-colon inner s at e (sym name) (colon .result .at) (octet .result) (colon .ensures) (octet .ensures) (c .if1 .taken))
 
--- src/member.rt:68:21
 step-requires : tie.Need-step-requires
 step-requires c κs = search needs
 
--- src/member.rt:68:13
 skip-space-requires-2 : tie.Need-skip-space-requires-2
 skip-space-requires-2 c κs = search needs
 
--- src/member.rt:69:13
 value-requires : tie.Need-value-requires
 value-requires c κs = search needs
 
--- src/member.rt:70:26
 enum-known-found : tie.Need-enum-known-found
 enum-known-found c = search needs
 
--- src/member.rt:71:13
 enum-told-2 : tie.Need-enum-told-2
 enum-told-2 c = search needs
 
--- src/member.rt:71:13
 returns-3 : tie.Need-returns-3
 returns-3 c =
     let start = c .before .before .before .before .before .before .before .before .before .before .before .before .before in
@@ -104,7 +83,6 @@ returns-3 c =
     ap (memberOf s)
     (member-entry inner s at e (sym name) (colon .result .at) (octet .result) (colon .ensures) (octet .ensures) (c .before .before .before .before .before .if1 .left) v from nothing (sym none))
 
--- src/member.rt:74:20
 add-t18 : tie.Need-add-t18
 add-t18 c =
     let start = c .before .before .before .before .before .before .before .before .before .before .before .before .before .before in
@@ -113,7 +91,6 @@ add-t18 c =
     let name = is-ended _ (spelled .0 .0) (sym (spelled .1) ∙ c .before .before .before .before .before .before .before .before .before .before .before .before .string .ensures) in
     omega (arith, string-inside s (start .args .self .at) (spelled .0 .0 .at) name)
 
--- src/member.rt:75:32
 add-minus : tie.Need-add-minus
 add-minus c =
     let start = c .before .before .before .before .before .before .before .before .before .before .before .before .before .before in
@@ -122,19 +99,15 @@ add-minus c =
     let name = is-ended _ (spelled .0 .0) (sym (spelled .1) ∙ c .before .before .before .before .before .before .before .before .before .before .before .before .string .ensures) in
     omega (arith, string-inside s (start .args .self .at) (spelled .0 .0 .at) name)
 
--- src/member.rt:75:18
 minus-requires : tie.Need-minus-requires
 minus-requires c κs = search needs
 
--- src/member.rt:79:18
 minus-requires-2 : tie.Need-minus-requires-2
 minus-requires-2 c κs = search needs
 
--- src/member.rt:82:27
 next-entry-requires : tie.Need-next-entry-requires
 next-entry-requires c κs = search needs
 
--- src/member.rt:56:5
 returns-4 : tie.Need-returns-4
 returns-4 c =
     let start = c .before .before .before .before .before .before .before .before .before .before .before .before .before .before .before .before .before in

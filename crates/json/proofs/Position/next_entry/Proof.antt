@@ -1,30 +1,21 @@
-use Rattle.json.proofs.MemberParts.{next-past, next-here}
+-- `next_entry` finds where the next member or element begins: past a comma, or the end.
+use Rattle.json.proofs.MemberParts.{next-past, next-none}
 use borrow.Author.Needs.{needs}
 use Rattle.json.proofs.Position.next_entry.Statement.{statement}
 use Rattle.json.proofs.Position.next_entry.Tie as tie
-use Rattle.json.proofs.Position.next_entry.Reads as reads
-use Rattle.json.proofs.Position.next_entry.Lts as lts
-use Rattle.json.proofs.Position.peek.Reads as peek-reads
-use Rattle.json.proofs.Position.skip_space.Reads as skip-space-reads
-use Rattle.json.proofs.Position.step.Reads as step-reads
 
--- src/member.rt:47:13
 skip-space-requires : tie.Need-skip-space-requires
 skip-space-requires c κs = search needs
 
--- src/member.rt:48:12
 peek-requires : tie.Need-peek-requires
 peek-requires c κs = search needs
 
--- src/member.rt:49:13
 step-requires : tie.Need-step-requires
 step-requires c κs = search needs
 
--- src/member.rt:49:13
 skip-space-requires-2 : tie.Need-skip-space-requires-2
 skip-space-requires-2 c κs = search needs
 
--- src/member.rt:44:5
 returns : tie.Need-returns
 returns c =
     let s = c .before .before .before .before .before .before .args .s .now in
@@ -34,14 +25,13 @@ returns c =
     next-past s at (after .result .at) (octet .result) (after .ensures) (octet .ensures)
     (c .before .step .result .at) (c .skip-space2 .result .at) (c .before .before .if1 .taken) (c .before .step .ensures) (c .skip-space2 .ensures)
 
--- src/member.rt:44:5
 returns-2 : tie.Need-returns-2
 returns-2 c =
     let s = c .before .before .before .before .args .s .now in
     let at = c .before .before .before .before .args .self .at in
     let after = c .before .before .skip-space in
     let octet = c .before .peek in
-    next-here s at (after .result .at) (octet .result) (after .ensures) (octet .ensures) (c .if1 .left)
+    next-none s at (after .result .at) (octet .result) (after .ensures) (octet .ensures) (c .if1 .left)
 
 pub next-entry-spec : {M : Type 1} → statement M
 next-entry-spec =

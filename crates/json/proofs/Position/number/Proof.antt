@@ -1,32 +1,22 @@
+-- `number` reads the parts of a number one after the other; a refusal is handed up.
 use mathlib.Core.Path.{sym, _∙_}
 use Rattle.json.proofs.NumberParts.{is-ended, is-refused, number-no-int, number-no-fraction, number-exponent}
 use borrow.Author.Needs.{needs}
 use Rattle.json.proofs.Position.number.Statement.{statement}
 use Rattle.json.proofs.Position.number.Tie as tie
-use Rattle.json.proofs.Position.number.Reads as reads
-use Rattle.json.proofs.Position.number.Lts as lts
-use Rattle.json.proofs.Position.exponent.Reads as exponent-reads
-use Rattle.json.proofs.Position.fraction.Reads as fraction-reads
-use Rattle.json.proofs.Position.int.Reads as int-reads
-use Rattle.json.proofs.Position.skip_minus.Reads as skip-minus-reads
 
--- src/number.rt:84:21
 skip-minus-requires : tie.Need-skip-minus-requires
 skip-minus-requires c κs = search needs
 
--- src/number.rt:84:13
 int-requires : tie.Need-int-requires
 int-requires c κs = search needs
 
--- src/number.rt:85:22
 enum-known-whole : tie.Need-enum-known-whole
 enum-known-whole c = search needs
 
--- src/number.rt:86:13
 enum-told : tie.Need-enum-told
 enum-told c = search needs
 
--- src/number.rt:86:13
 returns : tie.Need-returns
 returns c =
     let s = c .before .before .before .before .before .args .s .now in
@@ -35,19 +25,15 @@ returns c =
     let m = c .before .before .before .skip-minus in
     told ∙ number-no-int s at (m .result .at) (m .ensures) (is-refused _ (sym told ∙ c .before .before .int .ensures))
 
--- src/number.rt:88:13
 fraction-requires : tie.Need-fraction-requires
 fraction-requires c κs = search needs
 
--- src/number.rt:89:22
 enum-known-part : tie.Need-enum-known-part
 enum-known-part c = search needs
 
--- src/number.rt:90:13
 enum-told-2 : tie.Need-enum-told-2
 enum-told-2 c = search needs
 
--- src/number.rt:90:13
 returns-2 : tie.Need-returns-2
 returns-2 c =
     let s = c .before .before .before .before .before .before .before .before .before .args .s .now in
@@ -57,11 +43,9 @@ returns-2 c =
     let whole = c .before .before .before .before .whole .given in
     told ∙ number-no-fraction s at (m .result .at) (m .ensures) (whole .0 .0 .at) (is-ended _ (whole .0 .0) (sym (whole .1) ∙ c .before .before .before .before .before .before .int .ensures)) (is-refused _ (sym told ∙ c .before .before .fraction .ensures))
 
--- src/number.rt:92:9
 exponent-requires : tie.Need-exponent-requires
 exponent-requires c κs = search needs
 
--- src/number.rt:81:5
 returns-3 : tie.Need-returns-3
 returns-3 c =
     let s = c .before .before .before .before .before .before .before .before .before .before .before .args .s .now in

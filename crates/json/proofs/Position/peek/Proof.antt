@@ -1,24 +1,19 @@
+-- `peek` finds the octet at a position, and 256 at the end.
 use native.Mathlib.Omega.{arith}
 use Rattle.json.proofs.Here.{octet-here, octet-end}
 use borrow.Author.Needs.{needs}
 use Rattle.json.proofs.Position.peek.Statement.{statement}
 use Rattle.json.proofs.Position.peek.Tie as tie
-use Rattle.json.proofs.Position.peek.Reads as reads
-use Rattle.json.proofs.Position.peek.Lts as lts
 
--- src/lib.rt:42:13
 shared-slice-read-result : tie.Need-shared-slice-read-result
 shared-slice-read-result c = search needs
 
--- src/lib.rt:42:13
 cast-result : tie.Need-cast-result
 cast-result c = omega (arith, c .shared-slice-known .given (c .before .before .args .self .at))
 
--- src/lib.rt:37:5
 returns : tie.Need-returns
 returns c = octet-here (c .before .before .args .s .now) (c .before .before .args .self .at) (c .before .if1 .taken)
 
--- src/lib.rt:37:5
 returns-2 : tie.Need-returns-2
 returns-2 c = octet-end (c .before .args .s .now) (c .before .args .self .at) (c .if1 .left)
 

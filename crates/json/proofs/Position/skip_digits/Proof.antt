@@ -1,3 +1,4 @@
+-- `skip_digits` ends where the digits end: what is left to skip stays the same, octet by octet.
 use Prim.Native.Nat.{_-_}
 use mathlib.Core.Path.{_≡_, refl, sym, _∙_}
 use native.Mathlib.Omega.{arith}
@@ -9,9 +10,6 @@ use Rattle.json.proofs.Here.{skip-next, skip-stop, skip-end}
 use borrow.Author.Needs.{needs}
 use Rattle.json.proofs.Position.skip_digits.Statement.{statement}
 use Rattle.json.proofs.Position.skip_digits.Tie as tie
-use Rattle.json.proofs.Position.skip_digits.Reads as reads
-use Rattle.json.proofs.Position.skip_digits.Lts as lts
-use Rattle.json.proofs.is_digit.Reads as is-digit-reads
 
 abbrev Inv-loop : tie.InvT-loop
 Inv-loop s at₀ at = skip isDigit s at₀ ≡ skip isDigit s at
@@ -19,23 +17,18 @@ Inv-loop s at₀ at = skip isDigit s at₀ ≡ skip isDigit s at
 abbrev μ-loop : tie.MeasureT-loop
 μ-loop s at₀ at = length s - at
 
--- src/lib.rt:79:9
 loop-holds : tie.Need-loop-holds Inv-loop μ-loop
 loop-holds c = refl
 
--- src/lib.rt:80:26
 shared-slice-read-is-digit : tie.Need-shared-slice-read-is-digit Inv-loop μ-loop
 shared-slice-read-is-digit c = search needs
 
--- src/lib.rt:80:26
 cast-is-digit : tie.Need-cast-is-digit Inv-loop μ-loop
 cast-is-digit c = omega (arith, c .shared-slice-known2 .given (c .before .before .loop .at))
 
--- src/lib.rt:80:17
 is-digit-requires : tie.Need-is-digit-requires Inv-loop μ-loop
 is-digit-requires c κs = search needs
 
--- src/lib.rt:81:17
 returns : tie.Need-returns Inv-loop μ-loop
 returns c =
     let s = c .before .before .before .before .before .before .args .s .now in
@@ -43,15 +36,12 @@ returns c =
     let tested = sym (c .before .is-digit .ensures) in
     sym (c .before .before .before .before .loop .inv ∙ skip-stop isDigit s at (c .before .before .before .loop-test .taken) (tested ∙ not-true _ (c .if1 .taken)))
 
--- src/lib.rt:83:13
 add-at : tie.Need-add-at Inv-loop μ-loop
 add-at c = search needs
 
--- src/lib.rt:79:9
 loop-less : tie.Need-loop-less Inv-loop μ-loop
 loop-less c = search needs
 
--- src/lib.rt:79:9
 loop-again : tie.Need-loop-again Inv-loop μ-loop
 loop-again c =
     let s = c .before .before .before .before .before .before .args .s .now in
@@ -59,7 +49,6 @@ loop-again c =
     let tested = sym (c .before .is-digit .ensures) in
     c .before .before .before .before .loop .inv ∙ skip-next isDigit s at (c .before .before .before .loop-test .taken) (tested ∙ not-false _ (c .if1 .left))
 
--- src/lib.rt:75:5
 returns-2 : tie.Need-returns-2 Inv-loop μ-loop
 returns-2 c = sym (c .before .loop .inv ∙ skip-end isDigit (c .before .before .before .args .s .now) (c .before .loop .at) (c .loop-test .left))
 

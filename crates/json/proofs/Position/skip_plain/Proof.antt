@@ -1,3 +1,4 @@
+-- `skip_plain` ends where the plain octets end: what is left to skip stays the same, octet by octet.
 use Prim.Native.Nat.{_-_}
 use mathlib.Core.Path.{_≡_, refl, sym, _∙_}
 use lib.ListN.{length}
@@ -8,10 +9,6 @@ use Rattle.json.proofs.Here.{skip-next, skip-stop, skip-end}
 use borrow.Author.Needs.{needs}
 use Rattle.json.proofs.Position.skip_plain.Statement.{statement}
 use Rattle.json.proofs.Position.skip_plain.Tie as tie
-use Rattle.json.proofs.Position.skip_plain.Reads as reads
-use Rattle.json.proofs.Position.skip_plain.Lts as lts
-use Rattle.json.proofs.Position.skip_blocks.Reads as skip-blocks-reads
-use Rattle.json.proofs.string.is_stop.Reads as is-stop-reads
 
 abbrev Inv-loop : tie.InvT-loop
 Inv-loop s at₀ at = skip isUnescaped s at ≡ skip isUnescaped s at₀
@@ -19,23 +16,18 @@ Inv-loop s at₀ at = skip isUnescaped s at ≡ skip isUnescaped s at₀
 abbrev μ-loop : tie.MeasureT-loop
 μ-loop s at₀ at = length s - at
 
--- src/string.rt:181:22
 skip-blocks-requires : tie.Need-skip-blocks-requires Inv-loop μ-loop
 skip-blocks-requires c κs = search needs
 
--- src/string.rt:182:9
 loop-holds : tie.Need-loop-holds Inv-loop μ-loop
 loop-holds c = refl
 
--- src/string.rt:183:24
 shared-slice-read-is-stop : tie.Need-shared-slice-read-is-stop Inv-loop μ-loop
 shared-slice-read-is-stop c = search needs
 
--- src/string.rt:183:16
 is-stop-requires : tie.Need-is-stop-requires Inv-loop μ-loop
 is-stop-requires c κs = search needs
 
--- src/string.rt:184:17
 returns : tie.Need-returns Inv-loop μ-loop
 returns c =
     let s = c .before .before .before .before .before .before .before .args .s .now in
@@ -44,15 +36,12 @@ returns c =
     let blocks = c .before .before .before .before .before .skip-blocks .ensures in
     sym (skip-stop isUnescaped s at (c .before .before .before .loop-test .taken) (not-true _ (tested ∙ c .if1 .taken))) ∙ c .before .before .before .before .loop .inv ∙ blocks
 
--- src/string.rt:186:13
 add-at : tie.Need-add-at Inv-loop μ-loop
 add-at c = search needs
 
--- src/string.rt:182:9
 loop-less : tie.Need-loop-less Inv-loop μ-loop
 loop-less c = search needs
 
--- src/string.rt:182:9
 loop-again : tie.Need-loop-again Inv-loop μ-loop
 loop-again c =
     let s = c .before .before .before .before .before .before .before .args .s .now in
@@ -61,7 +50,6 @@ loop-again c =
     let blocks = c .before .before .before .before .before .skip-blocks .ensures in
     sym (skip-next isUnescaped s at (c .before .before .before .loop-test .taken) (not-false _ (tested ∙ c .if1 .left))) ∙ c .before .before .before .before .loop .inv
 
--- src/string.rt:178:5
 returns-2 : tie.Need-returns-2 Inv-loop μ-loop
 returns-2 c =
     let s = c .before .before .before .before .args .s .now in

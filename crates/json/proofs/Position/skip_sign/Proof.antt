@@ -1,30 +1,23 @@
+-- `skip_sign` passes a plus or a minus, if one stands here.
 use mathlib.Core.Path.{ap, sym, _∙_}
 use Rattle.json.specs.Grammar.{isPlusMinus}
 use Rattle.json.proofs.NumberParts.{perhaps-yes, perhaps-no}
 use borrow.Author.Needs.{needs}
 use Rattle.json.proofs.Position.skip_sign.Statement.{statement}
 use Rattle.json.proofs.Position.skip_sign.Tie as tie
-use Rattle.json.proofs.Position.skip_sign.Reads as reads
-use Rattle.json.proofs.Position.skip_sign.Lts as lts
-use Rattle.json.proofs.Position.peek.Reads as peek-reads
-use Rattle.json.proofs.Position.step.Reads as step-reads
 
--- src/number.rt:48:13
 peek-requires : tie.Need-peek-requires
 peek-requires c κs = search needs
 
--- src/number.rt:50:13
 step-requires : tie.Need-step-requires
 step-requires c κs = search needs
 
--- src/number.rt:45:5
 returns : tie.Need-returns
 returns c =
     let s = c .before .before .before .before .args .s .now in
     let at = c .before .before .before .before .args .self .at in
     perhaps-yes s at isPlusMinus (c .step .result .at) (sym (ap isPlusMinus (c .before .before .peek .ensures)) ∙ c .before .if1 .taken) (c .step .ensures)
 
--- src/number.rt:45:5
 returns-2 : tie.Need-returns-2
 returns-2 c =
     let s = c .before .before .before .args .s .now in

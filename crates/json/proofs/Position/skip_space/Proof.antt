@@ -1,3 +1,4 @@
+-- `skip_space` ends where the space ends: what is left to skip stays the same, octet by octet.
 use Prim.Native.Nat.{_-_}
 use mathlib.Core.Path.{_≡_, refl, sym, _∙_}
 use native.Mathlib.Omega.{arith}
@@ -9,9 +10,6 @@ use Rattle.json.proofs.Here.{skip-next, skip-stop, skip-end}
 use borrow.Author.Needs.{needs}
 use Rattle.json.proofs.Position.skip_space.Statement.{statement}
 use Rattle.json.proofs.Position.skip_space.Tie as tie
-use Rattle.json.proofs.Position.skip_space.Reads as reads
-use Rattle.json.proofs.Position.skip_space.Lts as lts
-use Rattle.json.proofs.is_space.Reads as is-space-reads
 
 abbrev Inv-loop : tie.InvT-loop
 Inv-loop s at₀ at = skip isSpace s at₀ ≡ skip isSpace s at
@@ -19,23 +17,18 @@ Inv-loop s at₀ at = skip isSpace s at₀ ≡ skip isSpace s at
 abbrev μ-loop : tie.MeasureT-loop
 μ-loop s at₀ at = length s - at
 
--- src/lib.rt:65:9
 loop-holds : tie.Need-loop-holds Inv-loop μ-loop
 loop-holds c = refl
 
--- src/lib.rt:66:26
 shared-slice-read-is-space : tie.Need-shared-slice-read-is-space Inv-loop μ-loop
 shared-slice-read-is-space c = search needs
 
--- src/lib.rt:66:26
 cast-is-space : tie.Need-cast-is-space Inv-loop μ-loop
 cast-is-space c = omega (arith, c .shared-slice-known2 .given (c .before .before .loop .at))
 
--- src/lib.rt:66:17
 is-space-requires : tie.Need-is-space-requires Inv-loop μ-loop
 is-space-requires c κs = search needs
 
--- src/lib.rt:67:17
 returns : tie.Need-returns Inv-loop μ-loop
 returns c =
     let s = c .before .before .before .before .before .before .args .s .now in
@@ -43,15 +36,12 @@ returns c =
     let tested = sym (c .before .is-space .ensures) in
     sym (c .before .before .before .before .loop .inv ∙ skip-stop isSpace s at (c .before .before .before .loop-test .taken) (tested ∙ not-true _ (c .if1 .taken)))
 
--- src/lib.rt:69:13
 add-at : tie.Need-add-at Inv-loop μ-loop
 add-at c = search needs
 
--- src/lib.rt:65:9
 loop-less : tie.Need-loop-less Inv-loop μ-loop
 loop-less c = search needs
 
--- src/lib.rt:65:9
 loop-again : tie.Need-loop-again Inv-loop μ-loop
 loop-again c =
     let s = c .before .before .before .before .before .before .args .s .now in
@@ -59,7 +49,6 @@ loop-again c =
     let tested = sym (c .before .is-space .ensures) in
     c .before .before .before .before .loop .inv ∙ skip-next isSpace s at (c .before .before .before .loop-test .taken) (tested ∙ not-false _ (c .if1 .left))
 
--- src/lib.rt:61:5
 returns-2 : tie.Need-returns-2 Inv-loop μ-loop
 returns-2 c = sym (c .before .loop .inv ∙ skip-end isSpace (c .before .before .before .args .s .now) (c .before .loop .at) (c .loop-test .left))
 

@@ -1,3 +1,4 @@
+-- `skip_unless` moves the scan of the string to the end of a run, unless a first half waits.
 use Prim.Native.Nat.{ℕ, _-_}
 use mathlib.Core.Path.{refl, ap, sym, _∙_}
 use mathlib.Core.Bool.{Bool, true≢false}
@@ -9,19 +10,13 @@ use Rattle.json.proofs.StringParts.{scan, plain-run, skip-forward, skip
 use borrow.Author.Needs.{needs}
 use Rattle.json.proofs.Position.skip_unless.Statement.{statement}
 use Rattle.json.proofs.Position.skip_unless.Tie as tie
-use Rattle.json.proofs.Position.skip_unless.Reads as reads
-use Rattle.json.proofs.Position.skip_unless.Lts as lts
-use Rattle.json.proofs.Position.skip_plain.Reads as skip-plain-reads
 
--- src/string.rt:216:13
 returns : tie.Need-returns
 returns c = (refl, (omega arith, λ f. absurd (true≢false (sym (c .if1 .taken) ∙ f))))
 
--- src/string.rt:218:9
 skip-plain-requires : tie.Need-skip-plain-requires
 skip-plain-requires c κs = search needs
 
--- src/string.rt:211:5
 returns-2 : tie.Need-returns-2
 returns-2 c =
     let start = c .before .before .before in

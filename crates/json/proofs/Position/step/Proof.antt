@@ -1,19 +1,15 @@
+-- `step` goes one on, and no further than the end.
 use Rattle.json.proofs.Here.{step-inside, step-end}
 use borrow.Author.Needs.{needs}
 use Rattle.json.proofs.Position.step.Statement.{statement}
 use Rattle.json.proofs.Position.step.Tie as tie
-use Rattle.json.proofs.Position.step.Reads as reads
-use Rattle.json.proofs.Position.step.Lts as lts
 
--- src/lib.rt:54:28
 add-t7 : tie.Need-add-t7
 add-t7 c = search needs
 
--- src/lib.rt:49:5
 returns : tie.Need-returns
 returns c = step-inside (c .before .args .s .now) (c .before .args .self .at) (c .if1 .taken)
 
--- src/lib.rt:49:5
 returns-2 : tie.Need-returns-2
 returns-2 c = step-end (c .before .args .s .now) (c .before .args .self .at) (c .if1 .left)
 

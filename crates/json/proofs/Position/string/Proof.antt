@@ -1,3 +1,4 @@
+-- `string` reads a string: what is left of the scan stays the same from escape to escape.
 use Prim.Native.Nat.{_-_}
 use mathlib.Core.Path.{_≡_, refl, ap, sym, subst, _∙_}
 use native.Mathlib.Omega.{arith}
@@ -11,12 +12,6 @@ use Rattle.json.proofs.StringParts.{scan, class-steps, scan-end, string
 use borrow.Author.Needs.{needs}
 use Rattle.json.proofs.Position.string.Statement.{statement}
 use Rattle.json.proofs.Position.string.Tie as tie
-use Rattle.json.proofs.Position.string.Reads as reads
-use Rattle.json.proofs.Position.string.Lts as lts
-use Rattle.json.proofs.Position.escape.Reads as escape-reads
-use Rattle.json.proofs.Position.peek.Reads as peek-reads
-use Rattle.json.proofs.Position.skip_unless.Reads as skip-unless-reads
-use Rattle.json.proofs.Position.step.Reads as step-reads
 
 abbrev Inv-loop : tie.InvT-loop
 Inv-loop s at₀ half₀ at half = scan s (between half) at ≡ scan s (between half₀) at₀
@@ -24,33 +19,26 @@ Inv-loop s at₀ half₀ at half = scan s (between half) at ≡ scan s (between 
 abbrev μ-loop : tie.MeasureT-loop
 μ-loop s at₀ half₀ at half = length s - at
 
--- src/string.rt:225:12
 peek-requires : tie.Need-peek-requires Inv-loop μ-loop
 peek-requires c κs = search needs
 
--- src/string.rt:226:13
 returns : tie.Need-returns Inv-loop μ-loop
 returns c =
     let start = c .before .before .before in
     ap endsOf (string-not (start .args .s .now) (start .args .self .at) (λ e. c .if1 .taken (c .before .peek .ensures ∙ e)))
 
--- src/string.rt:228:22
 step-requires : tie.Need-step-requires Inv-loop μ-loop
 step-requires c κs = search needs
 
--- src/string.rt:230:9
 loop-holds : tie.Need-loop-holds Inv-loop μ-loop
 loop-holds c = refl
 
--- src/string.rt:231:17
 skip-unless-requires : tie.Need-skip-unless-requires Inv-loop μ-loop
 skip-unless-requires c κs = search needs
 
--- src/string.rt:232:17
 peek-requires-2 : tie.Need-peek-requires-2 Inv-loop μ-loop
 peek-requires-2 c κs = search needs
 
--- src/string.rt:235:21
 returns-2 : tie.Need-returns-2 Inv-loop μ-loop
 returns-2 c =
     let start = c .before .before .before .before .before .before .before .before .before .before in
@@ -63,11 +51,9 @@ returns-2 c =
     let here = sym (c .before .before .peek2 .ensures) in
     ap endsOf (sym (quote-breaks s at (loop .half) (here ∙ c .before .if2 .taken) (c .if3 .taken)) ∙ run .ensures .0 ∙ whole)
 
--- src/string.rt:237:33
 step-requires-2 : tie.Need-step-requires-2 Inv-loop μ-loop
 step-requires-2 c κs = search needs
 
--- src/string.rt:237:17
 returns-3 : tie.Need-returns-3 Inv-loop μ-loop
 returns-3 c =
     let start = c .before .before .before .before .before .before .before .before .before .before .before in
@@ -80,7 +66,6 @@ returns-3 c =
     let here = sym (c .before .before .before .peek2 .ensures) in
     ap endsOf (sym (quote-closes s at (loop .half) (c .step2 .result .at) (here ∙ c .before .before .if2 .taken) (c .before .if3 .left) (c .step2 .ensures)) ∙ run .ensures .0 ∙ whole)
 
--- src/string.rt:240:17
 returns-4 : tie.Need-returns-4 Inv-loop μ-loop
 returns-4 c =
     let start = c .before .before .before .before .before .before .before .before .before .before in
@@ -93,23 +78,18 @@ returns-4 c =
     let here = sym (c .before .before .peek2 .ensures) in
     ap endsOf (sym (other-breaks s at (loop .half) (λ e. c .before .if2 .left (sym here ∙ e)) (λ e. c .if4 .taken (sym here ∙ e)) (run .ensures .1 .1)) ∙ run .ensures .0 ∙ whole)
 
--- src/string.rt:242:26
 step-requires-3 : tie.Need-step-requires-3 Inv-loop μ-loop
 step-requires-3 c κs = search needs
 
--- src/string.rt:242:17
 escape-requires : tie.Need-escape-requires Inv-loop μ-loop
 escape-requires c κs = search needs
 
--- src/string.rt:243:30
 enum-known-answer : tie.Need-enum-known-answer Inv-loop μ-loop
 enum-known-answer c = search needs
 
--- src/string.rt:244:17
 enum-told : tie.Need-enum-told Inv-loop μ-loop
 enum-told c = search needs
 
--- src/string.rt:244:17
 returns-5 : tie.Need-returns-5 Inv-loop μ-loop
 returns-5 c =
     let start = c .before .before .before .before .before .before .before .before .before .before .before .before .before .before in
@@ -124,7 +104,6 @@ returns-5 c =
     let told = c .enum-told .given .1 in
     ap endsOf (ap (resumed s) (sym told) ∙ c .before .before .escape .ensures .0 ∙ sym (backslash-escapes s at (loop .half) (past .result .at) (here ∙ c .before .before .before .before .if4 .left) (past .ensures)) ∙ run .ensures .0 ∙ whole)
 
--- src/string.rt:230:9
 loop-less : tie.Need-loop-less Inv-loop μ-loop
 loop-less c =
     let s = c .before .before .before .before .before .before .before .before .before .before .before .before .before .before .before .args .s .now in
@@ -137,7 +116,6 @@ loop-less c =
     let far = subst (Beyond (past .result .at)) (next .1) (c .before .before .before .escape .ensures .1) in
     omega (arith, far, past .ensures, class-steps (λ n. eqb n backslash) s at refl (eq-eqb _ _ here), run .ensures .1 .0)
 
--- src/string.rt:230:9
 loop-again : tie.Need-loop-again Inv-loop μ-loop
 loop-again c =
     let s = c .before .before .before .before .before .before .before .before .before .before .before .before .before .before .before .args .s .now in
@@ -150,7 +128,6 @@ loop-again c =
     ap (resumed s) (sym (next .1)) ∙ c .before .before .before .escape .ensures .0
     ∙ sym (backslash-escapes s at (loop .half) (past .result .at) here (past .ensures)) ∙ run .ensures .0 ∙ loop .inv
 
--- src/string.rt:222:5
 returns-6 : tie.Need-returns-6 Inv-loop μ-loop
 returns-6 c =
     let start = c .before .before .before .before .before .before in

@@ -1,3 +1,4 @@
+-- `unit` reads four hexadecimal digits: each moves the scan of the string on by one.
 use Prim.Native.Nat.{_<_}
 use mathlib.Core.Path.{ap, sym, subst, _∙_}
 use native.Mathlib.Omega.{arith}
@@ -6,24 +7,16 @@ use Rattle.json.proofs.StringParts.{digit-wrong, digit-more, digit-last
 use borrow.Author.Needs.{needs}
 use Rattle.json.proofs.Position.unit.Statement.{statement}
 use Rattle.json.proofs.Position.unit.Tie as tie
-use Rattle.json.proofs.Position.unit.Reads as reads
-use Rattle.json.proofs.Position.unit.Lts as lts
-use Rattle.json.proofs.Position.hex.Reads as hex-reads
-use Rattle.json.proofs.string.after_unit.Reads as after-unit-reads
 
--- src/string.rt:140:13
 hex-requires : tie.Need-hex-requires
 hex-requires c κs = search needs
 
--- src/string.rt:141:23
 enum-known-first : tie.Need-enum-known-first
 enum-known-first c = search needs
 
--- src/string.rt:142:13
 enum-told : tie.Need-enum-told
 enum-told c = search needs
 
--- src/string.rt:142:13
 returns : tie.Need-returns
 returns c =
     let s = c .before .before .before .before .args .s .now in
@@ -32,21 +25,17 @@ returns c =
     let told = c .enum-told .given .1 in
     (digit-wrong s half 0 at 3 (sym told ∙ c .before .before .hex .ensures .0), tt)
 
--- src/string.rt:144:13
 hex-requires-2 : tie.Need-hex-requires-2
 hex-requires-2 c κs =
     let first-small = subst (Small 0) (c .before .first .given .1) (c .before .before .before .hex .ensures .1) in
     omega (arith, first-small)
 
--- src/string.rt:145:23
 enum-known-next : tie.Need-enum-known-next
 enum-known-next c = search needs
 
--- src/string.rt:146:13
 enum-told-2 : tie.Need-enum-told-2
 enum-told-2 c = search needs
 
--- src/string.rt:146:13
 returns-2 : tie.Need-returns-2
 returns-2 c =
     let s = c .before .before .before .before .before .before .before .before .args .s .now in
@@ -57,22 +46,18 @@ returns-2 c =
     let told = c .enum-told2 .given .1 in
     (digit-wrong s half (first .0 .1 .0) (first .0 .0 .at) 2 (sym told ∙ c .before .before .hex2 .ensures .0) ∙ digit-more s half 0 at (first .0 .0) (first .0 .1 .0) first-is 2, tt)
 
--- src/string.rt:148:13
 hex-requires-3 : tie.Need-hex-requires-3
 hex-requires-3 c κs =
     let first-small = subst (Small 0) (c .before .before .before .before .before .first .given .1) (c .before .before .before .before .before .before .before .hex .ensures .1) in
     let next-small = subst (Small (c .before .before .before .before .before .first .given .0 .1 .0)) (c .before .next .given .1) (c .before .before .before .hex2 .ensures .1) in
     omega (arith, first-small, next-small)
 
--- src/string.rt:149:23
 enum-known-more : tie.Need-enum-known-more
 enum-known-more c = search needs
 
--- src/string.rt:150:13
 enum-told-3 : tie.Need-enum-told-3
 enum-told-3 c = search needs
 
--- src/string.rt:150:13
 returns-3 : tie.Need-returns-3
 returns-3 c =
     let s = c .before .before .before .before .before .before .before .before .before .before .before .before .args .s .now in
@@ -85,7 +70,6 @@ returns-3 c =
     let told = c .enum-told3 .given .1 in
     (digit-wrong s half (next .0 .1 .0) (next .0 .0 .at) 1 (sym told ∙ c .before .before .hex3 .ensures .0) ∙ digit-more s half (first .0 .1 .0) (first .0 .0 .at) (next .0 .0) (next .0 .1 .0) next-is 1 ∙ digit-more s half 0 at (first .0 .0) (first .0 .1 .0) first-is 2, tt)
 
--- src/string.rt:152:13
 hex-requires-4 : tie.Need-hex-requires-4
 hex-requires-4 c κs =
     let first-small = subst (Small 0) (c .before .before .before .before .before .before .before .before .before .first .given .1) (c .before .before .before .before .before .before .before .before .before .before .before .hex .ensures .1) in
@@ -93,15 +77,12 @@ hex-requires-4 c κs =
     let more-small = subst (Small (c .before .before .before .before .before .next .given .0 .1 .0)) (c .before .more .given .1) (c .before .before .before .hex3 .ensures .1) in
     omega (arith, first-small, next-small, more-small)
 
--- src/string.rt:153:23
 enum-known-last : tie.Need-enum-known-last
 enum-known-last c = search needs
 
--- src/string.rt:154:13
 enum-told-4 : tie.Need-enum-told-4
 enum-told-4 c = search needs
 
--- src/string.rt:154:13
 returns-4 : tie.Need-returns-4
 returns-4 c =
     let s = c .before .before .before .before .before .before .before .before .before .before .before .before .before .before .before .before .args .s .now in
@@ -116,11 +97,9 @@ returns-4 c =
     let told = c .enum-told4 .given .1 in
     (digit-wrong s half (more .0 .1 .0) (more .0 .0 .at) 0 (sym told ∙ c .before .before .hex4 .ensures .0) ∙ digit-more s half (next .0 .1 .0) (next .0 .0 .at) (more .0 .0) (more .0 .1 .0) more-is 0 ∙ digit-more s half (first .0 .1 .0) (first .0 .0 .at) (next .0 .0) (next .0 .1 .0) next-is 1 ∙ digit-more s half 0 at (first .0 .0) (first .0 .1 .0) first-is 2, tt)
 
--- src/string.rt:156:9
 after-unit-requires : tie.Need-after-unit-requires
 after-unit-requires c κs = search needs
 
--- src/string.rt:136:5
 returns-5 : tie.Need-returns-5
 returns-5 c =
     let s = c .before .before .before .before .before .before .before .before .before .before .before .before .before .before .before .before .before .before .args .s .now in

@@ -1,3 +1,4 @@
+-- `count_stops` finds none exactly in a block of plain octets: none so far, in the octets passed.
 use Prim.Native.Nat.{ℕ, _-_, _≤_, _<_}
 use mathlib.Core.Path.{_≡_, sym, _∙_}
 use mathlib.Core.Bool.{true}
@@ -10,9 +11,6 @@ use Rattle.json.specs.Grammar.{isUnescaped}
 use borrow.Author.Needs.{needs}
 use Rattle.json.proofs.string.count_stops.Statement.{statement}
 use Rattle.json.proofs.string.count_stops.Tie as tie
-use Rattle.json.proofs.string.count_stops.Reads as reads
-use Rattle.json.proofs.string.count_stops.Lts as lts
-use Rattle.json.proofs.string.is_stop.Reads as is-stop-reads
 
 abbrev Inv-loop : tie.InvT-loop
 Inv-loop block count₀ k₀ count k = (k ≤ length block) × ((count ≤ k) × (count ≡ 0 → (i : ℕ) → i < k → isUnescaped (getD block i 0) ≡ true))
@@ -20,31 +18,24 @@ Inv-loop block count₀ k₀ count k = (k ≤ length block) × ((count ≤ k) ×
 abbrev μ-loop : tie.MeasureT-loop
 μ-loop block count₀ k₀ count k = length block - k
 
--- src/string.rt:112:5
 loop-holds : tie.Need-loop-holds Inv-loop μ-loop
 loop-holds c = (search needs, (search needs, λ z i l. absurd (omega (arith, l))))
 
--- src/string.rt:113:20
 shared-slice-read-is-stop : tie.Need-shared-slice-read-is-stop Inv-loop μ-loop
 shared-slice-read-is-stop c = search needs
 
--- src/string.rt:113:12
 is-stop-requires : tie.Need-is-stop-requires Inv-loop μ-loop
 is-stop-requires c κs = search needs
 
--- src/string.rt:114:13
 add-count : tie.Need-add-count Inv-loop μ-loop
 add-count c = search needs
 
--- src/string.rt:116:9
 add-k : tie.Need-add-k Inv-loop μ-loop
 add-k c = search needs
 
--- src/string.rt:112:5
 loop-less : tie.Need-loop-less Inv-loop μ-loop
 loop-less c = search needs
 
--- src/string.rt:112:5
 loop-again : tie.Need-loop-again Inv-loop μ-loop
 loop-again c =
     let at = c .before .before .before .before .loop in
@@ -54,7 +45,6 @@ loop-again c =
     (λ w. (omega arith, (omega (arith, w .1), λ z. below-more _ _ (at .inv .1 .1 (omega (arith, z, w .1))) (not-false _ (tested ∙ w .0 .left)))))
     (c .if1 .came)
 
--- src/string.rt:106:1
 returns : tie.Need-returns Inv-loop μ-loop
 returns c = λ z i l. c .before .loop .inv .1 .1 z i (omega (arith, l))
 

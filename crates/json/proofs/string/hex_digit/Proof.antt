@@ -1,3 +1,4 @@
+-- `hex_digit` goes by the three ranges of hexadecimal digits.
 use Prim.Native.Nat.{_-_}
 use mathlib.Core.Path.{_≡_, sym}
 use native.Mathlib.Omega.{arith}
@@ -7,17 +8,13 @@ use Rattle.json.proofs.StringParts.{hex-small, hex-from, hex-lower}
 use borrow.Author.Needs.{needs}
 use Rattle.json.proofs.string.hex_digit.Statement.{statement}
 use Rattle.json.proofs.string.hex_digit.Tie as tie
-use Rattle.json.proofs.string.hex_digit.Reads as reads
-use Rattle.json.proofs.string.hex_digit.Lts as lts
 
--- src/string.rt:61:16
 sub-result : tie.Need-sub-result
 sub-result c =
     let d = c .before .args .c in
     let hex = c .before .pre in
     omega (arith, hex-from d hex)
 
--- src/string.rt:61:9
 returns : tie.Need-returns
 returns c =
     let d = c .before .args .c in
@@ -25,11 +22,9 @@ returns c =
     let e : d - 48 ≡ hexDigit d = sym (simp (le-leb d 57 (c .if1 .taken))) in
     (e, omega (arith, e, hex-small d hex))
 
--- src/string.rt:64:16
 sub-result-2 : tie.Need-sub-result-2
 sub-result-2 c = search needs
 
--- src/string.rt:64:9
 returns-2 : tie.Need-returns-2
 returns-2 c =
     let d = c .before .before .args .c in
@@ -37,14 +32,12 @@ returns-2 c =
     let e : d - 55 ≡ hexDigit d = sym (simp (lt-leb d 57 (c .before .if1 .left), le-leb d 70 (c .if2 .taken))) in
     (e, omega (arith, e, hex-small d hex))
 
--- src/string.rt:66:5
 sub-result-3 : tie.Need-sub-result-3
 sub-result-3 c =
     let d = c .before .before .args .c in
     let hex = c .before .before .pre in
     omega (arith, hex-lower d hex (c .if2 .left))
 
--- src/string.rt:56:1
 returns-3 : tie.Need-returns-3
 returns-3 c =
     let d = c .before .before .args .c in

@@ -1,22 +1,16 @@
+-- `is_hex` is a digit or one of twelve letters.
 use mathlib.Core.Path.{ap₂}
 use mathlib.Core.Bool.{_||_}
 use borrow.Author.Needs.{needs}
 use Rattle.json.proofs.string.is_hex.Statement.{statement}
 use Rattle.json.proofs.string.is_hex.Tie as tie
-use Rattle.json.proofs.string.is_hex.Reads as reads
-use Rattle.json.proofs.string.is_hex.Lts as lts
-use Rattle.json.proofs.is_digit.Reads as is-digit-reads
-use Rattle.json.proofs.string.is_letter_of_hex.Reads as is-letter-of-hex-reads
 
--- src/string.rt:52:5
 is-digit-requires : tie.Need-is-digit-requires
 is-digit-requires c κs = search needs
 
--- src/string.rt:52:26
 is-letter-of-hex-requires : tie.Need-is-letter-of-hex-requires
 is-letter-of-hex-requires c κs = search needs
 
--- src/string.rt:49:1
 returns : tie.Need-returns
 returns c = ap₂ _||_ (c .before .is-digit .ensures) (c .is-letter-of-hex .ensures)
 
