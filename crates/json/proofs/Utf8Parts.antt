@@ -8,16 +8,13 @@ use Prim.Native.Nat.{ℕ, zero, suc, _+_, _-_, _≤_, _<_}
 use native.Mathlib.Omega.{arith}
 use lib.ListN.{length, take, drop, getD, drop-of-length-le, length-take, length-drop}
 use lib.Seq.{getD-take, getD-drop}
-use lib.Dec.{T, eqb, leb, ltb}
-use borrow.Author.Tests.{ltb-true, ltb-false, le-leb, lt-leb, eqb-true, ne-eqb}
+use lib.Dec.{T, eqb, leb}
+use borrow.Author.Tests.{le-leb, eqb-true, ne-eqb}
 use Rattle.prelude.proofs.Lists.{drop-next}
 use Rattle.prelude.proofs.Numbers.{every, below}
 use Rattle.json.specs.Utf8.{pick, Range, to, within, tail, rows, follow, utf8After, utf8}
-use Rattle.json.specs.Reader.{octetAt}
 use Rattle.json.specs.Utf8Parts.{past, Low}
 use Rattle.json.proofs.Scan.{T→true, both-T}
-use Rattle.json.proofs.Here.{octet-here}
-use Rattle.json.proofs.StringParts.{class-inside}
 use Rattle.json.proofs.Steps.{utf8-low-run}
 
 -- The ranges that a first octet gives
@@ -129,39 +126,62 @@ module _ (s : List ℕ) (at : ℕ) where
         sym (utf8-low-run s 1 at (omega arith)
         (λ k b. let e : at ≡ at + k = omega arith in subst (λ (n : ℕ). getD s n 0 < 128) e l))
 
-  -- An octet that has to be in a range: it is, and the test goes on after it.
-  module _ (r : Range) (rs : List Range) where
-    range-here : at < length s →
-        utf8After (r ∷ rs) (drop at s) ≡ (within r (octetAt s at) && utf8After rs (drop (at + 1) s))
-    unfolding utf8After
-    range-here h =
-        ap (utf8After (r ∷ rs)) (drop-next s at (at + 1) refl h)
-        ∙ ap (λ (n : ℕ). within r n && utf8After rs (drop (at + 1) s)) (octet-here s at h)
+-- Octets that have to be in ranges: they are, and the test goes on after them.
 
-    pub range-next : (n : ℕ) → n ≡ at + 1 → at < length s → within r (octetAt s at) ≡ true →
-        utf8After rs (drop n s) ≡ utf8After (r ∷ rs) (drop at s)
-    range-next n m h e =
-        ap (λ (k : ℕ). utf8After rs (drop k s)) m
-        ∙ sym (range-here h ∙ ap (λ (b : Bool). b && utf8After rs (drop (at + 1) s)) e)
+range-here : (s : List ℕ) (at : ℕ) (r : Range) (rs : List Range) (n : ℕ) → n ≡ at + 1 → at < length s →
+    utf8After (r ∷ rs) (drop at s) ≡ (within r (getD s at 0) && utf8After rs (drop n s))
+unfolding utf8After
+range-here s at r rs n e h = ap (utf8After (r ∷ rs)) (drop-next s at n e h)
 
-    -- Or it is not, or the end is here.
-    pub range-wrong : within r (octetAt s at) ≡ false → false ≡ utf8After (r ∷ rs) (drop at s)
-    unfolding utf8After
-    range-wrong e = cases (ltb at (length s)) refl
-      where
-        cases : (b : Bool) → ltb at (length s) ≡ b → false ≡ utf8After (r ∷ rs) (drop at s)
-        cases true q =
-            sym (range-here (ltb-true at (length s) q) ∙ ap (λ (b : Bool). b && utf8After rs (drop (at + 1) s)) e)
-        cases false q = ap (utf8After (r ∷ rs)) (sym (drop-of-length-le s {i = at} (ltb-false at (length s) q)))
+and-assoc : (a b c : Bool) → (a && (b && c)) ≡ ((a && b) && c)
+and-assoc true b c = refl
+and-assoc false b c = refl
 
-  -- An octet in a range of octets is inside the text.
-  pub range-inside : (low high : ℕ) → high < 256 → within (to low high) (octetAt s at) ≡ true → at < length s
-  range-inside low high h e =
-      class-inside (within (to low high)) s at (never (leb low 256)) e
+module _ (s : List ℕ) (at : ℕ) where
+  pub two-here : (p : Range) → at + 2 ≤ length s →
+      utf8After (p ∷ []) (drop (at + 1) s) ≡ (within p (getD s (at + 1) 0) && utf8 (drop (at + 2) s))
+  unfolding utf8
+  two-here p h = range-here s (at + 1) p [] (at + 2) (omega arith) (omega arith)
+
+  pub three-here : (p q : Range) → at + 3 ≤ length s →
+      utf8After (p ∷ q ∷ []) (drop (at + 1) s)
+      ≡ ((within p (getD s (at + 1) 0) && within q (getD s (at + 2) 0)) && utf8 (drop (at + 3) s))
+  unfolding utf8
+  three-here p q h =
+      range-here s (at + 1) p (q ∷ []) (at + 2) (omega arith) (omega arith)
+      ∙ ap (λ (b : Bool). within p (getD s (at + 1) 0) && b)
+      (range-here s (at + 2) q [] (at + 3) (omega arith) (omega arith))
+      ∙ and-assoc (within p (getD s (at + 1) 0)) (within q (getD s (at + 2) 0)) (utf8After [] (drop (at + 3) s))
+
+  pub four-here : (p q r : Range) → at + 4 ≤ length s →
+      utf8After (p ∷ q ∷ r ∷ []) (drop (at + 1) s)
+      ≡ ((within p (getD s (at + 1) 0) && (within q (getD s (at + 2) 0) && within r (getD s (at + 3) 0)))
+      && utf8 (drop (at + 4) s))
+  unfolding utf8
+  four-here p q r h =
+      range-here s (at + 1) p (q ∷ r ∷ []) (at + 2) (omega arith) (omega arith)
+      ∙ ap (λ (b : Bool). within p (getD s (at + 1) 0) && b)
+      (range-here s (at + 2) q (r ∷ []) (at + 3) (omega arith) (omega arith)
+      ∙ ap (λ (b : Bool). within q (getD s (at + 2) 0) && b)
+      (range-here s (at + 3) r [] (at + 4) (omega arith) (omega arith))
+      ∙ and-assoc (within q (getD s (at + 2) 0)) (within r (getD s (at + 3) 0)) (utf8After [] (drop (at + 4) s)))
+      ∙ and-assoc (within p (getD s (at + 1) 0)) (within q (getD s (at + 2) 0) && within r (getD s (at + 3) 0))
+      (utf8After [] (drop (at + 4) s))
+
+  -- Or there are too few.
+  pub too-few : (rs : List Range) → length s < at + 1 + length rs → at < length s →
+      false ≡ utf8After rs (drop (at + 1) s)
+  unfolding utf8After
+  too-few rs h l = short rs (drop (at + 1) s) (omega (arith, length-drop (at + 1) s))
     where
-      never : (b : Bool) → (b && leb 256 high) ≡ false
-      never true = lt-leb 256 high h
-      never false = refl
+      short : (rs : List Range) (t : List ℕ) → length t < length rs → false ≡ utf8After rs t
+      short [] t h = absurd (omega arith)
+      short (r ∷ rs) [] h = refl
+      short (r ∷ rs) (c ∷ t) h = cases (within r c) (short rs t (omega arith))
+        where
+          cases : (b : Bool) → false ≡ utf8After rs t → false ≡ (b && utf8After rs t)
+          cases true e = e
+          cases false e = refl
 
   -- What is left after a character that is one.
   pub past-some : (n : ℕ) → (n ≡ 0 → ⊥) → past s at n ≡ utf8 (drop (at + n) s)

@@ -4,82 +4,76 @@ ghost use Prim.Native.Nat.{_+_, _≤_, _<_};
 ghost use mathlib.Core.List.{[], _∷_};
 ghost use lib.ListN.{length, drop};
 ghost use Rattle.json.specs.Utf8.{to, within, tail, utf8After, utf8};
-ghost use Rattle.json.specs.Reader.{octetAt};
 ghost use Rattle.json.specs.Utf8Parts.{past, onward, Reaches, Low};
 use crate::Ends;
 use crate::Position;
 
-// How many octets are 128 or above; counted in an octet and without another exit, so that it is done sixteen at a time.
-fn count_high(block: &[u8]) -> u8
-    requires { ⌜ length (now block) ≤ 64 ⌝ }
-    ensures { λ r. ⌜ (r ≡ 0 → Low (now (block .entry))) ⌝ }
+// The highest octet, 0 of none; the compiler takes it sixteen at a time.
+fn highest(block: &[u8]) -> u8
+    ensures { λ r. ⌜ (r < 128 → Low (now (block .entry))) ⌝ }
 {
-    let mut count: u8 = 0;
+    let mut top: u8 = 0;
     let mut k: usize = 0;
     while k < block.len() {
-        if 128 <= block[k] {
-            count += 1;
+        if top < block[k] {
+            top = block[k];
         }
         k += 1;
     }
-    count
+    top
 }
 
-fn is_within(c: u16, low: u16, high: u16) -> bool
+fn is_within(c: u8, low: u8, high: u8) -> bool
     ensures { λ r. ⌜ r ≡ within (to low high) c ⌝ }
 {
     (low <= c) & (c <= high)
 }
 
-// Whether an octet from low to high stands at a position.
-fn is_next(s: &[u8], at: usize, low: u16, high: u16) -> bool
-    ensures { λ r. ⌜ r ≡ within (to low high) (octetAt (now (s .entry)) at) ⌝ }
-{
-    is_within(Position { at }.peek(s), low, high)
-}
-
 // The characters of two, three and four octets, of which the first is right: how many, or 0 where the others are wrong.
+// The others are tested together, which is quicker than one by one.
 
 fn two(s: &[u8], at: usize) -> usize
     requires { ⌜ at < length (now s) ⌝ }
     ensures { λ r. ⌜ past (now (s .entry)) at r ≡ utf8After (tail ∷ []) (drop (at + 1) (now (s .entry))) ⌝ }
     ensures { λ r. ⌜ at + r ≤ length (now (s .entry)) ⌝ }
 {
-    if !is_next(s, at + 1, 128, 191) {
+    if s.len() - at < 2 {
         return 0;
     }
-    2
+    if is_within(s[at + 1], 0x80, 0xBF) {
+        return 2;
+    }
+    0
 }
 
-fn three(s: &[u8], at: usize, low: u16, high: u16) -> usize
-    requires { ⌜ (at < length (now s)) × (high < 256) ⌝ }
+fn three(s: &[u8], at: usize, low: u8, high: u8) -> usize
+    requires { ⌜ at < length (now s) ⌝ }
     ensures { λ r. ⌜ past (now (s .entry)) at r ≡ utf8After (to low high ∷ tail ∷ []) (drop (at + 1) (now (s .entry))) ⌝ }
     ensures { λ r. ⌜ at + r ≤ length (now (s .entry)) ⌝ }
 {
-    if !is_next(s, at + 1, low, high) {
+    if s.len() - at < 3 {
         return 0;
     }
-    if !is_next(s, at + 2, 128, 191) {
-        return 0;
+    if is_within(s[at + 1], low, high) & is_within(s[at + 2], 0x80, 0xBF) {
+        return 3;
     }
-    3
+    0
 }
 
-fn four(s: &[u8], at: usize, low: u16, high: u16) -> usize
-    requires { ⌜ (at < length (now s)) × (high < 256) ⌝ }
+fn four(s: &[u8], at: usize, low: u8, high: u8) -> usize
+    requires { ⌜ at < length (now s) ⌝ }
     ensures { λ r. ⌜ past (now (s .entry)) at r ≡ utf8After (to low high ∷ tail ∷ tail ∷ []) (drop (at + 1) (now (s .entry))) ⌝ }
     ensures { λ r. ⌜ at + r ≤ length (now (s .entry)) ⌝ }
 {
-    if !is_next(s, at + 1, low, high) {
+    if s.len() - at < 4 {
         return 0;
     }
-    if !is_next(s, at + 2, 128, 191) {
-        return 0;
+    if is_within(s[at + 1], low, high)
+        & (is_within(s[at + 2], 0x80, 0xBF) & is_within(s[at + 3], 0x80, 0xBF))
+    {
+        return 4;
     }
-    if !is_next(s, at + 3, 128, 191) {
-        return 0;
-    }
-    4
+    0
 }
 
 // The number of octets of the character at a position, or 0: the rows of the grammar in their order.
@@ -146,7 +140,7 @@ fn block(s: &[u8], at: usize) -> Ends
     ensures { λ r. ⌜ Reaches (at + 64) (now (s .entry)) r ⌝ }
 {
     let e = at + 64;
-    if count_high(&s[at..e]) == 0 {
+    if highest(&s[at..e]) < 128 {
         return Ends::At(Position { at: e });
     }
     walk(s, at, e)

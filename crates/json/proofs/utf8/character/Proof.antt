@@ -9,17 +9,10 @@ use Rattle.json.proofs.Utf8Parts.{follow-80, follow-C2, follow-E0, foll
 use borrow.Author.Needs.{needs}
 use Rattle.json.proofs.utf8.character.Statement.{statement}
 use Rattle.json.proofs.utf8.character.Tie as tie
-use Rattle.json.proofs.utf8.character.Reads as reads
-use Rattle.json.proofs.utf8.character.Lts as lts
-use Rattle.json.proofs.utf8.four.Reads as four-reads
-use Rattle.json.proofs.utf8.three.Reads as three-reads
-use Rattle.json.proofs.utf8.two.Reads as two-reads
 
--- src/utf8.rt:91:13
 shared-slice-read-c : tie.Need-shared-slice-read-c
 shared-slice-read-c c = search needs
 
--- src/utf8.rt:93:9
 returns : tie.Need-returns
 returns c =
     let start = c .before .before .before in
@@ -27,31 +20,26 @@ returns c =
     let at = start .args .at in
     (first-low s at (start .pre) (c .if1 .taken), omega arith)
 
--- src/utf8.rt:96:9
 returns-2 : tie.Need-returns-2
 returns-2 c =
     let start = c .before .before .before .before in
     let s = start .args .s .now in
     let at = start .args .at in
-    (first-none s at (start .pre) (follow-80 (getD s at 0) (c .before .if1 .left) (c .if2 .taken)), omega arith)
+    (first-none s at (start .pre) (follow-80 (getD s at 0) (omega (arith, c .before .if1 .left)) (omega (arith, c .if2 .taken))), omega arith)
 
--- src/utf8.rt:99:9
 two-requires : tie.Need-two-requires
 two-requires c κs = search needs
 
--- src/utf8.rt:99:9
 returns-3 : tie.Need-returns-3
 returns-3 c =
     let start = c .before .before .before .before .before .before in
     let s = start .args .s .now in
     let at = start .args .at in
-    (c .two .ensures .0 ∙ first-some s at (start .pre) (tail ∷ []) (follow-C2 (getD s at 0) (c .before .before .if2 .left) (c .before .if3 .taken)), c .two .ensures .1)
+    (c .two .ensures .0 ∙ first-some s at (start .pre) (tail ∷ []) (follow-C2 (getD s at 0) (omega (arith, c .before .before .if2 .left)) (omega (arith, c .before .if3 .taken))), c .two .ensures .1)
 
--- src/utf8.rt:102:9
 three-requires : tie.Need-three-requires
 three-requires c κs = search needs
 
--- src/utf8.rt:102:9
 returns-4 : tie.Need-returns-4
 returns-4 c =
     let start = c .before .before .before .before .before .before .before in
@@ -59,11 +47,9 @@ returns-4 c =
     let at = start .args .at in
     (c .three .ensures .0 ∙ first-some s at (start .pre) (to 0xA0 0xBF ∷ tail ∷ []) (follow-E0 (getD s at 0) (c .before .if4 .taken)), c .three .ensures .1)
 
--- src/utf8.rt:105:9
 three-requires-2 : tie.Need-three-requires-2
 three-requires-2 c κs = search needs
 
--- src/utf8.rt:105:9
 returns-5 : tie.Need-returns-5
 returns-5 c =
     let start = c .before .before .before .before .before .before .before .before in
@@ -71,11 +57,9 @@ returns-5 c =
     let at = start .args .at in
     (c .three2 .ensures .0 ∙ first-some s at (start .pre) (tail ∷ tail ∷ []) (follow-E1 (getD s at 0) (omega (arith, (c .before .before .before .if3 .left), (c .before .before .if4 .left))) (c .before .if5 .taken)), c .three2 .ensures .1)
 
--- src/utf8.rt:108:9
 three-requires-3 : tie.Need-three-requires-3
 three-requires-3 c κs = search needs
 
--- src/utf8.rt:108:9
 returns-6 : tie.Need-returns-6
 returns-6 c =
     let start = c .before .before .before .before .before .before .before .before .before in
@@ -83,11 +67,9 @@ returns-6 c =
     let at = start .args .at in
     (c .three3 .ensures .0 ∙ first-some s at (start .pre) (to 0x80 0x9F ∷ tail ∷ []) (follow-ED (getD s at 0) (c .before .if6 .taken)), c .three3 .ensures .1)
 
--- src/utf8.rt:111:9
 three-requires-4 : tie.Need-three-requires-4
 three-requires-4 c κs = search needs
 
--- src/utf8.rt:111:9
 returns-7 : tie.Need-returns-7
 returns-7 c =
     let start = c .before .before .before .before .before .before .before .before .before .before in
@@ -95,11 +77,9 @@ returns-7 c =
     let at = start .args .at in
     (c .three4 .ensures .0 ∙ first-some s at (start .pre) (tail ∷ tail ∷ []) (follow-EE (getD s at 0) (omega (arith, (c .before .before .before .if5 .left), (c .before .before .if6 .left))) (c .before .if7 .taken)), c .three4 .ensures .1)
 
--- src/utf8.rt:114:9
 four-requires : tie.Need-four-requires
 four-requires c κs = search needs
 
--- src/utf8.rt:114:9
 returns-8 : tie.Need-returns-8
 returns-8 c =
     let start = c .before .before .before .before .before .before .before .before .before .before .before in
@@ -107,11 +87,9 @@ returns-8 c =
     let at = start .args .at in
     (c .four .ensures .0 ∙ first-some s at (start .pre) (to 0x90 0xBF ∷ tail ∷ tail ∷ []) (follow-F0 (getD s at 0) (c .before .if8 .taken)), c .four .ensures .1)
 
--- src/utf8.rt:117:9
 four-requires-2 : tie.Need-four-requires-2
 four-requires-2 c κs = search needs
 
--- src/utf8.rt:117:9
 returns-9 : tie.Need-returns-9
 returns-9 c =
     let start = c .before .before .before .before .before .before .before .before .before .before .before .before in
@@ -119,11 +97,9 @@ returns-9 c =
     let at = start .args .at in
     (c .four2 .ensures .0 ∙ first-some s at (start .pre) (tail ∷ tail ∷ tail ∷ []) (follow-F1 (getD s at 0) (omega (arith, (c .before .before .before .if7 .left), (c .before .before .if8 .left))) (c .before .if9 .taken)), c .four2 .ensures .1)
 
--- src/utf8.rt:120:9
 four-requires-3 : tie.Need-four-requires-3
 four-requires-3 c κs = search needs
 
--- src/utf8.rt:120:9
 returns-10 : tie.Need-returns-10
 returns-10 c =
     let start = c .before .before .before .before .before .before .before .before .before .before .before .before .before in
@@ -131,7 +107,6 @@ returns-10 c =
     let at = start .args .at in
     (c .four3 .ensures .0 ∙ first-some s at (start .pre) (to 0x80 0x8F ∷ tail ∷ tail ∷ []) (follow-F4 (getD s at 0) (c .before .if10 .taken)), c .four3 .ensures .1)
 
--- src/utf8.rt:86:1
 returns-11 : tie.Need-returns-11
 returns-11 c =
     let start = c .before .before .before .before .before .before .before .before .before .before .before .before in

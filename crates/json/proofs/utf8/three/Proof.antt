@@ -1,77 +1,71 @@
--- Each octet after the first moves the test on or fails it.
+-- The octets after the first are too few, or all in their ranges, or not.
 use Prim.Native.Nat.{_+_}
-use mathlib.Core.Path.{sym, _∙_}
+use mathlib.Core.Path.{ap, ap₂, sym, _∙_}
+use mathlib.Core.Bool.{Bool, _&&_}
 use mathlib.Core.List.{[], _∷_}
 use native.Mathlib.Omega.{arith}
-use borrow.Author.Tests.{not-true, not-false}
+use lib.ListN.{drop}
 use Rattle.json.specs.Utf8.{to, tail, utf8}
-use Rattle.json.proofs.Utf8Parts.{range-next, range-wrong, range-inside}
+use Rattle.json.proofs.Utf8Parts.{too-few, three-here}
 use borrow.Author.Needs.{needs}
 use Rattle.json.proofs.utf8.three.Statement.{statement}
 use Rattle.json.proofs.utf8.three.Tie as tie
-use Rattle.json.proofs.utf8.three.Reads as reads
-use Rattle.json.proofs.utf8.three.Lts as lts
-use Rattle.json.proofs.utf8.is_next.Reads as is-next-reads
 
--- src/utf8.rt:59:20
-add-is-next : tie.Need-add-is-next
-add-is-next c = search needs
+sub-if1 : tie.Need-sub-if1
+sub-if1 c = search needs
 
--- src/utf8.rt:59:9
-is-next-requires : tie.Need-is-next-requires
-is-next-requires c κs = search needs
-
--- src/utf8.rt:60:9
 returns : tie.Need-returns
 returns c =
-    let start = c .before .before .before in
+    let start = c .before .before in
     let s = start .args .s .now in
     let at = start .args .at in
-    let out = sym (c .before .is-next .ensures) ∙ not-true _ (c .if1 .taken) in
-    (range-wrong s (at + 1) (to (start .args .low) (start .args .high)) (tail ∷ []) out, omega arith)
+    (too-few s at (to (start .args .low) (start .args .high) ∷ tail ∷ []) (omega arith) (start .pre), omega arith)
 
--- src/utf8.rt:62:20
-add-is-next-2 : tie.Need-add-is-next-2
-add-is-next-2 c = search needs
+add-is-within : tie.Need-add-is-within
+add-is-within c = search needs
 
--- src/utf8.rt:62:9
-is-next-requires-2 : tie.Need-is-next-requires-2
-is-next-requires-2 c κs = search needs
+shared-slice-read-is-within : tie.Need-shared-slice-read-is-within
+shared-slice-read-is-within c = search needs
 
--- src/utf8.rt:63:9
+is-within-requires : tie.Need-is-within-requires
+is-within-requires c κs = search needs
+
+add-is-within-2 : tie.Need-add-is-within-2
+add-is-within-2 c = search needs
+
+shared-slice-read-is-within-2 : tie.Need-shared-slice-read-is-within-2
+shared-slice-read-is-within-2 c = search needs
+
+is-within-requires-2 : tie.Need-is-within-requires-2
+is-within-requires-2 c κs = search needs
+
 returns-2 : tie.Need-returns-2
 returns-2 c =
-    let start = c .before .before .before .before .before in
+    let start = c .before .before .before .before .before .before .before in
     let s = start .args .s .now in
     let at = start .args .at in
-    let in1 = sym (c .before .before .before .is-next .ensures) ∙ not-false _ (c .before .before .if1 .left) in
-    let here1 = range-inside s (at + 1) (start .args .low) (start .args .high) (omega arith) in1 in
-    let out = sym (c .before .is-next2 .ensures) ∙ not-true _ (c .if2 .taken) in
-    (range-wrong s (at + 2) tail ([]) out
-    ∙ range-next s (at + 1) (to (start .args .low) (start .args .high)) (tail ∷ []) (at + 2) (omega arith) here1 in1, omega arith)
+    let tested = ap₂ _&&_ (sym (c .before .before .before .is-within .ensures)) (sym (c .before .is-within2 .ensures)) ∙ c .if2 .taken in
+    (sym (three-here s at (to (start .args .low) (start .args .high)) tail (omega arith) ∙ ap (λ (b : Bool). b && utf8 (drop (at + 3) s)) tested), omega arith)
 
--- src/utf8.rt:54:1
 returns-3 : tie.Need-returns-3
-unfolding utf8
 returns-3 c =
-    let start = c .before .before .before .before .before in
+    let start = c .before .before .before .before .before .before .before in
     let s = start .args .s .now in
     let at = start .args .at in
-    let in1 = sym (c .before .before .before .is-next .ensures) ∙ not-false _ (c .before .before .if1 .left) in
-    let here1 = range-inside s (at + 1) (start .args .low) (start .args .high) (omega arith) in1 in
-    let in2 = sym (c .before .is-next2 .ensures) ∙ not-false _ (c .if2 .left) in
-    let here2 = range-inside s (at + 2) 128 191 (omega arith) in2 in
-    (range-next s (at + 2) tail ([]) (at + 3) (omega arith) here2 in2
-    ∙ range-next s (at + 1) (to (start .args .low) (start .args .high)) (tail ∷ []) (at + 2) (omega arith) here1 in1, omega arith)
+    let tested = ap₂ _&&_ (sym (c .before .before .before .is-within .ensures)) (sym (c .before .is-within2 .ensures)) ∙ c .if2 .left in
+    (sym (three-here s at (to (start .args .low) (start .args .high)) tail (omega arith) ∙ ap (λ (b : Bool). b && utf8 (drop (at + 3) s)) tested), omega arith)
 
 pub three-spec : {M : Type 1} → statement M
 three-spec =
     tie.close
     (tie.spec
-    add-is-next
-    is-next-requires
+    sub-if1
     returns
-    add-is-next-2
-    is-next-requires-2
+    add-is-within
+    shared-slice-read-is-within
+    is-within-requires
+    add-is-within-2
+    shared-slice-read-is-within-2
+    is-within-requires-2
     returns-2
     returns-3)

@@ -1,45 +1,59 @@
--- Each octet after the first moves the test on or fails it.
+-- The octets after the first are too few, or all in their ranges, or not.
 use Prim.Native.Nat.{_+_}
-use mathlib.Core.Path.{sym, _∙_}
+use mathlib.Core.Path.{ap, sym, _∙_}
+use mathlib.Core.Bool.{Bool, _&&_}
 use mathlib.Core.List.{[], _∷_}
 use native.Mathlib.Omega.{arith}
-use borrow.Author.Tests.{not-true, not-false}
+use lib.ListN.{drop}
 use Rattle.json.specs.Utf8.{tail, utf8}
-use Rattle.json.proofs.Utf8Parts.{range-next, range-wrong, range-inside}
+use Rattle.json.proofs.Utf8Parts.{too-few, two-here}
 use borrow.Author.Needs.{needs}
 use Rattle.json.proofs.utf8.two.Statement.{statement}
 use Rattle.json.proofs.utf8.two.Tie as tie
-use Rattle.json.proofs.utf8.two.Reads as reads
-use Rattle.json.proofs.utf8.two.Lts as lts
-use Rattle.json.proofs.utf8.is_next.Reads as is-next-reads
 
--- src/utf8.rt:48:20
-add-is-next : tie.Need-add-is-next
-add-is-next c = search needs
+sub-if1 : tie.Need-sub-if1
+sub-if1 c = search needs
 
--- src/utf8.rt:48:9
-is-next-requires : tie.Need-is-next-requires
-is-next-requires c κs = search needs
-
--- src/utf8.rt:49:9
 returns : tie.Need-returns
 returns c =
-    let start = c .before .before .before in
+    let start = c .before .before in
     let s = start .args .s .now in
     let at = start .args .at in
-    let out = sym (c .before .is-next .ensures) ∙ not-true _ (c .if1 .taken) in
-    (range-wrong s (at + 1) tail ([]) out, omega arith)
+    (too-few s at (tail ∷ []) (omega arith) (start .pre), omega arith)
 
--- src/utf8.rt:43:1
+add-is-within : tie.Need-add-is-within
+add-is-within c = search needs
+
+shared-slice-read-is-within : tie.Need-shared-slice-read-is-within
+shared-slice-read-is-within c = search needs
+
+is-within-requires : tie.Need-is-within-requires
+is-within-requires c κs = search needs
+
 returns-2 : tie.Need-returns-2
-unfolding utf8
 returns-2 c =
-    let start = c .before .before .before in
+    let start = c .before .before .before .before .before in
     let s = start .args .s .now in
     let at = start .args .at in
-    let in1 = sym (c .before .is-next .ensures) ∙ not-false _ (c .if1 .left) in
-    let here1 = range-inside s (at + 1) 128 191 (omega arith) in1 in
-    (range-next s (at + 1) tail ([]) (at + 2) (omega arith) here1 in1, omega arith)
+    let tested = sym (c .before .is-within .ensures) ∙ c .if2 .taken in
+    (sym (two-here s at tail (omega arith) ∙ ap (λ (b : Bool). b && utf8 (drop (at + 2) s)) tested), omega arith)
+
+returns-3 : tie.Need-returns-3
+returns-3 c =
+    let start = c .before .before .before .before .before in
+    let s = start .args .s .now in
+    let at = start .args .at in
+    let tested = sym (c .before .is-within .ensures) ∙ c .if2 .left in
+    (sym (two-here s at tail (omega arith) ∙ ap (λ (b : Bool). b && utf8 (drop (at + 2) s)) tested), omega arith)
 
 pub two-spec : {M : Type 1} → statement M
-two-spec = tie.close (tie.spec add-is-next is-next-requires returns returns-2)
+two-spec =
+    tie.close
+    (tie.spec
+    sub-if1
+    returns
+    add-is-within
+    shared-slice-read-is-within
+    is-within-requires
+    returns-2
+    returns-3)

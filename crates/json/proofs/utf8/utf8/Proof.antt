@@ -9,10 +9,6 @@ use Rattle.json.proofs.Utf8Parts.{utf8-end}
 use borrow.Author.Needs.{needs}
 use Rattle.json.proofs.utf8.utf8.Statement.{statement}
 use Rattle.json.proofs.utf8.utf8.Tie as tie
-use Rattle.json.proofs.utf8.utf8.Reads as reads
-use Rattle.json.proofs.utf8.utf8.Lts as lts
-use Rattle.json.proofs.utf8.block.Reads as block-reads
-use Rattle.json.proofs.utf8.walk.Reads as walk-reads
 
 abbrev Inv-loop : tie.InvT-loop
 Inv-loop s n at₀ at = (at ≤ length s) × (utf8 (drop at s) ≡ utf8 s)
@@ -20,33 +16,26 @@ Inv-loop s n at₀ at = (at ≤ length s) × (utf8 (drop at s) ≡ utf8 s)
 abbrev μ-loop : tie.MeasureT-loop
 μ-loop s n at₀ at = length s - at
 
--- src/utf8.rt:161:5
 loop-holds : tie.Need-loop-holds Inv-loop μ-loop
 loop-holds c = (search needs, refl)
 
--- src/utf8.rt:161:17
 sub-loop : tie.Need-sub-loop Inv-loop μ-loop
 sub-loop c = search needs
 
--- src/utf8.rt:162:13
 block-requires : tie.Need-block-requires Inv-loop μ-loop
 block-requires c κs = search needs
 
--- src/utf8.rt:163:22
 enum-known-answer : tie.Need-enum-known-answer Inv-loop μ-loop
 enum-known-answer c = search needs
 
--- src/utf8.rt:164:13
 enum-told : tie.Need-enum-told Inv-loop μ-loop
 enum-told c = search needs
 
--- src/utf8.rt:164:13
 returns : tie.Need-returns Inv-loop μ-loop
 returns c =
     let s = c .before .before .before .before .before .before .args .s .now in
     ap (onward s) (sym (c .enum-told .given .1)) ∙ c .before .before .block .ensures .0 ∙ c .before .before .before .before .loop .inv .1
 
--- src/utf8.rt:161:5
 loop-less : tie.Need-loop-less Inv-loop μ-loop
 loop-less c =
     let s = c .before .before .before .before .before .before .before .args .s .now in
@@ -55,7 +44,6 @@ loop-less c =
     let reaches = subst (Reaches (loop .at + 64) s) (next .1) (c .before .before .before .block .ensures .1) in
     omega (arith, reaches)
 
--- src/utf8.rt:161:5
 loop-again : tie.Need-loop-again Inv-loop μ-loop
 loop-again c =
     let s = c .before .before .before .before .before .before .before .args .s .now in
@@ -64,24 +52,20 @@ loop-again c =
     let reaches = subst (Reaches (loop .at + 64) s) (next .1) (c .before .before .before .block .ensures .1) in
     (reaches .1, ap (onward s) (sym (next .1)) ∙ c .before .before .before .block .ensures .0 ∙ loop .inv .1)
 
--- src/utf8.rt:168:9
 walk-requires : tie.Need-walk-requires Inv-loop μ-loop
 walk-requires c κs = search needs
 
 enum-told-2 : tie.Need-enum-told-2 Inv-loop μ-loop
 enum-told-2 c = search needs
 
--- src/utf8.rt:170:9
 enum-told-3 : tie.Need-enum-told-3 Inv-loop μ-loop
 enum-told-3 c = search needs
 
--- src/utf8.rt:170:9
 returns-2 : tie.Need-returns-2 Inv-loop μ-loop
 returns-2 c =
     let s = c .before .before .before .before .before .before .args .s .now in
     ap (onward s) (sym (c .enum-told3 .given .1)) ∙ c .before .before .walk .ensures .0 ∙ c .before .before .before .before .loop .inv .1
 
--- src/utf8.rt:156:1
 returns-3 : tie.Need-returns-3 Inv-loop μ-loop
 returns-3 c =
     let s = c .before .before .before .before .before .before .args .s .now in

@@ -7,9 +7,6 @@ use Rattle.json.proofs.Utf8Parts.{past-none, past-some}
 use borrow.Author.Needs.{needs}
 use Rattle.json.proofs.utf8.walk.Statement.{statement}
 use Rattle.json.proofs.utf8.walk.Tie as tie
-use Rattle.json.proofs.utf8.walk.Reads as reads
-use Rattle.json.proofs.utf8.walk.Lts as lts
-use Rattle.json.proofs.utf8.character.Reads as character-reads
 
 abbrev Inv-loop : tie.InvT-loop
 Inv-loop s from to at₀ at = (at ≤ length s) × (utf8 (drop at s) ≡ utf8 (drop from s))
@@ -17,15 +14,12 @@ Inv-loop s from to at₀ at = (at ≤ length s) × (utf8 (drop at s) ≡ utf8 (d
 abbrev μ-loop : tie.MeasureT-loop
 μ-loop s from to at₀ at = length s - at
 
--- src/utf8.rt:132:5
 loop-holds : tie.Need-loop-holds Inv-loop μ-loop
 loop-holds c = (search needs, refl)
 
--- src/utf8.rt:133:13
 character-requires : tie.Need-character-requires Inv-loop μ-loop
 character-requires c κs = search needs
 
--- src/utf8.rt:135:13
 returns : tie.Need-returns Inv-loop μ-loop
 returns c =
     let s = c .before .before .before .before .before .args .s .now in
@@ -33,15 +27,12 @@ returns c =
     let stands = c .before .character in
     (sym (past-none s (loop .at) (stands .result) (c .if1 .taken)) ∙ stands .ensures .0 ∙ loop .inv .1, tt)
 
--- src/utf8.rt:137:9
 add-at : tie.Need-add-at Inv-loop μ-loop
 add-at c = search needs
 
--- src/utf8.rt:132:5
 loop-less : tie.Need-loop-less Inv-loop μ-loop
 loop-less c = search needs
 
--- src/utf8.rt:132:5
 loop-again : tie.Need-loop-again Inv-loop μ-loop
 loop-again c =
     let s = c .before .before .before .before .before .args .s .now in
@@ -49,7 +40,6 @@ loop-again c =
     let stands = c .before .character in
     (stands .ensures .1, sym (past-some s (loop .at) (stands .result) (c .if1 .left)) ∙ stands .ensures .0 ∙ loop .inv .1)
 
--- src/utf8.rt:126:1
 returns-2 : tie.Need-returns-2 Inv-loop μ-loop
 returns-2 c = (c .before .loop .inv .1, (c .loop-test .left, c .before .loop .inv .0))
 
