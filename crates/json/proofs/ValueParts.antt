@@ -15,7 +15,7 @@ use Rattle.json.specs.Utf8.{pick, utf8}
 use Rattle.json.specs.Reader.{End, refused, ended, octetAt, step, skipSpace, stringAt, numberAt, wordAt}
 use Rattle.json.specs.Reader.{Answer, nothing, found, ofKind, Before, colonAt, beforeAt, valueAfter, entryAt}
 use Rattle.json.specs.Reader.{closeOr, afterEntry, entriesAt, isNumberStart, valueWith, valueAt}
-use Rattle.json.specs.Reader.{wholly, readText}
+use Rattle.json.specs.Reader.{nestedWithin, wholly, readText}
 use Rattle.json.specs.Ends.{endsOf, foundOf, endsOfKind, valueIn}
 use Rattle.json.specs.declared.Position.{Position}
 use Rattle.json.specs.declared.Ends.{Ends}
@@ -174,6 +174,16 @@ module _ (inner : ℕ → Answer) (b : Bracket) (s : List ℕ) where
   turn-none left at h =
       let e : 0 ≡ left = omega arith in
       entries-none inner b s at ∙ ap (λ (n : ℕ). entriesAt inner b s n at) e
+
+-- In the loop of an object or an array that begins at `begin`, with so many turns left: what remains from here on is
+-- what the whole reads,
+abbrev pub Remains : Bracket → List ℕ → ℕ → ℕ → ℕ → ℕ → Type 0
+Remains b s levels begin left at = entriesAt (valueAt (levels - 1) s) b s left at ≡ nestedWithin levels b s begin
+
+-- and is decided at q, behind the next value.
+abbrev pub Follows : Bracket → List ℕ → ℕ → ℕ → ℕ → ℕ → Type 0
+Follows b s levels left at q =
+    closeOr b s (entriesAt (valueAt (levels - 1) s) b s (left - 1)) q ≡ entriesAt (valueAt (levels - 1) s) b s left at
 
 -- An element has nothing before it.
 pub element-here : (s : List ℕ) (at : ℕ) → valueIn (beforeAt square s at) ≡ ended at

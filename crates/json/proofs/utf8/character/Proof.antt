@@ -25,7 +25,7 @@ returns-2 c =
     let start = c .before .before .before .before in
     let s = start .args .s .now in
     let at = start .args .at in
-    (first-none s at (start .pre) (follow-80 (getD s at 0) (c .before .if1 .left) (c .if2 .taken)), omega arith)
+    (first-none s at (start .pre) (follow-80 (getD s at 0) (omega (arith, c .before .if1 .left)) (omega (arith, c .if2 .taken))), omega arith)
 
 two-requires : tie.Need-two-requires
 two-requires c κs = search needs
@@ -35,7 +35,7 @@ returns-3 c =
     let start = c .before .before .before .before .before .before in
     let s = start .args .s .now in
     let at = start .args .at in
-    (c .two .ensures .0 ∙ first-some s at (start .pre) (tail ∷ []) (follow-C2 (getD s at 0) (c .before .before .if2 .left) (c .before .if3 .taken)), c .two .ensures .1)
+    (c .two .ensures .0 ∙ first-some s at (start .pre) (tail ∷ []) (follow-C2 (getD s at 0) (omega (arith, c .before .before .if2 .left)) (omega (arith, c .before .if3 .taken))), c .two .ensures .1)
 
 three-requires : tie.Need-three-requires
 three-requires c κs = search needs
