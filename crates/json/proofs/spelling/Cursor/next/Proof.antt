@@ -162,7 +162,7 @@ add-at : tie.Need-add-at Inv-loop μ-loop
 add-at c = search needs
 
 combine-requires : tie.Need-combine-requires Inv-loop μ-loop
-combine-requires c κs = (c .before .before .before .before .before .before .before .before .before .before .before .before .before .before .loop .inv .1, c .before .before .unit-of .ensures .1)
+combine-requires c κs = (omega (arith, c .before .before .before .before .before .before .before .before .before .before .before .before .before .before .loop .inv .1), c .before .before .unit-of .ensures .1)
 
 encode-first-requires : tie.Need-encode-first-requires Inv-loop μ-loop
 encode-first-requires c κs = c .combine .ensures .1
