@@ -48,20 +48,24 @@ Falls s p End = Unit {0}
 abbrev pub cursor : ℕ → ℕ → ℕ → ℕ → Cursor
 cursor at half n k = record { at = at; half = half; point = n; left = k }
 
+-- An octet, and the cursor behind it.
+abbrev pub octet : ℕ → ℕ → ℕ → ℕ → ℕ → Octet
+octet c at half n k = Next c (cursor at half n k)
+
 -- The first octet of a code point, and the cursor before the others.
 abbrev pub encoded : ℕ → ℕ → ℕ → Octet
 encoded at half n =
-    pick (leb n 0x7F) (Next n (cursor at half n 0))
-    (pick (leb n 0x7FF) (Next (0xC0 + n / 64) (cursor at half n 1))
-    (pick (leb n 0xFFFF) (Next (0xE0 + n / 4096) (cursor at half n 2))
-    (Next (0xF0 + n / 262144) (cursor at half n 3))))
+    pick (leb n 0x7F) (octet n at half n 0)
+    (pick (leb n 0x7FF) (octet (0xC0 + n / 64) at half n 1)
+    (pick (leb n 0xFFFF) (octet (0xE0 + n / 4096) at half n 2)
+    (octet (0xF0 + n / 262144) at half n 3)))
 
 -- One of the octets of a code point that are to come.
 abbrev pub pendingOctet : ℕ → ℕ → ℕ → ℕ → Octet
 pendingOctet at half n zero = End
-pendingOctet at half n (suc zero) = Next (sixBits n) (cursor at half n 0)
-pendingOctet at half n (suc (suc zero)) = Next (sixBits (n / 64)) (cursor at half n 1)
-pendingOctet at half n (suc (suc (suc k))) = Next (sixBits (n / 4096)) (cursor at half n 2)
+pendingOctet at half n (suc zero) = octet (sixBits n) at half n 0
+pendingOctet at half n (suc (suc zero)) = octet (sixBits (n / 64)) at half n 1
+pendingOctet at half n (suc (suc (suc k))) = octet (sixBits (n / 4096)) at half n 2
 
 abbrev pub pendingOf : Cursor → Octet
 pendingOf p = pendingOctet (p .at) (p .half) (p .point) (p .left)

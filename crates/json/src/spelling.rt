@@ -5,7 +5,7 @@ ghost use lib.ListN.{drop};
 ghost use Rattle.json.specs.Strings.{hexDigit, escapePoint, combined, unit, isHigh};
 ghost use Rattle.json.specs.Spellings.{equal, alike, has};
 ghost use Rattle.json.specs.Utf8.{pick, sixBits};
-ghost use Rattle.json.specs.Cursors.{undoAt, rest, told, Falls, pendingOf, encoded};
+ghost use Rattle.json.specs.Cursors.{undoAt, rest, told, Falls, cursor, octet, pendingOf, encoded};
 
 // Where in a spelling we are, between characters: a first half that stands directly before, or 0; and of the code point that
 // the last escape said, how many octets are still to come.
@@ -108,53 +108,48 @@ fn six_bits(n: u32) -> u8
     (128 + n % 64) as u8
 }
 
+// A cursor between characters, no half before it.
+fn cursor_at(at: usize) -> Cursor
+    ensures { λ r. ⌜ r ≡ cursor at 0 0 0 ⌝ }
+{
+    Cursor {
+        at,
+        half: 0,
+        point: 0,
+        left: 0,
+    }
+}
+
+// An octet, and the cursor behind it.
+fn octet_of(c: u8, at: usize, half: u32, point: u32, left: u8) -> Octet
+    ensures { λ r. ⌜ r ≡ octet c at half point left ⌝ }
+{
+    Octet::Next(
+        c,
+        Cursor {
+            at,
+            half,
+            point,
+            left,
+        },
+    )
+}
+
 // The first octet of a code point, and the cursor before the others.
 fn encode_first(at: usize, half: u32, n: u32) -> Octet
     requires { ⌜ n < 4194304 ⌝ }
     ensures { λ r. ⌜ r ≡ encoded at half n ⌝ }
 {
     if n <= 127 {
-        return Octet::Next(
-            n as u8,
-            Cursor {
-                at,
-                half,
-                point: n,
-                left: 0,
-            },
-        );
+        return octet_of(n as u8, at, half, n, 0);
     }
     if n <= 2047 {
-        return Octet::Next(
-            (192 + n / 64) as u8,
-            Cursor {
-                at,
-                half,
-                point: n,
-                left: 1,
-            },
-        );
+        return octet_of((192 + n / 64) as u8, at, half, n, 1);
     }
     if n <= 65535 {
-        return Octet::Next(
-            (224 + n / 4096) as u8,
-            Cursor {
-                at,
-                half,
-                point: n,
-                left: 2,
-            },
-        );
+        return octet_of((224 + n / 4096) as u8, at, half, n, 2);
     }
-    Octet::Next(
-        (240 + n / 262144) as u8,
-        Cursor {
-            at,
-            half,
-            point: n,
-            left: 3,
-        },
-    )
+    octet_of((240 + n / 262144) as u8, at, half, n, 3)
 }
 
 impl Cursor {
@@ -168,36 +163,12 @@ impl Cursor {
         let point = self.point;
         let left = self.left;
         if left == 1 {
-            return Octet::Next(
-                six_bits(point),
-                Cursor {
-                    at,
-                    half,
-                    point,
-                    left: 0,
-                },
-            );
+            return octet_of(six_bits(point), at, half, point, 0);
         }
         if left == 2 {
-            return Octet::Next(
-                six_bits(point / 64),
-                Cursor {
-                    at,
-                    half,
-                    point,
-                    left: 1,
-                },
-            );
+            return octet_of(six_bits(point / 64), at, half, point, 1);
         }
-        Octet::Next(
-            six_bits(point / 4096),
-            Cursor {
-                at,
-                half,
-                point,
-                left: 2,
-            },
-        )
+        octet_of(six_bits(point / 4096), at, half, point, 2)
     }
 
     // The next octet of a spelling.
@@ -215,30 +186,14 @@ impl Cursor {
         while at < n {
             let c = s[at];
             if c != 92 {
-                return Octet::Next(
-                    c,
-                    Cursor {
-                        at: at + 1,
-                        half: 0,
-                        point: 0,
-                        left: 0,
-                    },
-                );
+                return octet_of(c, at + 1, 0, 0, 0);
             }
             if n - at < 2 {
                 return Octet::End;
             }
             let e = s[at + 1];
             if e != 117 {
-                return Octet::Next(
-                    escape_point(e),
-                    Cursor {
-                        at: at + 2,
-                        half: 0,
-                        point: 0,
-                        left: 0,
-                    },
-                );
+                return octet_of(escape_point(e), at + 2, 0, 0, 0);
             }
             if n - at < 6 {
                 return Octet::End;
@@ -285,18 +240,8 @@ pub fn alike(a: &[u8], b: &[u8]) -> bool
     ensures { λ r. ⌜ r ≡ alike (now (a .entry)) (now (b .entry)) ⌝ }
 {
     let k = common(a, b);
-    let mut p = Cursor {
-        at: k,
-        half: 0,
-        point: 0,
-        left: 0,
-    };
-    let mut q = Cursor {
-        at: k,
-        half: 0,
-        point: 0,
-        left: 0,
-    };
+    let mut p = cursor_at(k);
+    let mut q = cursor_at(k);
     loop {
         let x = p.next(a);
         let y = q.next(b);
@@ -322,12 +267,7 @@ pub fn has(a: &[u8], w: &[u8]) -> bool
     ensures { λ r. ⌜ r ≡ has (now (a .entry)) (now (w .entry)) ⌝ }
 {
     let mut k = common(a, w);
-    let mut p = Cursor {
-        at: k,
-        half: 0,
-        point: 0,
-        left: 0,
-    };
+    let mut p = cursor_at(k);
     loop {
         let x = p.next(a);
         let Octet::Next(c, after) = x else {

@@ -7,6 +7,7 @@ use lib.ListN.{length, drop, getD, drop-of-length-le}
 use Rattle.prelude.proofs.Lists.{drop-next}
 use Rattle.json.specs.Spellings.{equal}
 use Rattle.json.specs.Cursors.{rest, told, Falls}
+use Rattle.json.specs.declared.spelling.Cursor.{Cursor}
 use Rattle.json.proofs.Compare.{has-ends, right-ends, differ, same}
 use borrow.Author.Needs.{needs}
 use Rattle.json.proofs.spelling.has.Statement.{statement}
@@ -21,8 +22,11 @@ abbrev μ-loop : tie.MeasureT-loop
 common-requires : tie.Need-common-requires Inv-loop μ-loop
 common-requires c κs = search needs
 
+cursor-at-requires : tie.Need-cursor-at-requires Inv-loop μ-loop
+cursor-at-requires c κs = search needs
+
 loop-holds : tie.Need-loop-holds Inv-loop μ-loop
-loop-holds c = (refl, omega arith)
+loop-holds c = (refl, subst (λ (v : Cursor). v .half ≤ 56319) (sym (c .cursor-at .ensures)) (omega arith))
 
 next-requires : tie.Need-next-requires Inv-loop μ-loop
 next-requires c κs = c .loop .inv .1
@@ -35,7 +39,7 @@ enum-told c = search needs
 
 returns : tie.Need-returns Inv-loop μ-loop
 returns c =
-    let start = c .before .before .before .before .before .before .before in
+    let start = c .before .before .before .before .before .before .before .before in
     let a = start .args .a .now in
     let w = start .args .w .now in
     let loop = c .before .before .before .loop in
@@ -43,12 +47,15 @@ returns c =
     let next = c .before .before .next in
     let x = c .enum-told .given in
     let left = ap (told a) (sym (x .1)) ∙ next .ensures .0 in
-    let whole = loop .inv .0 ∙ c .before .before .before .before .common .ensures .1 in
+    let whole =
+    loop .inv .0
+    ∙ ap (λ (v : Cursor). equal (rest a v) (drop (c .before .before .before .before .before .common .result) w)) (c .before .before .before .before .cursor-at .ensures)
+    ∙ c .before .before .before .before .before .common .ensures .1 in
     has-ends (rest a (loop .p)) w k left ∙ whole
 
 returns-2 : tie.Need-returns-2 Inv-loop μ-loop
 returns-2 c =
-    let start = c .before .before .before .before .before .before .before .before .before in
+    let start = c .before .before .before .before .before .before .before .before .before .before in
     let a = start .args .a .now in
     let w = start .args .w .now in
     let loop = c .before .before .before .before .before .loop in
@@ -56,7 +63,10 @@ returns-2 c =
     let next = c .before .before .before .before .next in
     let x = c .before .before .x .given in
     let left = ap (told a) (sym (x .1)) ∙ next .ensures .0 in
-    let whole = loop .inv .0 ∙ c .before .before .before .before .before .before .common .ensures .1 in
+    let whole =
+    loop .inv .0
+    ∙ ap (λ (v : Cursor). equal (rest a v) (drop (c .before .before .before .before .before .before .before .common .result) w)) (c .before .before .before .before .before .before .cursor-at .ensures)
+    ∙ c .before .before .before .before .before .before .before .common .ensures .1 in
     let right = sym (drop-of-length-le w {i = k} (c .if1 .taken)) in
     right-ends (rest a (loop .p)) (drop k w) (x .0 .0) (rest a (x .0 .1 .0)) left right ∙ whole
 
@@ -65,7 +75,7 @@ shared-slice-read-if2 c = search needs
 
 returns-3 : tie.Need-returns-3 Inv-loop μ-loop
 returns-3 c =
-    let start = c .before .before .before .before .before .before .before .before .before .before .before in
+    let start = c .before .before .before .before .before .before .before .before .before .before .before .before in
     let a = start .args .a .now in
     let w = start .args .w .now in
     let loop = c .before .before .before .before .before .before .before .loop in
@@ -73,7 +83,10 @@ returns-3 c =
     let next = c .before .before .before .before .before .before .next in
     let x = c .before .before .before .before .x .given in
     let left = ap (told a) (sym (x .1)) ∙ next .ensures .0 in
-    let whole = loop .inv .0 ∙ c .before .before .before .before .before .before .before .before .common .ensures .1 in
+    let whole =
+    loop .inv .0
+    ∙ ap (λ (v : Cursor). equal (rest a v) (drop (c .before .before .before .before .before .before .before .before .before .common .result) w)) (c .before .before .before .before .before .before .before .before .cursor-at .ensures)
+    ∙ c .before .before .before .before .before .before .before .before .before .common .ensures .1 in
     let right = sym (drop-next w k (k + 1) refl (c .before .before .if1 .left)) in
     differ (rest a (loop .p)) (drop k w) (x .0 .0) (rest a (x .0 .1 .0)) (getD w k 0) (drop (k + 1) w) left right (c .if2 .taken) ∙ whole
 
@@ -85,7 +98,7 @@ loop-less c = search needs
 
 loop-again : tie.Need-loop-again Inv-loop μ-loop
 loop-again c =
-    let start = c .before .before .before .before .before .before .before .before .before .before .before in
+    let start = c .before .before .before .before .before .before .before .before .before .before .before .before in
     let a = start .args .a .now in
     let w = start .args .w .now in
     let loop = c .before .before .before .before .before .before .before .loop in
@@ -93,7 +106,10 @@ loop-again c =
     let next = c .before .before .before .before .before .before .next in
     let x = c .before .before .before .before .x .given in
     let left = ap (told a) (sym (x .1)) ∙ next .ensures .0 in
-    let whole = loop .inv .0 ∙ c .before .before .before .before .before .before .before .before .common .ensures .1 in
+    let whole =
+    loop .inv .0
+    ∙ ap (λ (v : Cursor). equal (rest a v) (drop (c .before .before .before .before .before .before .before .before .before .common .result) w)) (c .before .before .before .before .before .before .before .before .cursor-at .ensures)
+    ∙ c .before .before .before .before .before .before .before .before .before .common .ensures .1 in
     let right = sym (drop-next w k (k + 1) refl (c .before .before .if1 .left)) in (
       same (rest a (loop .p)) (drop k w) (x .0 .0) (rest a (x .0 .1 .0)) (getD w k 0) (drop (k + 1) w) left right (c .if2 .left) ∙ loop .inv .0,
       subst (Falls a (loop .p)) (x .1) (next .ensures .1) .0,
@@ -106,6 +122,7 @@ has-spec =
     Inv-loop
     μ-loop
     common-requires
+    cursor-at-requires
     loop-holds
     next-requires
     enum-known-x

@@ -39,21 +39,27 @@ loop-holds c = (refl, c .before .before .before .pre, omega arith)
 shared-slice-read-c : tie.Need-shared-slice-read-c Inv-loop μ-loop
 shared-slice-read-c c = search needs
 
-add-t14 : tie.Need-add-t14 Inv-loop μ-loop
-add-t14 c = search needs
+add-octet-of : tie.Need-add-octet-of Inv-loop μ-loop
+add-octet-of c = search needs
+
+octet-of-requires : tie.Need-octet-of-requires Inv-loop μ-loop
+octet-of-requires c κs = search needs
 
 returns-2 : tie.Need-returns-2 Inv-loop μ-loop
 returns-2 c =
-    let start = c .before .before .before .before .before .before .before in
+    let start = c .before .before .before .before .before .before .before .before in
     let s = start .args .s .now in
     let self = start .args .self in
-    let loop = c .before .before .before .loop in
+    let loop = c .before .before .before .before .loop in
     let at = loop .at in
     let half = loop .half in
     let from = loop .inv .2 in
-    let whole = loop .inv .0 ∙ rest-between s self (c .before .before .before .before .if1 .left) in
-    let inside = c .before .before .loop-test .taken in
-    (undo-plain s half at inside (c .if2 .taken) ∙ whole, (omega arith, omega (arith, inside, from)))
+    let whole = loop .inv .0 ∙ rest-between s self (c .before .before .before .before .before .if1 .left) in
+    let inside = c .before .before .before .loop-test .taken in
+    let is = c .octet-of .ensures in (
+      ap (told s) is ∙ undo-plain s half at inside (c .before .if2 .taken) ∙ whole,
+      subst (Falls s self) (sym is) (omega arith, omega (arith, inside, from)),
+    )
 
 sub-if3 : tie.Need-sub-if3 Inv-loop μ-loop
 sub-if3 c = search needs
@@ -80,25 +86,29 @@ shared-slice-read-e c = search needs
 escape-point-requires : tie.Need-escape-point-requires Inv-loop μ-loop
 escape-point-requires c κs = search needs
 
-add-t19 : tie.Need-add-t19 Inv-loop μ-loop
-add-t19 c = search needs
+add-octet-of-2 : tie.Need-add-octet-of-2 Inv-loop μ-loop
+add-octet-of-2 c = search needs
+
+octet-of-requires-2 : tie.Need-octet-of-requires-2 Inv-loop μ-loop
+octet-of-requires-2 c κs = search needs
 
 returns-4 : tie.Need-returns-4 Inv-loop μ-loop
 returns-4 c =
-    let start = c .before .before .before .before .before .before .before .before .before .before .before in
+    let start = c .before .before .before .before .before .before .before .before .before .before .before .before in
     let s = start .args .s .now in
     let self = start .args .self in
-    let loop = c .before .before .before .before .before .before .before .loop in
+    let loop = c .before .before .before .before .before .before .before .before .loop in
     let at = loop .at in
     let half = loop .half in
     let from = loop .inv .2 in
-    let whole = loop .inv .0 ∙ rest-between s self (c .before .before .before .before .before .before .before .before .if1 .left) in
-    let inside = c .before .before .before .before .before .before .loop-test .taken in
-    let is = c .escape-point .ensures in
-    let two : at + 1 < length s = omega (arith, c .before .before .before .if3 .left, inside) in (
-      ap (λ (z : ℕ). z ∷ undoAt s 0 (at + 2)) is
-          ∙ undo-escape s half at inside (c .before .before .before .before .if2 .left) two (c .before .if4 .taken) ∙ whole,
-      (omega arith, omega (arith, two, from)),
+    let whole = loop .inv .0 ∙ rest-between s self (c .before .before .before .before .before .before .before .before .before .if1 .left) in
+    let inside = c .before .before .before .before .before .before .before .loop-test .taken in
+    let is = c .octet-of2 .ensures in
+    let two : at + 1 < length s = omega (arith, c .before .before .before .before .if3 .left, inside) in (
+      ap (told s) is
+          ∙ ap (λ (z : ℕ). z ∷ undoAt s 0 (at + 2)) (c .before .escape-point .ensures)
+          ∙ undo-escape s half at inside (c .before .before .before .before .before .if2 .left) two (c .before .before .if4 .taken) ∙ whole,
+      subst (Falls s self) (sym is) (omega arith, omega (arith, two, from)),
     )
 
 sub-if5 : tie.Need-sub-if5 Inv-loop μ-loop
@@ -152,7 +162,7 @@ add-at : tie.Need-add-at Inv-loop μ-loop
 add-at c = search needs
 
 combine-requires : tie.Need-combine-requires Inv-loop μ-loop
-combine-requires c κs = (c .before .before .before .before .before .before .before .before .before .before .before .before .before .before .loop .inv .1, c .before .before .unit-of .ensures .1)
+combine-requires c κs = (omega (arith, c .before .before .before .before .before .before .before .before .before .before .before .before .before .before .loop .inv .1), c .before .before .unit-of .ensures .1)
 
 encode-first-requires : tie.Need-encode-first-requires Inv-loop μ-loop
 encode-first-requires c κs = c .combine .ensures .1
@@ -257,14 +267,16 @@ next-spec =
     returns
     loop-holds
     shared-slice-read-c
-    add-t14
+    add-octet-of
+    octet-of-requires
     returns-2
     sub-if3
     returns-3
     add-e
     shared-slice-read-e
     escape-point-requires
-    add-t19
+    add-octet-of-2
+    octet-of-requires-2
     returns-4
     sub-if5
     returns-5
