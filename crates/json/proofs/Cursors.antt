@@ -1,6 +1,6 @@
 -- Spellings as the code reads them: a whole character at a time, its octets taken from the code point that it says.
 use mathlib.Core.Path.{_≡_, refl, ap, ap₂, sym, subst, _∙_}
-use mathlib.Core.Bool.{Bool, true, false, _&&_, true≢false}
+use mathlib.Core.Bool.{Bool, true, false, _&&_, true≢false, cond}
 use mathlib.Core.List.{List, [], _∷_, _++_}
 use mathlib.Core.Option.{Option, none, some}
 use Prim.Native.Nat.{ℕ, zero, suc, _+_, _-_, _*_, _/_, _≤_, _<_}
@@ -10,7 +10,7 @@ use lib.Dec.{eqb, leb}
 use borrow.Author.Tests.{ne-eqb}
 use Rattle.prelude.proofs.Lists.{drop-next}
 use Rattle.json.specs.Strings.{hexDigit, hexMore, unit, escapePoint, isHigh, combined}
-use Rattle.json.specs.Utf8.{pick, sixBits, encode}
+use Rattle.json.specs.Utf8.{sixBits, encode}
 use Rattle.json.specs.Spellings.{Spot, between, escaping, digit, unitOctets, adds, next, undoFrom}
 use Rattle.json.specs.Cursors.{halfOf, undoAt, rest, told, size, Falls, cursor, encoded, pendingOctet, pendingOf}
 use Rattle.json.specs.declared.spelling.Cursor.{Cursor}
@@ -83,11 +83,11 @@ module _ (s : List ℕ) (half at : ℕ) (h : at < length s) where
             ∙ digits-cut (halfOf half) 3 0 (drop (at + 1 + 1) s) (omega (arith, length-drop (at + 1 + 1) s)))
 
 -- A half that waits, as the code has it.
-half-waits : (u : ℕ) → halfOf (pick (isHigh u) u 0) ≡ pick (isHigh u) (some u) none
+half-waits : (u : ℕ) → halfOf (cond (isHigh u) u 0) ≡ cond (isHigh u) (some u) none
 half-waits zero = refl
 half-waits (suc u) = cases (isHigh (suc u))
   where
-    cases : (b : Bool) → halfOf (pick b (suc u) 0) ≡ pick b (some (suc u)) none
+    cases : (b : Bool) → halfOf (cond b (suc u) 0) ≡ cond b (some (suc u)) none
     cases true = refl
     cases false = refl
 
@@ -100,7 +100,7 @@ module _ (s : List ℕ) (h : Option ℕ) (x at : ℕ) (l : at < length s) where
 
   last-digit :
       undoFrom (digit h zero x) (drop at s)
-      ≡ unitOctets h (hexMore x (getD s at 0)) ++ undoAt s (pick (isHigh (hexMore x (getD s at 0))) (hexMore x (getD s at 0)) 0) (at + 1)
+      ≡ unitOctets h (hexMore x (getD s at 0)) ++ undoAt s (cond (isHigh (hexMore x (getD s at 0))) (hexMore x (getD s at 0)) 0) (at + 1)
   unfolding adds next
   last-digit =
       undo-here s (digit h zero x) at l
@@ -110,7 +110,7 @@ module _ (s : List ℕ) (h : Option ℕ) (x at : ℕ) (l : at < length s) where
 -- What \u adds, whole.
 module _ (s : List ℕ) (half at : ℕ) (h : at + 6 ≤ length s) (e : getD s at 0 ≡ 92) (f : getD s (at + 1) 0 ≡ 117)
     (u : ℕ) (v : u ≡ unit (getD s (at + 2) 0) (getD s (at + 3) 0) (getD s (at + 4) 0) (getD s (at + 5) 0)) where
-  undo-unit : undoAt s half at ≡ unitOctets (halfOf half) u ++ undoAt s (pick (isHigh u) u 0) (at + 6)
+  undo-unit : undoAt s half at ≡ unitOctets (halfOf half) u ++ undoAt s (cond (isHigh u) u 0) (at + 6)
   undo-unit =
       let two : at + 1 + 1 ≡ at + 2 = omega arith in
       let three : at + 2 + 1 ≡ at + 3 = omega arith in
@@ -130,10 +130,10 @@ module _ (s : List ℕ) (half at : ℕ) (h : at + 6 ≤ length s) (e : getD s at
       ∙ digit-here s (halfOf half) b (at + 4) (omega arith) 0
       ∙ ap (λ (k : ℕ). undoFrom (digit (halfOf half) 0 c) (drop k s)) five
       ∙ last-digit s (halfOf half) c (at + 5) (omega arith)
-      ∙ ap (λ (k : ℕ). unitOctets (halfOf half) d ++ undoAt s (pick (isHigh d) d 0) k) six
-      ∙ ap (λ (k : ℕ). unitOctets (halfOf half) k ++ undoAt s (pick (isHigh k) k 0) (at + 6)) (sym v)
+      ∙ ap (λ (k : ℕ). unitOctets (halfOf half) d ++ undoAt s (cond (isHigh d) d 0) k) six
+      ∙ ap (λ (k : ℕ). unitOctets (halfOf half) k ++ undoAt s (cond (isHigh k) k 0) (at + 6)) (sym v)
 
-  module _ (waits : ℕ) (w : waits ≡ pick (isHigh u) u 0) where
+  module _ (waits : ℕ) (w : waits ≡ cond (isHigh u) u 0) where
     -- After a first half, the pair.
     pub undo-pair : (half ≡ 0 → ⊥) → encode (combined half u) ++ undoAt s waits (at + 6) ≡ undoAt s half at
     undo-pair n =
@@ -149,14 +149,14 @@ module _ (s : List ℕ) (half at : ℕ) (h : at + 6 ≤ length s) (e : getD s at
     waits-none : waits ≡ 0 → isHigh u ≡ false
     waits-none z = cases (isHigh u) refl (sym w ∙ z)
       where
-        cases : (b : Bool) → isHigh u ≡ b → pick b u 0 ≡ 0 → isHigh u ≡ false
+        cases : (b : Bool) → isHigh u ≡ b → cond b u 0 ≡ 0 → isHigh u ≡ false
         cases true i q = ap isHigh q
         cases false i q = i
 
     waits-some : (waits ≡ 0 → ⊥) → isHigh u ≡ true
     waits-some n = cases (isHigh u) refl w
       where
-        cases : (b : Bool) → isHigh u ≡ b → waits ≡ pick b u 0 → isHigh u ≡ true
+        cases : (b : Bool) → isHigh u ≡ b → waits ≡ cond b u 0 → isHigh u ≡ true
         cases true i q = i
         cases false i q = absurd (n q)
 
@@ -164,15 +164,15 @@ module _ (s : List ℕ) (half at : ℕ) (h : at + 6 ≤ length s) (e : getD s at
     pub undo-single : half ≡ 0 → waits ≡ 0 → encode u ++ undoAt s 0 (at + 6) ≡ undoAt s half at
     undo-single z y =
         sym
-        (undo-unit ∙ ap (λ (k : ℕ). unitOctets (halfOf k) u ++ undoAt s (pick (isHigh u) u 0) (at + 6)) z
-        ∙ ap (λ (b : Bool). pick b [] (encode u) ++ undoAt s (pick b u 0) (at + 6)) (waits-none y))
+        (undo-unit ∙ ap (λ (k : ℕ). unitOctets (halfOf k) u ++ undoAt s (cond (isHigh u) u 0) (at + 6)) z
+        ∙ ap (λ (b : Bool). cond b [] (encode u) ++ undoAt s (cond b u 0) (at + 6)) (waits-none y))
 
     -- A first half adds nothing.
     pub undo-first : half ≡ 0 → (waits ≡ 0 → ⊥) → undoAt s waits (at + 6) ≡ undoAt s half at
     undo-first z n =
         sym
-        (undo-unit ∙ ap (λ (k : ℕ). unitOctets (halfOf k) u ++ undoAt s (pick (isHigh u) u 0) (at + 6)) z
-        ∙ ap (λ (b : Bool). pick b [] (encode u) ++ undoAt s (pick (isHigh u) u 0) (at + 6)) (waits-some n)
+        (undo-unit ∙ ap (λ (k : ℕ). unitOctets (halfOf k) u ++ undoAt s (cond (isHigh u) u 0) (at + 6)) z
+        ∙ ap (λ (b : Bool). cond b [] (encode u) ++ undoAt s (cond (isHigh u) u 0) (at + 6)) (waits-some n)
         ∙ ap (λ (k : ℕ). undoAt s k (at + 6)) (sym w))
 
 -- Code points
@@ -184,12 +184,12 @@ encoded-told s at half n = cases (leb n 0x7F) (leb n 0x7FF) (leb n 0xFFFF)
   where
     cases : (p q r : Bool) →
         told s
-        (pick p (Next n (cursor at half n 0))
-        (pick q (Next (0xC0 + n / 64) (cursor at half n 1))
-        (pick r (Next (0xE0 + n / 4096) (cursor at half n 2)) (Next (0xF0 + n / 262144) (cursor at half n 3)))))
-        ≡ pick p (n ∷ [])
-        (pick q ((0xC0 + n / 64) ∷ sixBits n ∷ [])
-        (pick r ((0xE0 + n / 4096) ∷ sixBits (n / 64) ∷ sixBits n ∷ [])
+        (cond p (Next n (cursor at half n 0))
+        (cond q (Next (0xC0 + n / 64) (cursor at half n 1))
+        (cond r (Next (0xE0 + n / 4096) (cursor at half n 2)) (Next (0xF0 + n / 262144) (cursor at half n 3)))))
+        ≡ cond p (n ∷ [])
+        (cond q ((0xC0 + n / 64) ∷ sixBits n ∷ [])
+        (cond r ((0xE0 + n / 4096) ∷ sixBits (n / 64) ∷ sixBits n ∷ [])
         ((0xF0 + n / 262144) ∷ sixBits (n / 4096) ∷ sixBits (n / 64) ∷ sixBits n ∷ [])))
         ++ undoAt s half at
     cases true q r = refl
@@ -203,9 +203,9 @@ encoded-falls s p at half n b l = cases (leb n 0x7F) (leb n 0x7FF) (leb n 0xFFFF
   where
     cases : (x y z : Bool) →
         Falls s p
-        (pick x (Next n (cursor at half n 0))
-        (pick y (Next (0xC0 + n / 64) (cursor at half n 1))
-        (pick z (Next (0xE0 + n / 4096) (cursor at half n 2)) (Next (0xF0 + n / 262144) (cursor at half n 3)))))
+        (cond x (Next n (cursor at half n 0))
+        (cond y (Next (0xC0 + n / 64) (cursor at half n 1))
+        (cond z (Next (0xE0 + n / 4096) (cursor at half n 2)) (Next (0xF0 + n / 262144) (cursor at half n 3)))))
     cases true y z = (b, omega arith)
     cases false true z = (b, omega arith)
     cases false false true = (b, omega arith)

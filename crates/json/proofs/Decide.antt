@@ -2,7 +2,7 @@
 -- rules, and its answer is that reading's.
 use mathlib.Core.Path.{_≡_, refl, sym, ap, subst, _∙_}
 use mathlib.Core.List.{List, [], _∷_, _++_, append-nil}
-use mathlib.Core.Bool.{Bool, true, false, _&&_}
+use mathlib.Core.Bool.{Bool, true, false, _&&_, cond}
 use Prim.Native.Nat.{ℕ, _+_, _≤_}
 use native.Mathlib.Omega.{arith}
 use lib.ListN.{length, length-append, drop}
@@ -12,7 +12,7 @@ use Rattle.json.specs.Grammar.{isSpace, octets, curly, opening, Value, n
 use Rattle.json.specs.Grammar.{leavesValue, Text, leaves}
 use Rattle.json.specs.Places.{startOf, sizeOf, kindOf, kind, placed, placedText}
 use Rattle.json.specs.Strings.{paired}
-use Rattle.json.specs.Utf8.{pick, utf8}
+use Rattle.json.specs.Utf8.{utf8}
 use Rattle.json.specs.Reader.{octetAt, skipSpace, Answer, nothing, found, valueAt, wholly, readText}
 use Rattle.json.specs.Readings.{Reading, Shown, Everywhere}
 use Rattle.json.proofs.Parse.{At, Got, failed, got, true→T, scan, run, lead, lead-nested, Node, value}
@@ -119,7 +119,7 @@ answered l s e k q =
     tests (eqb (octetAt s (skipSpace s 0)) (opening curly)) (utf8 s) refl refl q
   where
     end : (d j : ℕ) → valueAt l s (skipSpace s 0) ≡ found d j → (b : Bool) → eqb (skipSpace s d) (length s) ≡ b →
-        octetAt s (skipSpace s 0) ≡ opening curly → T (utf8 s) → pick b (found d j) nothing ≡ found e k → Answered l s
+        octetAt s (skipSpace s 0) ≡ opening curly → T (utf8 s) → cond b (found d j) nothing ≡ found e k → Answered l s
     end d j v true p o u h = record {
       end = d;
       kind = j;
@@ -136,7 +136,7 @@ answered l s e k q =
     whole (found d j) v o u h = end d j v (eqb (skipSpace s d) (length s)) refl o u h
 
     tests : (b c : Bool) → eqb (octetAt s (skipSpace s 0)) (opening curly) ≡ b → utf8 s ≡ c →
-        pick (b && c) (wholly s (valueAt l s (skipSpace s 0))) nothing ≡ found e k → Answered l s
+        cond (b && c) (wholly s (valueAt l s (skipSpace s 0))) nothing ≡ found e k → Answered l s
     tests true true p u h =
         whole (valueAt l s (skipSpace s 0)) refl
         (eqb→eq (octetAt s (skipSpace s 0)) (opening curly)

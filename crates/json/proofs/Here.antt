@@ -1,6 +1,6 @@
 -- The octet at a position, a step, and skipping a class of octets, as the code does them: one octet at a time.
 use mathlib.Core.Path.{_≡_, refl, ap, sym, subst, _∙_}
-use mathlib.Core.Bool.{Bool, true, false}
+use mathlib.Core.Bool.{Bool, true, false, cond}
 use mathlib.Core.List.{List, [], _∷_}
 use Prim.Native.Nat.{ℕ, zero, suc, _+_, _≤_, _<_}
 use native.Mathlib.Nat.{le-of-suc-le-suc, not-suc-le-zero}
@@ -9,7 +9,6 @@ use lib.ListN.{length, drop, getD, drop-of-length-le, List·getD-eq-default}
 use lib.Dec.{ltb}
 use borrow.Author.Tests.{lt-ltb, le-ltb}
 use Rattle.prelude.proofs.Lists.{drop-next}
-use Rattle.json.specs.Utf8.{pick}
 use Rattle.json.specs.Reader.{octetAt, step, passOver, skip}
 
 pub octet-here : (s : List ℕ) (at : ℕ) → at < length s → getD s at 0 ≡ octetAt s at
@@ -32,12 +31,12 @@ module _ (p : ℕ → Bool) (s : List ℕ) (at : ℕ) where
   skip-end h = ap (λ (t : List ℕ). passOver p t at) (drop-of-length-le s {i = at} h)
 
   module _ (h : at < length s) where
-    skip-here : skip p s at ≡ pick (p (getD s at 0)) (skip p s (at + 1)) at
+    skip-here : skip p s at ≡ cond (p (getD s at 0)) (skip p s (at + 1)) at
     unfolding skip passOver
     skip-here = ap (λ (t : List ℕ). passOver p t at) (drop-next s at (at + 1) refl h)
 
     pub skip-next : p (getD s at 0) ≡ true → skip p s at ≡ skip p s (at + 1)
-    skip-next e = skip-here ∙ ap (λ (t : Bool). pick t (skip p s (at + 1)) at) e
+    skip-next e = skip-here ∙ ap (λ (t : Bool). cond t (skip p s (at + 1)) at) e
 
     pub skip-stop : p (getD s at 0) ≡ false → skip p s at ≡ at
-    skip-stop e = skip-here ∙ ap (λ (t : Bool). pick t (skip p s (at + 1)) at) e
+    skip-stop e = skip-here ∙ ap (λ (t : Bool). cond t (skip p s (at + 1)) at) e

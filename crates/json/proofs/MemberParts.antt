@@ -1,6 +1,6 @@
 -- Members and elements as the code reads them: the entry that begins at a position, and where the next one begins.
 use mathlib.Core.Path.{_≡_, refl, ap, ap₂, sym, _∙_}
-use mathlib.Core.Bool.{Bool, true, false}
+use mathlib.Core.Bool.{Bool, true, false, cond}
 use mathlib.Core.List.{List}
 use Prim.Native.Nat.{ℕ, _+_, _-_, _<_}
 use native.Mathlib.Omega.{arith}
@@ -8,7 +8,6 @@ use lib.ListN.{length}
 use lib.Dec.{eqb}
 use borrow.Author.Tests.{eq-eqb, ne-eqb}
 use Rattle.json.specs.Grammar.{quote, comma}
-use Rattle.json.specs.Utf8.{pick}
 use Rattle.json.specs.Reader.{End, refused, ended, found, octetAt, step, skipSpace, between, stringAt, entryOf}
 use Rattle.json.specs.Members.{nextFrom, memberOf}
 use Rattle.json.specs.declared.Position.{Position}
@@ -17,12 +16,12 @@ use Rattle.json.proofs.StringParts.{class-inside, scan}
 
 module _ (s : List ℕ) (at after c : ℕ) (ha : after ≡ skipSpace s at) (hc : c ≡ octetAt s after) where
   stands : (b : Bool) → eqb c comma ≡ b
-      → nextFrom s at ≡ pick b (skipSpace s (step s after)) (length s)
+      → nextFrom s at ≡ cond b (skipSpace s (step s after)) (length s)
   unfolding nextFrom
   stands b e =
-      ap (λ (n : ℕ). pick (eqb (octetAt s n) comma) (skipSpace s (step s n)) (length s)) (sym ha)
-      ∙ ap (λ (n : ℕ). pick (eqb n comma) (skipSpace s (step s after)) (length s)) (sym hc)
-      ∙ ap (λ (t : Bool). pick t (skipSpace s (step s after)) (length s)) e
+      ap (λ (n : ℕ). cond (eqb (octetAt s n) comma) (skipSpace s (step s n)) (length s)) (sym ha)
+      ∙ ap (λ (n : ℕ). cond (eqb n comma) (skipSpace s (step s after)) (length s)) (sym hc)
+      ∙ ap (λ (t : Bool). cond t (skipSpace s (step s after)) (length s)) e
 
   pub next-past : (q r : ℕ) → c ≡ comma → q ≡ step s after → r ≡ skipSpace s q → r ≡ nextFrom s at
   next-past q r e f g = g ∙ ap (skipSpace s) f ∙ sym (stands true (eq-eqb c comma e))
@@ -35,7 +34,7 @@ pub string-inside : (s : List ℕ) (at e : ℕ) → stringAt s at ≡ ended e �
 unfolding stringAt
 string-inside s at e h = cases (eqb (octetAt s at) quote) refl h
   where
-    cases : (b : Bool) → eqb (octetAt s at) quote ≡ b → pick b (scan s (between false) (step s at)) refused ≡ ended e → at < length s
+    cases : (b : Bool) → eqb (octetAt s at) quote ≡ b → cond b (scan s (between false) (step s at)) refused ≡ ended e → at < length s
     cases true b h = class-inside (λ n. eqb n quote) s at refl b
     cases false b h = let z : _≡_ {A = ℕ} 0 1 = cc in absurd (omega arith)
 

@@ -1,6 +1,6 @@
 -- The rows of an object or an array, by reading one entry after the other until none begins.
 use mathlib.Core.Path.{_≡_, refl, ap, ap₂, sym, subst, _∙_}
-use mathlib.Core.Bool.{Bool, true, false}
+use mathlib.Core.Bool.{Bool, true, false, cond}
 use mathlib.Core.List.{List, [], _∷_}
 use mathlib.Core.Option.{Option, none, some}
 use Prim.Native.Nat.{ℕ, zero, suc, _+_, _-_, _≤_, _<_}
@@ -10,7 +10,6 @@ use lib.Dec.{eqb}
 use borrow.Author.Tests.{eqb-true}
 use Rattle.json.specs.Grammar.{Bracket, curly, square, comma, closing}
 use Rattle.json.specs.Places as places
-use Rattle.json.specs.Utf8.{pick}
 use Rattle.json.specs.Reader.{Answer, nothing, refused, octetAt, step, skipSpace, stringAt, Entry, entryOf}
 use Rattle.json.specs.Reader.{entryAt, beforeAt, rowsAfter, rowsAt, rowsIn, valueWith, valueAt, nestedWithin}
 use Rattle.json.specs.Reader.{membersAt, elementsOf, elementsAt}
@@ -76,12 +75,12 @@ module _ (b : Bracket) (s : List ℕ) (l : ℕ) where
     where
       cases : (t : Bool) → eqb (octetAt s (skipSpace s at)) (closing b) ≡ t
           → rowsAt (valueAt l s) b s (length s) (skipSpace s at)
-          ≡ pick (eqb (octetAt s (skipSpace s at)) (closing b)) [] (rowsAt (valueAt l s) b s (length s) (skipSpace s at))
+          ≡ cond (eqb (octetAt s (skipSpace s at)) (closing b)) [] (rowsAt (valueAt l s) b s (length s) (skipSpace s at))
       cases true t =
           rows-stop (length s) (skipSpace s at)
           (closed b s l (skipSpace s at) (octetAt s (skipSpace s at)) refl (eqb-true (octetAt s (skipSpace s at)) (closing b) t))
-          ∙ sym (ap (λ (x : Bool). pick x [] (rowsAt (valueAt l s) b s (length s) (skipSpace s at))) t)
-      cases false t = sym (ap (λ (x : Bool). pick x [] (rowsAt (valueAt l s) b s (length s) (skipSpace s at))) t)
+          ∙ sym (ap (λ (x : Bool). cond x [] (rowsAt (valueAt l s) b s (length s) (skipSpace s at))) t)
+      cases false t = sym (ap (λ (x : Bool). cond x [] (rowsAt (valueAt l s) b s (length s) (skipSpace s at))) t)
 
   -- no turn is left
   pub rows-spent : (n at : ℕ) → n ≡ 0 → rowsAt (valueAt l s) b s n at ≡ []
@@ -95,7 +94,7 @@ module _ (b : Bracket) (s : List ℕ) (l : ℕ) where
   rows-at-most (suc n) at = cases (entryAt (valueAt l s) b s at) (rows-at-most n)
     where
       both : (t : Bool) (q : ℕ) → length (rowsAt (valueAt l s) b s n q) ≤ n
-          → length (pick t (rowsAt (valueAt l s) b s n q) []) ≤ n
+          → length (cond t (rowsAt (valueAt l s) b s n q) []) ≤ n
       both true q h = h
       both false q h = omega arith
 
@@ -128,17 +127,17 @@ module _ (b : Bracket) (s : List ℕ) (l : ℕ) where
           rows = rowsAt (valueAt l s) b s (left - 1)
 
           others : (t : Bool) → eqb (octetAt s (skipSpace s (the-read .entry .after))) comma ≡ t
-              → pick (eqb (octetAt s (skipSpace s (the-read .entry .after))) comma)
+              → cond (eqb (octetAt s (skipSpace s (the-read .entry .after))) comma)
               (rowsAt (valueAt l s) b s (left - 1) (skipSpace s (step s (skipSpace s (the-read .entry .after))))) []
               ≡ rowsAt (valueAt l s) b s (left - 1) (next .at)
           others true f =
               let after = skipSpace s (the-read .entry .after) in
-              ap (λ (x : Bool). pick x (rows (skipSpace s (step s after))) []) f
-              ∙ sym (ap rows (the-read .on ∙ ap (λ (x : Bool). pick x (skipSpace s (step s after)) (length s)) f))
+              ap (λ (x : Bool). cond x (rows (skipSpace s (step s after))) []) f
+              ∙ sym (ap rows (the-read .on ∙ ap (λ (x : Bool). cond x (skipSpace s (step s after)) (length s)) f))
           others false f =
               let after = skipSpace s (the-read .entry .after) in
-              ap (λ (x : Bool). pick x (rows (skipSpace s (step s after))) []) f
-              ∙ sym (ap rows (the-read .on ∙ ap (λ (x : Bool). pick x (skipSpace s (step s after)) (length s)) f)
+              ap (λ (x : Bool). cond x (rows (skipSpace s (step s after))) []) f
+              ∙ sym (ap rows (the-read .on ∙ ap (λ (x : Bool). cond x (skipSpace s (step s after)) (length s)) f)
               ∙ rows-over (left - 1))
 
 pub elements-length : (rows : List places.Member) → length (elementsOf rows) ≡ length rows

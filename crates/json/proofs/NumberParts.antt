@@ -1,12 +1,11 @@
 -- Parts of a number as the code reads them, one test or one call after the other.
 use mathlib.Core.Path.{_≡_, refl, ap, sym, subst, _∙_}
-use mathlib.Core.Bool.{Bool, true, false, _||_}
+use mathlib.Core.Bool.{Bool, true, false, _||_, cond}
 use mathlib.Core.List.{List}
 use Prim.Native.Nat.{ℕ}
 use native.Mathlib.Omega.{arith}
 use lib.Dec.{eqb}
 use Rattle.json.specs.Grammar.{isDigit, isNonzero, isMinus, isPoint, isE, isPlusMinus}
-use Rattle.json.specs.Utf8.{pick}
 use Rattle.json.specs.Reader.{End, refused, ended, andThen, octetAt, step, skip, perhapsAt, digitsAt, intAt}
 use Rattle.json.specs.Reader.{fractionAt, exponentAt, numberAt}
 use Rattle.json.specs.Ends.{endsOf}
@@ -26,58 +25,58 @@ is-refused (ended n) e = let z : _≡_ {A = ℕ} 0 1 = cc in absurd (omega arith
 module _ (s : List ℕ) (at : ℕ) where
   pub perhaps-yes : (p : ℕ → Bool) (r : ℕ) → p (octetAt s at) ≡ true → r ≡ step s at → r ≡ perhapsAt p s at
   unfolding perhapsAt
-  perhaps-yes p r t e = e ∙ sym (ap (λ (b : Bool). pick b (step s at) at) t)
+  perhaps-yes p r t e = e ∙ sym (ap (λ (b : Bool). cond b (step s at) at) t)
 
   pub perhaps-no : (p : ℕ → Bool) → p (octetAt s at) ≡ false → at ≡ perhapsAt p s at
   unfolding perhapsAt
-  perhaps-no p t = sym (ap (λ (b : Bool). pick b (step s at) at) t)
+  perhaps-no p t = sym (ap (λ (b : Bool). cond b (step s at) at) t)
 
   pub digits-yes : (p : ℕ → Bool) (q r : ℕ) → p (octetAt s at) ≡ true → q ≡ step s at → r ≡ skip isDigit s q
       → At (record { at = r }) ≡ endsOf (digitsAt p s at)
   unfolding digitsAt
   digits-yes p q r t e f =
       ap (λ (n : ℕ). At (record { at = n })) (f ∙ ap (skip isDigit s) e)
-      ∙ sym (ap (λ (b : Bool). endsOf (pick b (ended (skip isDigit s (step s at))) refused)) t)
+      ∙ sym (ap (λ (b : Bool). endsOf (cond b (ended (skip isDigit s (step s at))) refused)) t)
 
   pub digits-no : (p : ℕ → Bool) → p (octetAt s at) ≡ false → Refused ≡ endsOf (digitsAt p s at)
   unfolding digitsAt
-  digits-no p t = sym (ap (λ (b : Bool). endsOf (pick b (ended (skip isDigit s (step s at))) refused)) t)
+  digits-no p t = sym (ap (λ (b : Bool). endsOf (cond b (ended (skip isDigit s (step s at))) refused)) t)
 
   pub int-zero : (r : ℕ) → eqb (octetAt s at) 48 ≡ true → r ≡ step s at → At (record { at = r }) ≡ endsOf (intAt s at)
   unfolding intAt
   int-zero r t e =
       ap (λ (n : ℕ). At (record { at = n })) e
-      ∙ sym (ap (λ (b : Bool). endsOf (pick b (ended (step s at)) (digitsAt isNonzero s at))) t)
+      ∙ sym (ap (λ (b : Bool). endsOf (cond b (ended (step s at)) (digitsAt isNonzero s at))) t)
 
   pub int-other : eqb (octetAt s at) 48 ≡ false → endsOf (digitsAt isDigit s at) ≡ endsOf (intAt s at)
   unfolding intAt digitsAt
   int-other t =
       let first : isDigit (octetAt s at) ≡ isNonzero (octetAt s at) = ap (λ (b : Bool). b || isNonzero (octetAt s at)) t in
-      ap (λ (b : Bool). endsOf (pick b (ended (skip isDigit s (step s at))) refused)) first
-      ∙ sym (ap (λ (b : Bool). endsOf (pick b (ended (step s at)) (digitsAt isNonzero s at))) t)
+      ap (λ (b : Bool). endsOf (cond b (ended (skip isDigit s (step s at))) refused)) first
+      ∙ sym (ap (λ (b : Bool). endsOf (cond b (ended (step s at)) (digitsAt isNonzero s at))) t)
 
   pub fraction-yes : (q : ℕ) → isPoint (octetAt s at) ≡ true → q ≡ step s at
       → endsOf (digitsAt isDigit s q) ≡ endsOf (fractionAt s at)
   unfolding fractionAt
   fraction-yes q t e =
       ap (λ (n : ℕ). endsOf (digitsAt isDigit s n)) e
-      ∙ sym (ap (λ (b : Bool). endsOf (pick b (digitsAt isDigit s (step s at)) (ended at))) t)
+      ∙ sym (ap (λ (b : Bool). endsOf (cond b (digitsAt isDigit s (step s at)) (ended at))) t)
 
   pub fraction-no : isPoint (octetAt s at) ≡ false → At (record { at = at }) ≡ endsOf (fractionAt s at)
   unfolding fractionAt
-  fraction-no t = sym (ap (λ (b : Bool). endsOf (pick b (digitsAt isDigit s (step s at)) (ended at))) t)
+  fraction-no t = sym (ap (λ (b : Bool). endsOf (cond b (digitsAt isDigit s (step s at)) (ended at))) t)
 
   pub exponent-yes : (q r : ℕ) → isE (octetAt s at) ≡ true → q ≡ step s at → r ≡ perhapsAt isPlusMinus s q
       → endsOf (digitsAt isDigit s r) ≡ endsOf (exponentAt s at)
   unfolding exponentAt
   exponent-yes q r t e f =
       ap (λ (n : ℕ). endsOf (digitsAt isDigit s n)) (f ∙ ap (perhapsAt isPlusMinus s) e)
-      ∙ sym (ap (λ (b : Bool). endsOf (pick b (digitsAt isDigit s (perhapsAt isPlusMinus s (step s at))) (ended at))) t)
+      ∙ sym (ap (λ (b : Bool). endsOf (cond b (digitsAt isDigit s (perhapsAt isPlusMinus s (step s at))) (ended at))) t)
 
   pub exponent-no : isE (octetAt s at) ≡ false → At (record { at = at }) ≡ endsOf (exponentAt s at)
   unfolding exponentAt
   exponent-no t =
-      sym (ap (λ (b : Bool). endsOf (pick b (digitsAt isDigit s (perhapsAt isPlusMinus s (step s at))) (ended at))) t)
+      sym (ap (λ (b : Bool). endsOf (cond b (digitsAt isDigit s (perhapsAt isPlusMinus s (step s at))) (ended at))) t)
 
   -- a number, by where its parts end
   number-from : End → End

@@ -2,7 +2,7 @@
 -- and over runs of octets, words and numbers the two end alike.
 use mathlib.Core.Path.{_≡_, refl, sym, ap, _∙_}
 use mathlib.Core.List.{List, [], _∷_, _++_}
-use mathlib.Core.Bool.{Bool, true, false, not}
+use mathlib.Core.Bool.{Bool, true, false, not, cond}
 use mathlib.Core.Option.{Option, none, some}
 use Prim.Native.Nat.{ℕ, suc, _+_, _<_}
 use native.Mathlib.Numerals.{add-one}
@@ -13,7 +13,6 @@ use lib.Dec.{T, eqb}
 use borrow.Author.Tests.{lt-ltb}
 use Rattle.json.specs.Grammar.{digitZero, isDigit, isNonzero, isMinus, isPoint, isE, isPlusMinus, Octet, Int}
 use Rattle.json.specs.Grammar.{int-zero, int, Exponent, Num}
-use Rattle.json.specs.Utf8.{pick}
 use Rattle.json.specs.Reader.{octetAt, step, passOver, skip, End, refused, ended, andThen, digitsAt, intAt}
 use Rattle.json.specs.Reader.{perhapsAt, fractionAt, exponentAt, numberAt, wordAt}
 use Rattle.json.proofs.Parse.{At, at, Got, failed, got, then, true→T, scan, run, one, octet, opt, perhaps}
@@ -76,7 +75,7 @@ pass-scan p [] n = refl
 pass-scan p (c ∷ t) n = go (p c) (pass-scan p t (n + 1) ∙ ap (λ m. scan p m t .pos) (add-one n))
   where
     go : (b : Bool) → passOver p t (n + 1) ≡ scan p (suc n) t .pos →
-        pick b (passOver p t (n + 1)) n
+        cond b (passOver p t (n + 1)) n
         ≡ (elim b as (λ x. At) [ true ↦ scan p (suc n) t | false ↦ at n (c ∷ t) ]) .pos
     go true e = e
     go false e = refl
@@ -119,7 +118,7 @@ word-ends (c ∷ w) {s} {n} {t = d ∷ t} a h =
     (go (eqb d c) (word-ends w (both-T (not (eqb 256 c)) (all (λ x. not (eqb 256 x)) w) a .1) (rest-next h)))
   where
     go : (b : Bool) → wordAt w s (suc n) ≡ endOf (word w (suc n) t) →
-        pick b (wordAt w s (suc n)) refused
+        cond b (wordAt w s (suc n)) refused
         ≡ endOf {A = Unit {0}} (elim b as (λ x. Got (Unit {0})) [ true ↦ word w (suc n) t | false ↦ failed ])
     go true e = e
     go false e = refl
@@ -132,7 +131,7 @@ unfolding digitsAt digits one
 digits-ends p f {s} {n} {t = []} z h = rw (octet-nil h, z)
 digits-ends p f {s} {n} {t = c ∷ t} z h = rw (octet-cons h, step-cons h) (go (p c) refl)
   where
-    go : (b : Bool) (e : p c ≡ b) → pick b (ended (skip isDigit s (suc n))) refused
+    go : (b : Bool) (e : p c ≡ b) → cond b (ended (skip isDigit s (suc n))) refused
         ≡ endOf (then (octet p c b e (at (suc n) t)) (λ o st.
         got (f o (run isDigit (st .rest))) (scan isDigit (st .pos) (st .rest))))
     go true e = ap ended (skip-scan isDigit (rest-next h))
@@ -145,7 +144,7 @@ int-ends {s} {n} {t = c ∷ t} h =
     rw (octet-cons h) (go (eqb c digitZero) (digits-ends isNonzero int refl h))
   where
     go : (b : Bool) → digitsAt isNonzero s n ≡ endOf (digits isNonzero int n (c ∷ t)) →
-        pick b (ended (step s n)) (digitsAt isNonzero s n)
+        cond b (ended (step s n)) (digitsAt isNonzero s n)
         ≡ endOf {A = Int} (elim b as (λ x. Got Int) [
           | true ↦ got int-zero (at (suc n) t)
           | false ↦ digits isNonzero int n (c ∷ t)
@@ -157,12 +156,12 @@ int-ends {s} {n} {t = c ∷ t} h =
 opt-ends : {B : Type 0} (p : ℕ → Bool) (f : Option (Octet p) → At → Got B) {s : List ℕ} {n : ℕ} {t : List ℕ}
     {yes no : End} → p 256 ≡ false → Rest s n t →
     ((o : Octet p) (t′ : List ℕ) → Rest s n (o .code ∷ t′) → yes ≡ endOf (f (some o) (at (suc n) t′))) →
-    no ≡ endOf (f none (at n t)) → pick (p (octetAt s n)) yes no ≡ endOf (then (opt p n t) f)
+    no ≡ endOf (f none (at n t)) → cond (p (octetAt s n)) yes no ≡ endOf (then (opt p n t) f)
 unfolding opt
 opt-ends p f {t = []} z h y q = rw (octet-nil h, z) q
 opt-ends {B} p f {s} {n} {t = c ∷ t} {yes} {no} z h y q = rw (octet-cons h) (go (p c) refl)
   where
-    go : (b : Bool) (e : p c ≡ b) → pick b yes no ≡ endOf (then (perhaps p c b e n t) f)
+    go : (b : Bool) (e : p c ≡ b) → cond b yes no ≡ endOf (then (perhaps p c b e n t) f)
     go true e = y (record { code = c; fits = true→T (p c) e }) t h
     go false e = q
 
@@ -174,9 +173,9 @@ fraction-ends {s} {n} h =
     ∙ ends-same (digits isDigit digitsOf (suc n) t′) (λ d. some (record { mark = o; digits = d })))
     refl
 
-pick-ap : {A B : Type 0} (k : A → B) (b : Bool) (x y : A) → k (pick b x y) ≡ pick b (k x) (k y)
-pick-ap k true x y = refl
-pick-ap k false x y = refl
+cond-ap : {A B : Type 0} (k : A → B) (b : Bool) (x y : A) → k (cond b x y) ≡ cond b (k x) (k y)
+cond-ap k true x y = refl
+cond-ap k false x y = refl
 
 exponent-ends : {s : List ℕ} {n : ℕ} {t : List ℕ} → Rest s n t → exponentAt s n ≡ endOf (readExponent n t)
 unfolding exponentAt readExponent exponentAfter perhapsAt
@@ -184,7 +183,7 @@ exponent-ends {s} {n} h =
     opt-ends isE exponentAfter refl h
     (λ o t′ r.
     ap (λ m. digitsAt isDigit s (perhapsAt isPlusMinus s m)) (step-cons r)
-    ∙ pick-ap (digitsAt isDigit s) (isPlusMinus (octetAt s (suc n))) (step s (suc n)) (suc n)
+    ∙ cond-ap (digitsAt isDigit s) (isPlusMinus (octetAt s (suc n))) (step s (suc n)) (suc n)
     ∙ opt-ends isPlusMinus (signed o) refl (rest-next r)
     (λ g t″ r′. ap (digitsAt isDigit s) (step-cons r′) ∙ digits-ends isDigit digitsOf refl (rest-next r′)
     ∙ ends-same (digits isDigit digitsOf (suc (suc n)) t″) (λ d. some (record { mark = o; sign = some g; digits = d })))
@@ -201,7 +200,7 @@ exponent-ends {s} {n} h =
 pub number-ends : {s : List ℕ} {n : ℕ} {t : List ℕ} → Rest s n t → numberAt s n ≡ endOf (readNum n t)
 unfolding numberAt readNum perhapsAt
 number-ends {s} {n} {t} h =
-    pick-ap (λ m. andThen (intAt s m) (λ e. andThen (fractionAt s e) (λ f. exponentAt s f)))
+    cond-ap (λ m. andThen (intAt s m) (λ e. andThen (fractionAt s e) (λ f. exponentAt s f)))
     (isMinus (octetAt s n)) (step s n) n
     ∙ opt-ends isMinus parts refl h
     (λ o t′ r. ap (λ m. andThen (intAt s m) (λ e. andThen (fractionAt s e) (λ f. exponentAt s f))) (step-cons r)

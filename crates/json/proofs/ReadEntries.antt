@@ -2,7 +2,7 @@
 -- up to the closing bracket agree too, and so do their rows.
 use mathlib.Core.Path.{_≡_, refl, sym, ap, subst, subst₂}
 use mathlib.Core.List.{List, [], _∷_}
-use mathlib.Core.Bool.{Bool, true, false}
+use mathlib.Core.Bool.{Bool, true, false, cond}
 use Prim.Native.Nat.{ℕ, zero, suc, _+_, _-_, _≤_}
 use native.Mathlib.Omega.{arith}
 use lib.ListN.{length}
@@ -10,7 +10,6 @@ use lib.Dec.{eqb, eqb→eq}
 use Rattle.json.specs.Grammar.{comma, isSpace, Bracket, curly, square, closing}
 use Rattle.json.specs.Places.{startOf, sizeOf, kindOf, kindNested, Member}
 use Rattle.json.specs.Strings.{paired}
-use Rattle.json.specs.Utf8.{pick}
 use Rattle.json.specs.Reader.{octetAt, step, skipSpace, Answer, nothing, found, entryOf, valueAfter, entryAt}
 use Rattle.json.specs.Reader.{closeOr, afterEntry, entriesAt, rowsAfter, rowsAt}
 use Rattle.json.proofs.Parse.{At, at, Got, failed, got, then, true→T, scan, Node, Inside, Head, inside-last}
@@ -59,7 +58,7 @@ module _ (s : List ℕ) (inner : ℕ → Answer) (read : At → Got Node) (ag : 
     after-value : (m : ℕ) (w : List ℕ) → Rest s m w → q ≤ m →
         EntriesMatch s b q (closeOr b s (entriesAt inner b s k) m)
         (rowOf (h .name) (v .placed)
-        ∷ pick (eqb (octetAt s m) comma) (rowsAt inner b s k (skipSpace s (step s m))) [])
+        ∷ cond (eqb (octetAt s m) comma) (rowsAt inner b s k (skipSpace s (step s m))) [])
         (go-on others h v m w)
     unfolding go-on rowsOf
     after-value m [] r f = record {
@@ -99,8 +98,8 @@ module _ (s : List ℕ) (inner : ℕ → Answer) (read : At → Got Node) (ag : 
 
         go : (a d : Bool) → (a ≡ true → d ≡ false) → Match k (here .pos) (others here) →
             EntriesMatch s b q
-            (pick d (found (suc m) (kindNested b)) (pick a (entriesAt inner b s k (here .pos)) nothing))
-            (rowOf (h .name) (v .placed) ∷ pick a (rowsAt inner b s k (here .pos)) [])
+            (cond d (found (suc m) (kindNested b)) (cond a (entriesAt inner b s k (here .pos)) nothing))
+            (rowOf (h .name) (v .placed) ∷ cond a (rowsAt inner b s k (here .pos)) [])
             (elim a as (λ x. Got (Inside b)) [
               | true ↦ then (others here) (λ es st. got (inside-more h v es) st)
               | false ↦
@@ -156,7 +155,7 @@ module _ (s : List ℕ) (inner : ℕ → Answer) (read : At → Got Node) (ag : 
           let G = y .after in
           subst₂
           (λ m row. EntriesMatch s b q (closeOr b s (entriesAt inner b s k) m)
-          (row ∷ pick (eqb (octetAt s m) comma) (rowsAt inner b s k (skipSpace s (step s m))) [])
+          (row ∷ cond (eqb (octetAt s m) comma) (rowsAt inner b s k (skipSpace s (step s m))) [])
           (go-on (λ st₃. entries paired b read K k st₃) h v (st₂ .pos) (st₂ .rest)))
           (y .after)
           (row-path h v e (sym p))

@@ -11,7 +11,6 @@ use lib.Dec.{T, eqb}
 use Rattle.json.specs.Grammar.{quote, colon, isSpace, Str, leavesChars, leavesStr, Bracket, curly, square}
 use Rattle.json.specs.Places.{startOf, sizeOf, kindOf, Place, Placed, Parts, done, part, Member, memberOf, bare}
 use Rattle.json.specs.Strings.{paired}
-use Rattle.json.specs.Utf8.{pick}
 use Rattle.json.specs.Reader.{octetAt, step, skip, skipSpace, Answer, nothing, found, Before, colonAt, beforeAt}
 use Rattle.json.proofs.Parse.{At, at, Got, failed, got, then, true→T, scan, word, readStr, readString, Node}
 use Rattle.json.proofs.Parse.{Head, readLabel}
@@ -81,7 +80,7 @@ headOf n x st =
 -- The colon at m, before the text u.
 colon-same : (s : List ℕ) (n m : ℕ) (u : List ℕ) (size : ℕ) (x : Str) → Rest s m u →
     size ≡ length (leavesChars (x .chars)) →
-    pick (eqb (octetAt s m) colon)
+    cond (eqb (octetAt s m) colon)
     (some (record { name = record { start = n + 1; size = size }; value = skipSpace s (step s m) })) none
     ≡ beforeOf (then (word (colon ∷ []) m u) (λ v st. headOf n x st))
 unfolding word
@@ -90,7 +89,7 @@ colon-same s n m (c ∷ u) size x h e =
     rw (octet-cons h, step-cons h, skip-scan isSpace (rest-next h), e) (go (eqb c colon))
   where
     go : (b : Bool) →
-        pick b
+        cond b
         (some (record {
           name = record { start = n + 1; size = length (leavesChars (x .chars)) };
           value = scan isSpace (suc m) u .pos;

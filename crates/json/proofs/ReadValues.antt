@@ -10,7 +10,6 @@ use Rattle.json.specs.Grammar.{quote, isSpace, letters, Literal, literal
 use Rattle.json.specs.Grammar.{Bracket, curly, square, opening, closing, Value, string, number, literal}
 use Rattle.json.specs.Places.{startOf, sizeOf, kindOf, partsOf, kindNested, kindLiteral, Member}
 use Rattle.json.specs.Strings.{paired}
-use Rattle.json.specs.Utf8.{pick}
 use Rattle.json.specs.Reader.{octetAt, step, skipSpace, End, stringAt, numberAt, wordAt, Answer, nothing, found}
 use Rattle.json.specs.Reader.{ofKind, entriesAt, rowsAt, nestedAt, rowsIn, isNumberStart, valueWith, valueAt}
 use Rattle.json.proofs.Parse.{At, at, Got, failed, got, then, or-else, true→T, scan, word, readNum, readString}
@@ -98,9 +97,9 @@ module _ (s : List ℕ) (l : ℕ) (ag : Agrees s (valueAt l s) (value paired l (
   -- At q, past the space behind the opening bracket.
   bracket-match : (q : ℕ) (u : List ℕ) → Rest s q u → n ≤ q →
       NestMatch s n
-      (pick (eqb (octetAt s q) (closing b)) (found (step s q) (kindNested b))
+      (cond (eqb (octetAt s q) (closing b)) (found (step s q) (kindNested b))
       (entriesAt (valueAt l s) b s (length s) q))
-      (pick (eqb (octetAt s q) (closing b)) [] (rowsAt (valueAt l s) b s (length s) q))
+      (cond (eqb (octetAt s q) (closing b)) [] (rowsAt (valueAt l s) b s (length s) q))
       (or-else (then (inside-of q u) (nestOf b n)) (then (word (closing b ∷ []) q u) (emptyOf b n)))
   unfolding word rowsOf
   bracket-match q [] r f =
@@ -112,8 +111,8 @@ module _ (s : List ℕ) (l : ℕ) (ag : Agrees s (valueAt l s) (value paired l (
     where
       go : (d : Bool) → eqb c (closing b) ≡ d →
           NestMatch s n
-          (pick d (found (suc q) (kindNested b)) (entriesAt (valueAt l s) b s (length s) q))
-          (pick d [] (rowsAt (valueAt l s) b s (length s) q))
+          (cond d (found (suc q) (kindNested b)) (entriesAt (valueAt l s) b s (length s) q))
+          (cond d [] (rowsAt (valueAt l s) b s (length s) q))
           (or-else
           (then (inside-of q (c ∷ u)) (nestOf b n))
           (then {A = Unit {0}}
@@ -166,13 +165,13 @@ module _ (s : List ℕ) (nest : Bracket → ℕ → Answer) (nestP : Bracket →
 
       go : (o a q x y z d : Bool) →
           Matches s n
-          (pick o (nest curly (suc n))
-          (pick a (nest square (suc n))
-          (pick q (ofKind 2 (stringAt s n))
-          (pick x (ofKind 4 (wordAt (letters literal-true) s n))
-          (pick y (ofKind 5 (wordAt (letters literal-false) s n))
-          (pick z (ofKind 6 (wordAt (letters literal-null) s n))
-          (pick d (ofKind 3 (numberAt s n)) nothing)))))))
+          (cond o (nest curly (suc n))
+          (cond a (nest square (suc n))
+          (cond q (ofKind 2 (stringAt s n))
+          (cond x (ofKind 4 (wordAt (letters literal-true) s n))
+          (cond y (ofKind 5 (wordAt (letters literal-false) s n))
+          (cond z (ofKind 6 (wordAt (letters literal-null) s n))
+          (cond d (ofKind 3 (numberAt s n)) nothing)))))))
           (start paired nestP (length s)
           (cond o (lead-nested curly)
           (cond a (lead-nested square)

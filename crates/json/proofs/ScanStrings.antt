@@ -12,7 +12,6 @@ use lib.Dec.{eqb, leb, leb→le}
 use Rattle.json.specs.Grammar.{quote, backslash, letterU, isUnescaped, isEscape, isHex, Char, unescaped, escape}
 use Rattle.json.specs.Grammar.{unicode, Str, leavesChar}
 use Rattle.json.specs.Strings.{hexMore, unit, isHigh, isLow, half, allowed, pairedAfter, paired}
-use Rattle.json.specs.Utf8.{pick}
 use Rattle.json.specs.Reader.{End, refused, ended, Scan, between, escaping, digit, Turn, broken, closed, goOn}
 use Rattle.json.specs.Reader.{afterUnit, afterChar, turn, scanString, stringAt}
 use Rattle.json.proofs.Parse.{At, at, Got, failed, got, then, true→T, one, octet, word, hex4, escaped}
@@ -71,7 +70,7 @@ module _ (h : Bool) where
   digit-step j x (c ∷ t) n = scan-step (digit h (suc j) x) c t n ∙ go (isHex c) refl
     where
       go : (b : Bool) (e : isHex c ≡ b) →
-          afterTurn (pick b (goOn (digit h j (hexMore x c))) broken) t (suc n)
+          afterTurn (cond b (goOn (digit h j (hexMore x c))) broken) t (suc n)
           ≡ onGot (octet isHex c b e (at (suc n) t)) (λ o st.
           scanString (digit h j (hexMore x (o .code))) (st .rest) (st .pos))
       go true e = refl
@@ -85,7 +84,7 @@ module _ (h : Bool) where
   digit-last x (c ∷ t) n = scan-step (digit h zero x) c t n ∙ go (isHex c) refl
     where
       go : (b : Bool) (e : isHex c ≡ b) →
-          afterTurn (pick b (afterUnit h (hexMore x c)) broken) t (suc n)
+          afterTurn (cond b (afterUnit h (hexMore x c)) broken) t (suc n)
           ≡ onGot (octet isHex c b e (at (suc n) t)) (λ o st.
           afterTurn (afterUnit h (hexMore x (o .code))) (st .rest) (st .pos))
       go true e = refl
@@ -109,7 +108,7 @@ module _ (h : Bool) where
   escaped-scan (c ∷ t) n = scan-step (escaping h) c t n ∙ go (eqb c letterU) (isEscape c) refl (hex-scan t (suc n))
     where
       go : (b d : Bool) (e : isEscape c ≡ d) → scanString (digit h 3 0) t (suc n) ≡ onGot (hex4 (suc n) t) (chase h) →
-          afterTurn (pick b (goOn (digit h 3 0)) (pick d (afterChar h) broken)) t (suc n)
+          afterTurn (cond b (goOn (digit h 3 0)) (cond d (afterChar h) broken)) t (suc n)
           ≡ onGot
           (elim b as (λ z. Got Char) [
             | true ↦ hex4 (suc n) t
@@ -126,14 +125,14 @@ module _ (h : Bool) where
   char-scan c t n q =
       scan-step (between h) c t n
       ∙ ap
-      (λ z. afterTurn (pick z (pick h broken closed) (pick (eqb c backslash) (goOn (escaping h))
-      (pick (isUnescaped c) (afterChar h) broken))) t (suc n))
+      (λ z. afterTurn (cond z (cond h broken closed) (cond (eqb c backslash) (goOn (escaping h))
+      (cond (isUnescaped c) (afterChar h) broken))) t (suc n))
       q
       ∙ go (eqb c backslash) (isUnescaped c) refl (escaped-scan t (suc n))
     where
       go : (b d : Bool) (e : isUnescaped c ≡ d) → scanString (escaping h) t (suc n)
           ≡ onGot (escaped (suc n) t) (chase h) →
-          afterTurn (pick b (goOn (escaping h)) (pick d (afterChar h) broken)) t (suc n)
+          afterTurn (cond b (goOn (escaping h)) (cond d (afterChar h) broken)) t (suc n)
           ≡ onGot
           (elim b as (λ z. Got Char) [
             | true ↦ escaped (suc n) t
@@ -161,7 +160,7 @@ low-not-high u e = go (isHigh u) refl
     go false q = refl
 
 turn-allowed : (h : Option ℕ) (x : Char) →
-    turnOf (waits h) x ≡ pick (allowed h x) (goOn (between (waits (half x)))) broken
+    turnOf (waits h) x ≡ cond (allowed h x) (goOn (between (waits (half x)))) broken
 unfolding allowed half
 turn-allowed none (unescaped o) = refl
 turn-allowed none (escape o) = refl
@@ -169,9 +168,9 @@ turn-allowed none (unicode a b c d) =
     let u = unit (a .code) (b .code) (c .code) (d .code) in
     go (isLow u) (isHigh u)
   where
-    go : (l g : Bool) → pick l broken (goOn (between g))
-        ≡ pick (not l)
-        (goOn (between (waits (pick g (some (unit (a .code) (b .code) (c .code) (d .code))) none)))) broken
+    go : (l g : Bool) → cond l broken (goOn (between g))
+        ≡ cond (not l)
+        (goOn (between (waits (cond g (some (unit (a .code) (b .code) (c .code) (d .code))) none)))) broken
     go true g = refl
     go false true = refl
     go false false = refl
@@ -181,8 +180,8 @@ turn-allowed (some h) (unicode a b c d) =
     let u = unit (a .code) (b .code) (c .code) (d .code) in
     go (isLow u) (isHigh u) (low-not-high u)
   where
-    go : (l g : Bool) → (l ≡ true → g ≡ false) → pick l (goOn (between false)) broken
-        ≡ pick l (goOn (between (waits (pick g (some (unit (a .code) (b .code) (c .code) (d .code))) none)))) broken
+    go : (l g : Bool) → (l ≡ true → g ≡ false) → cond l (goOn (between false)) broken
+        ≡ cond l (goOn (between (waits (cond g (some (unit (a .code) (b .code) (c .code) (d .code))) none)))) broken
     go true true f = let z : _≡_ {A = Bool} true false = f refl in ap (λ y. goOn (between y)) (sym z)
     go true false f = refl
     go false g f = refl
@@ -194,23 +193,23 @@ kept h cs st = cond (pairedAfter h cs) (got cs st) failed
 
 -- One character before the others.
 cons-ends : (h : Option ℕ) (x : Char) (g : Got (List Char)) {e : End} → e ≡ endOf (then g (kept (half x))) →
-    pick (allowed h x) e refused ≡ endOf (then (then g (λ xs st. got (x ∷ xs) st)) (kept h))
+    cond (allowed h x) e refused ≡ endOf (then (then g (λ xs st. got (x ∷ xs) st)) (kept h))
 unfolding pairedAfter
 cons-ends h x failed {e} p = go (allowed h x)
   where
-    go : (b : Bool) → pick b e refused ≡ refused
+    go : (b : Bool) → cond b e refused ≡ refused
     go true = p
     go false = refl
 cons-ends h x (got xs st) {e} p = go (allowed h x) (pairedAfter (half x) xs) p
   where
     go : (b d : Bool) → e ≡ endOf (cond d (got xs st) failed) →
-        pick b e refused ≡ endOf (cond (b && d) (got (x ∷ xs) st) failed)
+        cond b e refused ≡ endOf (cond (b && d) (got (x ∷ xs) st) failed)
     go true true q = q
     go true false q = q
     go false d q = refl
 
 pick-turn : (b : Bool) (y : Scan) (t : List ℕ) (n : ℕ) →
-    afterTurn (pick b (goOn y) broken) t n ≡ pick b (scanString y t n) refused
+    afterTurn (cond b (goOn y) broken) t n ≡ cond b (scanString y t n) refused
 pick-turn true y t n = refl
 pick-turn false y t n = refl
 
@@ -233,7 +232,7 @@ first-ends k h s n (got x st) q f ih =
     ∙ cons-ends h x (readChars k (st .pos) (st .rest)) (ih (half x) (st .rest) (st .pos) (omega arith))
 
 quote-ends : (h : Option ℕ) (t : List ℕ) (n : ℕ) →
-    afterTurn (pick (waits h) broken closed) t n ≡ endOf (kept h [] (at n t))
+    afterTurn (cond (waits h) broken closed) t n ≡ endOf (kept h [] (at n t))
 unfolding pairedAfter
 quote-ends none t n = refl
 quote-ends (some h) t n = refl
@@ -258,8 +257,8 @@ chars-ends (suc k) h (c ∷ t) n f = go (eqb c quote) refl (chars-ends k)
     go true q ih =
         scan-step (between (waits h)) c t n
         ∙ ap
-        (λ z. afterTurn (pick z (pick (waits h) broken closed) (pick (eqb c backslash) (goOn (escaping (waits h)))
-        (pick (isUnescaped c) (afterChar (waits h)) broken))) t (suc n))
+        (λ z. afterTurn (cond z (cond (waits h) broken closed) (cond (eqb c backslash) (goOn (escaping (waits h)))
+        (cond (isUnescaped c) (afterChar (waits h)) broken))) t (suc n))
         q
         ∙ quote-ends h t (suc n)
     go false q ih = char-scan (waits h) c t n q ∙ first-ends k h (c ∷ t) n (readChar n (c ∷ t)) refl f ih
@@ -294,7 +293,7 @@ string-ends K {s} {n} {t = c ∷ t} h f =
     go : (b : Bool) →
         scanString (between false) t (suc n)
         ≡ endOf (then (rest tt (at (suc n) t)) (λ x st. cond (paired x) (got x st) failed)) →
-        pick b (scanString (between false) t (suc n)) refused
+        cond b (scanString (between false) t (suc n)) refused
         ≡ endOf
         (then
         (then (elim b as (λ z. Got (Unit {0})) [ true ↦ got tt (at (suc n) t) | false ↦ failed ]) rest)

@@ -1,7 +1,7 @@
 -- Strings as the code reads them: the octet at a position moves the scan on, and a run of octets that stand for themselves
 -- moves it to the run's end.
 use mathlib.Core.Path.{_≡_, refl, ap, ap₂, sym, subst, _∙_}
-use mathlib.Core.Bool.{Bool, true, false, not, _&&_, _||_, Bool·beq, true≢false}
+use mathlib.Core.Bool.{Bool, true, false, not, _&&_, _||_, Bool·beq, true≢false, cond}
 use mathlib.Core.List.{List, [], _∷_}
 use Prim.Native.Nat.{ℕ, zero, suc, _+_, _-_, _*_, _≤_, _<_}
 use native.Mathlib.Omega.{arith}
@@ -13,7 +13,6 @@ use Rattle.prelude.proofs.Lists.{drop-next}
 use Rattle.prelude.proofs.Numbers.{below}
 use Rattle.json.specs.Grammar.{quote, backslash, letterU, among, isDigit, isUnescaped, isEscape, isHex}
 use Rattle.json.specs.Strings.{hexDigit, hexMore, isHigh, isLow}
-use Rattle.json.specs.Utf8.{pick}
 use Rattle.json.specs.Reader.{End, refused, ended, Scan, between, escaping, digit, Turn, broken, closed, goOn}
 use Rattle.json.specs.Reader.{octetAt, step, skip, passOver, turn, afterUnit, afterChar, scanString, stringAt}
 use Rattle.json.specs.Ends.{hexAt, resumed, Beyond, escapeOf, Plain}
@@ -116,7 +115,7 @@ unfolding hexAt
 hex-wrong s at x e = cases (isHex (octetAt s at)) refl e
   where
     cases : (b : Bool) → isHex (octetAt s at) ≡ b
-        → NoHex ≡ pick b (More (record { at = step s at }) (hexMore x (octetAt s at))) NoHex → isHex (octetAt s at) ≡ false
+        → NoHex ≡ cond b (More (record { at = step s at }) (hexMore x (octetAt s at))) NoHex → isHex (octetAt s at) ≡ false
     cases true f e = let z : _≡_ {A = ℕ} 0 1 = cc in absurd (omega arith)
     cases false f e = f
 
@@ -126,7 +125,7 @@ unfolding hexAt
 hex-more s at x p y e = cases (isHex (octetAt s at)) refl e
   where
     cases : (b : Bool) → isHex (octetAt s at) ≡ b
-        → More p y ≡ pick b (More (record { at = step s at }) (hexMore x (octetAt s at))) NoHex
+        → More p y ≡ cond b (More (record { at = step s at }) (hexMore x (octetAt s at))) NoHex
         → (isHex (octetAt s at) ≡ true) × (p .at ≡ step s at) × (y ≡ hexMore x (octetAt s at))
     cases true f e =
         let q : _≡_ {A = Position} p (record { at = step s at }) = cc in
@@ -138,12 +137,12 @@ after-hex : (s : List ℕ) (p : Position) (h : Bool) (u : ℕ) → resumed s (es
 unfolding resume
 after-hex s p false u = cases (isLow u)
   where
-    cases : (b : Bool) → resumed s (escapeOf p (pick b broken (goOn (between (isHigh u))))) ≡ resume s (p .at) (pick b broken (goOn (between (isHigh u))))
+    cases : (b : Bool) → resumed s (escapeOf p (cond b broken (goOn (between (isHigh u))))) ≡ resume s (p .at) (cond b broken (goOn (between (isHigh u))))
     cases true = refl
     cases false = refl
 after-hex s p true u = cases (isLow u)
   where
-    cases : (b : Bool) → resumed s (escapeOf p (pick b (goOn (between false)) broken)) ≡ resume s (p .at) (pick b (goOn (between false)) broken)
+    cases : (b : Bool) → resumed s (escapeOf p (cond b (goOn (between false)) broken)) ≡ resume s (p .at) (cond b (goOn (between false)) broken)
     cases true = refl
     cases false = refl
 
@@ -163,7 +162,7 @@ module _ (s : List ℕ) (h : Bool) (x at : ℕ) where
     digit-more n =
         let m = hex-more s at x p y e in
         sym (scan-turn s (digit h (suc n) x) at
-        ∙ ap (λ (b : Bool). resume s (step s at) (pick b (goOn (digit h n (hexMore x (octetAt s at)))) broken)) (m .0)
+        ∙ ap (λ (b : Bool). resume s (step s at) (cond b (goOn (digit h n (hexMore x (octetAt s at)))) broken)) (m .0)
         ∙ ap₂ (λ (q z : ℕ). scan s (digit h n z) q) (sym (m .1)) (sym (m .2)))
 
     pub digit-last : resumed s (escapeOf p (afterUnit h y)) ≡ scan s (digit h zero x) at
@@ -172,7 +171,7 @@ module _ (s : List ℕ) (h : Bool) (x at : ℕ) where
         let m = hex-more s at x p y e in
         after-hex s p h y
         ∙ sym (scan-turn s (digit h zero x) at
-        ∙ ap (λ (b : Bool). resume s (step s at) (pick b (afterUnit h (hexMore x (octetAt s at))) broken)) (m .0)
+        ∙ ap (λ (b : Bool). resume s (step s at) (cond b (afterUnit h (hexMore x (octetAt s at))) broken)) (m .0)
         ∙ ap₂ (λ (q z : ℕ). resume s q (afterUnit h z)) (sym (m .1)) (sym (m .2)))
 
     pub digit-beyond : p .at ≡ at + 1
@@ -181,12 +180,12 @@ module _ (s : List ℕ) (h : Bool) (x at : ℕ) where
 pub unit-beyond : (at : ℕ) (p : Position) (h : Bool) (u : ℕ) → at < p .at → Beyond at (escapeOf p (afterUnit h u))
 unit-beyond at p false u l = cases (isLow u)
   where
-    cases : (b : Bool) → Beyond at (escapeOf p (pick b broken (goOn (between (isHigh u)))))
+    cases : (b : Bool) → Beyond at (escapeOf p (cond b broken (goOn (between (isHigh u)))))
     cases true = tt
     cases false = l
 unit-beyond at p true u l = cases (isLow u)
   where
-    cases : (b : Bool) → Beyond at (escapeOf p (pick b (goOn (between false)) broken))
+    cases : (b : Bool) → Beyond at (escapeOf p (cond b (goOn (between false)) broken))
     cases true = l
     cases false = tt
 
@@ -197,31 +196,31 @@ module _ (s : List ℕ) (h : Bool) (at : ℕ) where
   unfolding turn resume
   escape-unit q t e =
       sym (scan-turn s (escaping h) at
-      ∙ ap (λ (b : Bool). resume s (step s at) (pick b (goOn (digit h 3 0)) (pick (isEscape (octetAt s at)) (afterChar h) broken))) t
+      ∙ ap (λ (b : Bool). resume s (step s at) (cond b (goOn (digit h 3 0)) (cond (isEscape (octetAt s at)) (afterChar h) broken))) t
       ∙ ap (scan s (digit h 3 0)) (sym e))
 
   module _ (t : eqb (octetAt s at) letterU ≡ false) where
-    escape-other : scan s (escaping h) at ≡ resume s (step s at) (pick (isEscape (octetAt s at)) (afterChar h) broken)
+    escape-other : scan s (escaping h) at ≡ resume s (step s at) (cond (isEscape (octetAt s at)) (afterChar h) broken)
     unfolding turn resume
     escape-other =
         scan-turn s (escaping h) at
-        ∙ ap (λ (b : Bool). resume s (step s at) (pick b (goOn (digit h 3 0)) (pick (isEscape (octetAt s at)) (afterChar h) broken))) t
+        ∙ ap (λ (b : Bool). resume s (step s at) (cond b (goOn (digit h 3 0)) (cond (isEscape (octetAt s at)) (afterChar h) broken))) t
 
     pub escape-wrong : isEscape (octetAt s at) ≡ false → refused ≡ scan s (escaping h) at
     unfolding resume
     escape-wrong f =
-        sym (escape-other ∙ ap (λ (b : Bool). resume s (step s at) (pick b (afterChar h) broken)) f)
+        sym (escape-other ∙ ap (λ (b : Bool). resume s (step s at) (cond b (afterChar h) broken)) f)
 
     pub escape-half : isEscape (octetAt s at) ≡ true → h ≡ true → refused ≡ scan s (escaping h) at
     unfolding resume
     escape-half f w =
-        sym (escape-other ∙ ap (λ (b : Bool). resume s (step s at) (pick b (afterChar h) broken)) f
+        sym (escape-other ∙ ap (λ (b : Bool). resume s (step s at) (cond b (afterChar h) broken)) f
         ∙ ap (λ (b : Bool). resume s (step s at) (afterChar b)) w)
 
     pub escape-done : (q : ℕ) → isEscape (octetAt s at) ≡ true → h ≡ false → q ≡ step s at → scan s (between false) q ≡ scan s (escaping h) at
     unfolding resume
     escape-done q f w e =
-        sym (escape-other ∙ ap (λ (b : Bool). resume s (step s at) (pick b (afterChar h) broken)) f
+        sym (escape-other ∙ ap (λ (b : Bool). resume s (step s at) (cond b (afterChar h) broken)) f
         ∙ ap (λ (b : Bool). resume s (step s at) (afterChar b)) w ∙ ap (scan s (between false)) (sym e))
 
 -- Runs of octets that stand for themselves
@@ -231,15 +230,15 @@ unfolding turn
 plain-turn c e = cases (eqb c quote) refl (eqb c backslash) refl
   where
     cases : (a : Bool) → eqb c quote ≡ a → (b : Bool) → eqb c backslash ≡ b
-        → pick (eqb c quote) (pick false broken closed) (pick (eqb c backslash) (goOn (escaping false)) (pick (isUnescaped c) (afterChar false) broken))
+        → cond (eqb c quote) (cond false broken closed) (cond (eqb c backslash) (goOn (escaping false)) (cond (isUnescaped c) (afterChar false) broken))
         ≡ goOn (between false)
     cases true p b q = absurd (true≢false (sym e ∙ ap isUnescaped (eqb-true c quote p)))
     cases false p true q = absurd (true≢false (sym e ∙ ap isUnescaped (eqb-true c backslash q)))
     cases false p false q =
-        ap (λ (x : Bool). pick x (pick false broken closed)
-        (pick (eqb c backslash) (goOn (escaping false)) (pick (isUnescaped c) (afterChar false) broken))) p
-        ∙ ap (λ (x : Bool). pick x (goOn (escaping false)) (pick (isUnescaped c) (afterChar false) broken)) q
-        ∙ ap (λ (x : Bool). pick x (afterChar false) broken) e
+        ap (λ (x : Bool). cond x (cond false broken closed)
+        (cond (eqb c backslash) (goOn (escaping false)) (cond (isUnescaped c) (afterChar false) broken))) p
+        ∙ ap (λ (x : Bool). cond x (goOn (escaping false)) (cond (isUnescaped c) (afterChar false) broken)) q
+        ∙ ap (λ (x : Bool). cond x (afterChar false) broken) e
 
 module _ (s : List ℕ) where
   plain-next : (at : ℕ) → at < length s → isUnescaped (octetAt s at) ≡ true → scan s (between false) at ≡ scan s (between false) (at + 1)
@@ -282,7 +281,7 @@ unfolding passOver
 pass-forward p [] at = omega arith
 pass-forward p (c ∷ t) at = cases (p c) (pass-forward p t (at + 1))
   where
-    cases : (b : Bool) → at + 1 ≤ passOver p t (at + 1) → at ≤ pick b (passOver p t (at + 1)) at
+    cases : (b : Bool) → at + 1 ≤ passOver p t (at + 1) → at ≤ cond b (passOver p t (at + 1)) at
     cases true h = omega (arith, h)
     cases false h = omega arith
 
@@ -295,14 +294,14 @@ skip-forward p s at = pass-forward p (drop at s) at
 module _ (s : List ℕ) (at x : ℕ) where
   pub hex-no : isHex (octetAt s at) ≡ false → NoHex ≡ hexAt s at x
   unfolding hexAt
-  hex-no f = sym (ap (λ (b : Bool). pick b (More (record { at = step s at }) (hexMore x (octetAt s at))) NoHex) f)
+  hex-no f = sym (ap (λ (b : Bool). cond b (More (record { at = step s at }) (hexMore x (octetAt s at))) NoHex) f)
 
   pub hex-yes : (q v : ℕ) → isHex (octetAt s at) ≡ true → q ≡ step s at → v ≡ hexDigit (octetAt s at)
       → More (record { at = q }) (x * 16 + v) ≡ hexAt s at x
   unfolding hexAt
   hex-yes q v f e d =
       ap₂ (λ (n m : ℕ). More (record { at = n }) (x * 16 + m)) e d
-      ∙ sym (ap (λ (b : Bool). pick b (More (record { at = step s at }) (hexMore x (octetAt s at))) NoHex) f)
+      ∙ sym (ap (λ (b : Bool). cond b (More (record { at = step s at }) (hexMore x (octetAt s at))) NoHex) f)
 
 -- beyond a later position is beyond an earlier one
 pub farther : (at q : ℕ) (e : Escape) → at ≤ q → Beyond q e → Beyond at e
@@ -359,13 +358,13 @@ module _ (s : List ℕ) (at : ℕ) where
 
   pub string-not : (octetAt s at ≡ quote → ⊥) → refused ≡ stringAt s at
   unfolding stringAt
-  string-not n = sym (ap (λ (b : Bool). pick b (scan s (between false) (step s at)) refused) (ne-eqb _ _ n))
+  string-not n = sym (ap (λ (b : Bool). cond b (scan s (between false) (step s at)) refused) (ne-eqb _ _ n))
 
   pub string-opens : (q : ℕ) → octetAt s at ≡ quote → q ≡ step s at → scan s (between false) q ≡ stringAt s at
   unfolding stringAt
   string-opens q e f =
       ap (scan s (between false)) f
-      ∙ sym (ap (λ (b : Bool). pick b (scan s (between false) (step s at)) refused) (eq-eqb _ _ e))
+      ∙ sym (ap (λ (b : Bool). cond b (scan s (between false) (step s at)) refused) (eq-eqb _ _ e))
 
   module _ (h : Bool) where
     between-turn : (c : ℕ) → octetAt s at ≡ c → scan s (between h) at ≡ resume s (step s at) (turn (between h) c)
@@ -374,11 +373,11 @@ module _ (s : List ℕ) (at : ℕ) where
     pub quote-closes : (q : ℕ) → octetAt s at ≡ quote → h ≡ false → q ≡ step s at → scan s (between h) at ≡ ended q
     unfolding turn resume
     quote-closes q e w f =
-        between-turn quote e ∙ ap (λ (b : Bool). resume s (step s at) (pick b broken closed)) w ∙ ap ended (sym f)
+        between-turn quote e ∙ ap (λ (b : Bool). resume s (step s at) (cond b broken closed)) w ∙ ap ended (sym f)
 
     pub quote-breaks : octetAt s at ≡ quote → h ≡ true → scan s (between h) at ≡ refused
     unfolding turn resume
-    quote-breaks e w = between-turn quote e ∙ ap (λ (b : Bool). resume s (step s at) (pick b broken closed)) w
+    quote-breaks e w = between-turn quote e ∙ ap (λ (b : Bool). resume s (step s at) (cond b broken closed)) w
 
     pub backslash-escapes : (q : ℕ) → octetAt s at ≡ backslash → q ≡ step s at → scan s (between h) at ≡ scan s (escaping h) q
     unfolding turn resume
@@ -389,18 +388,18 @@ module _ (s : List ℕ) (at : ℕ) where
     unfolding turn resume
     other-breaks p q u =
         scan-turn s (between h) at
-        ∙ ap (λ (b : Bool). resume s (step s at) (pick b (pick h broken closed) (pick (eqb c backslash) (goOn (escaping h)) (pick (isUnescaped c) (afterChar h) broken)))) (ne-eqb _ _ p)
-        ∙ ap (λ (b : Bool). resume s (step s at) (pick b (goOn (escaping h)) (pick (isUnescaped c) (afterChar h) broken))) (ne-eqb _ _ q)
+        ∙ ap (λ (b : Bool). resume s (step s at) (cond b (cond h broken closed) (cond (eqb c backslash) (goOn (escaping h)) (cond (isUnescaped c) (afterChar h) broken)))) (ne-eqb _ _ p)
+        ∙ ap (λ (b : Bool). resume s (step s at) (cond b (goOn (escaping h)) (cond (isUnescaped c) (afterChar h) broken))) (ne-eqb _ _ q)
         ∙ cases h u (isUnescaped c)
       where
         c : ℕ
         c = octetAt s at
 
         cases : (h : Bool) → (h ≡ false → isUnescaped (octetAt s at) ≡ false) → (b : Bool)
-            → resume s (step s at) (pick (isUnescaped (octetAt s at)) (afterChar h) broken) ≡ refused
+            → resume s (step s at) (cond (isUnescaped (octetAt s at)) (afterChar h) broken) ≡ refused
         cases true u b = both (isUnescaped (octetAt s at))
           where
-            both : (b : Bool) → resume s (step s at) (pick b broken broken) ≡ refused
+            both : (b : Bool) → resume s (step s at) (cond b broken broken) ≡ refused
             both true = refl
             both false = refl
-        cases false u b = ap (λ (b : Bool). resume s (step s at) (pick b (afterChar false) broken)) (u refl)
+        cases false u b = ap (λ (b : Bool). resume s (step s at) (cond b (afterChar false) broken)) (u refl)

@@ -2,7 +2,7 @@
 -- read the octets named. These laws are for the proofs of the functions.
 use mathlib.Core.Path.{_≡_, refl, sym, ap, _∙_}
 use mathlib.Core.List.{List}
-use mathlib.Core.Bool.{true, false}
+use mathlib.Core.Bool.{true, false, cond}
 use mathlib.Core.Option.{Option, none}
 use Prim.Native.Nat.{ℕ, zero, suc, _+_, _-_, _<_}
 use native.Mathlib.Nat.{not-suc-le-zero}
@@ -14,7 +14,6 @@ use borrow.Author.Tests.{eq-eqb, ne-eqb}
 use Rattle.json.specs.Grammar.{quote, colon, comma, Bracket, curly, square, closing, opening, letterT, letterF}
 use Rattle.json.specs.Grammar.{letterN, letters, literal-true, literal-false, literal-null}
 use Rattle.json.specs.Places.{kindNested}
-use Rattle.json.specs.Utf8.{pick}
 use Rattle.json.specs.Reader.{octetAt, step, skipSpace, refused, ended, stringAt, Answer, nothing, found}
 use Rattle.json.specs.Reader.{colonAt, beforeAt, Entry, entryOf, valueAfter, entryAt, closeOr, afterEntry}
 use Rattle.json.specs.Reader.{entriesAt, rowsAfter, rowsAt, nestedAt, nestedWithin, isNumberStart, ofKind}
@@ -134,10 +133,10 @@ module _ (s : List ℕ) (levels at c : ℕ) (hc : c ≡ octetAt s at) where
       module _ (n₃ : c ≡ quote → ⊥) where
         -- Past the brackets and the quotation mark.
         value-other : valueAt levels s at
-            ≡ pick (eqb c letterT) (ofKind 4 (wordAt (letters literal-true) s at))
-            (pick (eqb c letterF) (ofKind 5 (wordAt (letters literal-false) s at))
-            (pick (eqb c letterN) (ofKind 6 (wordAt (letters literal-null) s at))
-            (pick (isNumberStart c) (ofKind 3 (numberAt s at)) nothing)))
+            ≡ cond (eqb c letterT) (ofKind 4 (wordAt (letters literal-true) s at))
+            (cond (eqb c letterF) (ofKind 5 (wordAt (letters literal-false) s at))
+            (cond (eqb c letterN) (ofKind 6 (wordAt (letters literal-null) s at))
+            (cond (isNumberStart c) (ofKind 3 (numberAt s at)) nothing)))
         unfolding valueWith
         value-other =
             value-is

@@ -1,7 +1,7 @@
 -- In well-formed UTF-8 a string that keeps the rule on halves says well-formed UTF-8 after undoing its escapes.
 use mathlib.Core.Path.{_≡_, refl, sym, subst}
 use mathlib.Core.List.{List, [], _∷_, _++_}
-use mathlib.Core.Bool.{Bool, true, false, not, _&&_, _||_}
+use mathlib.Core.Bool.{Bool, true, false, not, _&&_, _||_, cond}
 use mathlib.Core.Option.{Option, none, some}
 use Prim.Native.Nat.{ℕ, _≤_, _<_}
 use native.Mathlib.Omega.{arith}
@@ -10,7 +10,7 @@ use Rattle.json.specs.Grammar.{quote, backslash, letterU, among, isEscap
 use Rattle.json.specs.Grammar.{unescaped, escape, unicode, leavesChar, leavesChars}
 use Rattle.json.specs.Strings.{escapePoint, hexDigit, unit, isHigh, isLow, half, allowed, pairedAfter, combined}
 use Rattle.json.specs.Strings.{undoneChar, undoneAfter}
-use Rattle.json.specs.Utf8.{pick, Range, within, Row, rows, follow, encode, utf8After}
+use Rattle.json.specs.Utf8.{Range, within, Row, rows, follow, encode, utf8After}
 use Rattle.json.proofs.Parse.{true→T}
 use Rattle.json.proofs.Scan.{both-T, all, among-all}
 use Rattle.json.proofs.Utf8Test.{both, after-character}
@@ -37,7 +37,7 @@ follow-tails (r ∷ table) c rs t e =
     go (within (r .first) c) (u .0) (λ x. follow-tails table c rs (u .1) x) e
   where
     go : (b : Bool) → T (tailsOnly (r .others)) → (follow table c ≡ some rs → T (tailsOnly rs)) →
-        pick b (some (r .others)) (follow table c) ≡ some rs → T (tailsOnly rs)
+        cond b (some (r .others)) (follow table c) ≡ some rs → T (tailsOnly rs)
     go true o ih x = let y : r .others ≡ rs = cc in subst (λ z. T (tailsOnly z)) y o
     go false o ih x = ih x
 
@@ -128,7 +128,7 @@ half-ok (unicode a b c d) =
     let u = unit (a .code) (b .code) (c .code) (d .code) in
     go u (isHigh u) refl
   where
-    go : (u : ℕ) (b : Bool) → isHigh u ≡ b → T (okHalf (pick b (some u) none))
+    go : (u : ℕ) (b : Bool) → isHigh u ≡ b → T (okHalf (cond b (some u) none))
     go u true e = true→T (isHigh u) e
     go u false e = tt
 
@@ -171,7 +171,7 @@ unit-step none a b c d s o t =
     go (isHigh u) refl
   where
     go : (g : Bool) → isHigh (unit (a .code) (b .code) (c .code) (d .code)) ≡ g →
-        utf8After [] (pick g [] (encode (unit (a .code) (b .code) (c .code) (d .code))) ++ s) ≡ utf8After [] s
+        utf8After [] (cond g [] (encode (unit (a .code) (b .code) (c .code) (d .code))) ++ s) ≡ utf8After [] s
     go true e = refl
     go false e =
         let u = unit (a .code) (b .code) (c .code) (d .code) in

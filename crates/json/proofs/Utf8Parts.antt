@@ -1,7 +1,7 @@
 -- UTF-8 as the code reads it: the first octet of a character gives the ranges of the others, by a table that is computed;
 -- each octet in its range moves the test on; and a block of octets below 128 is passed over.
 use mathlib.Core.Path.{_≡_, refl, ap, ap₂, sym, subst, _∙_}
-use mathlib.Core.Bool.{Bool, true, false, not, _&&_, _||_}
+use mathlib.Core.Bool.{Bool, true, false, not, _&&_, _||_, cond}
 use mathlib.Core.List.{List, [], _∷_}
 use mathlib.Core.Option.{Option, none, some}
 use Prim.Native.Nat.{ℕ, zero, suc, _+_, _-_, _≤_, _<_}
@@ -12,7 +12,7 @@ use lib.Dec.{T, eqb, leb}
 use borrow.Author.Tests.{le-leb, eqb-true, ne-eqb}
 use Rattle.prelude.proofs.Lists.{drop-next}
 use Rattle.prelude.proofs.Numbers.{every, below}
-use Rattle.json.specs.Utf8.{pick, Range, to, within, tail, rows, follow, utf8After, utf8}
+use Rattle.json.specs.Utf8.{Range, to, within, tail, rows, follow, utf8After, utf8}
 use Rattle.json.specs.Utf8Parts.{past, Low}
 use Rattle.json.proofs.Scan.{T→true, both-T}
 use Rattle.json.proofs.Steps.{utf8-low-run}
@@ -185,7 +185,7 @@ module _ (s : List ℕ) (at : ℕ) where
 
   -- What is left after a character that is one.
   pub past-some : (n : ℕ) → (n ≡ 0 → ⊥) → past s at n ≡ utf8 (drop (at + n) s)
-  past-some n h = ap (λ (b : Bool). pick b false (utf8 (drop (at + n) s))) (ne-eqb n 0 h)
+  past-some n h = ap (λ (b : Bool). cond b false (utf8 (drop (at + n) s))) (ne-eqb n 0 h)
 
   pub past-none : (n : ℕ) → n ≡ 0 → past s at n ≡ false
   past-none n e = ap (past s at) e

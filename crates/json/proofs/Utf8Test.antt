@@ -1,12 +1,12 @@
 -- The test for UTF-8 agrees with the definition: it passes exactly the octets of a list of well-formed characters.
 use mathlib.Core.Path.{_≡_, refl, sym, ap, subst, _∙_}
 use mathlib.Core.List.{List, [], _∷_, _++_}
-use mathlib.Core.Bool.{Bool, true, false, _&&_, _||_}
+use mathlib.Core.Bool.{Bool, true, false, _&&_, _||_, cond}
 use mathlib.Core.Option.{Option, none, some}
 use Prim.Native.Nat.{ℕ, _≤_}
 use native.Mathlib.Omega.{arith}
 use lib.Dec.{T, leb, ltb, leb→le, ltb→lt}
-use Rattle.json.specs.Utf8.{pick, Range, within, Row, rows, fits, fitsOne, Character, spelling, Utf8, follow}
+use Rattle.json.specs.Utf8.{Range, within, Row, rows, fits, fitsOne, Character, spelling, Utf8, follow}
 use Rattle.json.specs.Utf8.{utf8After, utf8}
 use Rattle.json.proofs.Parse.{true→T}
 use Rattle.json.proofs.Scan.{T→true, both-T}
@@ -29,7 +29,7 @@ unfolding follow fits fitsOne
 found-fits [] c rs w e t = let z : _≡_ {A = ℕ} 0 1 = cc in absurd (omega arith)
 found-fits (r ∷ table) c rs w e t = go (within (r .first) c) refl e (λ h. found-fits table c rs w h t)
   where
-    go : (b : Bool) → within (r .first) c ≡ b → pick b (some (r .others)) (follow table c) ≡ some rs →
+    go : (b : Bool) → within (r .first) c ≡ b → cond b (some (r .others)) (follow table c) ≡ some rs →
         (follow table c ≡ some rs → T (fitsOne table (c ∷ w))) → T ((b && fits (r .others) w) || fitsOne table (c ∷ w))
     go true q h ih =
         let o : r .others ≡ rs = cc in

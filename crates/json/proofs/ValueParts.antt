@@ -1,6 +1,6 @@
 -- Parts of a value as the code reads them, one test or one call after the other.
 use mathlib.Core.Path.{_≡_, refl, ap, sym, _∙_}
-use mathlib.Core.Bool.{Bool, true, false, true≢false}
+use mathlib.Core.Bool.{Bool, true, false, true≢false, cond}
 use mathlib.Core.List.{List}
 use mathlib.Core.Option.{Option, none, some}
 use Prim.Native.Nat.{ℕ, _+_, _-_, _≤_, _<_}
@@ -11,7 +11,7 @@ use borrow.Author.Tests.{eq-eqb, ne-eqb}
 use Rattle.prelude.proofs.Lists.{drop-next}
 use Rattle.json.specs.Grammar.{colon, Bracket, curly, square, opening, letters, literal-true, literal-false}
 use Rattle.json.specs.Grammar.{literal-null}
-use Rattle.json.specs.Utf8.{pick, utf8}
+use Rattle.json.specs.Utf8.{utf8}
 use Rattle.json.specs.Reader.{End, refused, ended, octetAt, step, skipSpace, stringAt, numberAt, wordAt}
 use Rattle.json.specs.Reader.{Answer, nothing, found, ofKind, Before, colonAt, beforeAt, valueAfter, entryAt}
 use Rattle.json.specs.Reader.{closeOr, afterEntry, entriesAt, isNumberStart, valueWith, valueAt}
@@ -40,7 +40,7 @@ module _ (s w : List ℕ) (k at : ℕ) where
 
   module _ (h : k < length w) where
     word-here : wordAt (drop k w) s at
-        ≡ pick (eqb (octetAt s at) (getD w k 0)) (wordAt (drop (k + 1) w) s (step s at)) refused
+        ≡ cond (eqb (octetAt s at) (getD w k 0)) (wordAt (drop (k + 1) w) s (step s at)) refused
     unfolding wordAt
     word-here = ap (λ (t : List ℕ). wordAt t s at) (drop-next w k (k + 1) refl h)
 
@@ -48,10 +48,10 @@ module _ (s w : List ℕ) (k at : ℕ) where
         wordAt (drop (k + 1) w) s n ≡ wordAt (drop k w) s at
     word-next n e f =
         ap (wordAt (drop (k + 1) w) s) f
-        ∙ sym (word-here ∙ ap (λ (b : Bool). pick b (wordAt (drop (k + 1) w) s (step s at)) refused) (eq-eqb _ _ e))
+        ∙ sym (word-here ∙ ap (λ (b : Bool). cond b (wordAt (drop (k + 1) w) s (step s at)) refused) (eq-eqb _ _ e))
 
     pub word-not : (octetAt s at ≡ getD w k 0 → ⊥) → wordAt (drop k w) s at ≡ refused
-    word-not f = word-here ∙ ap (λ (b : Bool). pick b (wordAt (drop (k + 1) w) s (step s at)) refused) (ne-eqb _ _ f)
+    word-not f = word-here ∙ ap (λ (b : Bool). cond b (wordAt (drop (k + 1) w) s (step s at)) refused) (ne-eqb _ _ f)
 
 -- Values that are neither objects nor arrays, with the first octet c.
 
@@ -59,7 +59,7 @@ kind-ends : (k : ℕ) (r : Ends) (x : End) → r ≡ endsOf x → endsOfKind k r
 kind-ends k r refused e = ap (endsOfKind k) e
 kind-ends k r (ended n) e = ap (endsOfKind k) e
 
-pick-same : {A : Type 0} (b : Bool) (x : A) → pick b x x ≡ x
+pick-same : {A : Type 0} (b : Bool) (x : A) → cond b x x ≡ x
 pick-same true x = refl
 pick-same false x = refl
 
@@ -114,9 +114,9 @@ module _ (s : List ℕ) (at c : ℕ) (hc : c ≡ octetAt s at) where
       valueAt 0 s at ≡ nothing
   unfolding valueWith scalar
   scalar-none a b d e h =
-      let q : scalar c ≡ pick (eqb c 123) nothing (pick (eqb c 91) nothing nothing) =
+      let q : scalar c ≡ cond (eqb c 123) nothing (cond (eqb c 91) nothing nothing) =
       simp (ne-eqb c 34 a, ne-eqb c 116 b, ne-eqb c 102 d, ne-eqb c 110 e, h) in
-      scalar-of c refl ∙ q ∙ ap (pick (eqb c 123) nothing) (pick-same (eqb c 91) nothing) ∙ pick-same (eqb c 123) nothing
+      scalar-of c refl ∙ q ∙ ap (cond (eqb c 123) nothing) (pick-same (eqb c 91) nothing) ∙ pick-same (eqb c 123) nothing
 
 -- A member's name and its colon.
 module _ (s : List ℕ) (at : ℕ) where

@@ -1,10 +1,11 @@
 -- The octets that are still to come from a cursor of the code, for those that a spelling adds.
+use mathlib.Core.Bool.{cond}
 use mathlib.Core.List.{List, [], _∷_, _++_}
 use mathlib.Core.Option.{Option, none, some}
 use Prim.Native.Nat.{ℕ, zero, suc, _+_, _-_, _*_, _/_, _≤_, _<_}
 use lib.ListN.{length, drop}
 use lib.Dec.{leb}
-use Rattle.json.specs.Utf8.{pick, sixBits}
+use Rattle.json.specs.Utf8.{sixBits}
 use Rattle.json.specs.Spellings.{between, undoFrom}
 use Rattle.json.specs.declared.spelling.Cursor.{Cursor}
 use Rattle.json.specs.declared.spelling.Octet.{Octet}
@@ -55,9 +56,9 @@ octet c at half n k = Next c (cursor at half n k)
 -- The first octet of a code point, and the cursor before the others.
 abbrev pub encoded : ℕ → ℕ → ℕ → Octet
 encoded at half n =
-    pick (leb n 0x7F) (octet n at half n 0)
-    (pick (leb n 0x7FF) (octet (0xC0 + n / 64) at half n 1)
-    (pick (leb n 0xFFFF) (octet (0xE0 + n / 4096) at half n 2)
+    cond (leb n 0x7F) (octet n at half n 0)
+    (cond (leb n 0x7FF) (octet (0xC0 + n / 64) at half n 1)
+    (cond (leb n 0xFFFF) (octet (0xE0 + n / 4096) at half n 2)
     (octet (0xF0 + n / 262144) at half n 3)))
 
 -- One of the octets of a code point that are to come.

@@ -1,13 +1,12 @@
 -- The code's answers for those of the reader.
 use Prim.Native.Nat.{ℕ, _+_, _*_, _<_}
 use mathlib.Core.Path.{_≡_}
-use mathlib.Core.Bool.{Bool, true}
+use mathlib.Core.Bool.{Bool, true, cond}
 use mathlib.Core.List.{List}
 use mathlib.Core.Option.{Option, none, some}
 use lib.ListN.{length, drop, getD}
 use Rattle.json.specs.Grammar.{isUnescaped, isHex}
 use Rattle.json.specs.Strings.{hexMore}
-use Rattle.json.specs.Utf8.{pick}
 use Rattle.json.specs.Reader.{octetAt, step, End, refused, ended, Turn, broken, closed, goOn, between, escaping, digit, scanString}
 use Rattle.json.specs.Reader.{Answer, nothing, found, Before}
 use Rattle.json.specs.declared.Position.{Position}
@@ -41,7 +40,7 @@ valueIn (some x) = ended (x .value)
 -- One hexadecimal digit more, behind those that say x.
 unfoldable pub hexAt : List ℕ → ℕ → ℕ → Hex
 hexAt s at x =
-    pick (isHex (octetAt s at)) (More (record { at = step s at }) (hexMore x (octetAt s at))) NoHex
+    cond (isHex (octetAt s at)) (More (record { at = step s at }) (hexMore x (octetAt s at))) NoHex
 
 -- What the digits say has four bits more.
 abbrev pub Small : ℕ → Hex → Type 0

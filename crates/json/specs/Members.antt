@@ -1,13 +1,12 @@
 -- The code's answers for members and elements.
 use Prim.Native.Nat.{ℕ}
-use mathlib.Core.Bool.{Bool}
+use mathlib.Core.Bool.{Bool, cond}
 use mathlib.Core.List.{List, [], _∷_, _++_}
 use mathlib.Core.Option.{Option, none, some}
 use lib.ListN.{length}
 use lib.Dec.{eqb, leb}
 use Rattle.json.specs.Grammar.{comma}
 use Rattle.json.specs.Places as places
-use Rattle.json.specs.Utf8.{pick}
 use Rattle.json.specs.Reader.{octetAt, step, skipSpace, Entry}
 use Rattle.json.specs.declared.Position.{Position}
 use Rattle.json.specs.declared.member.Place.{Place}
@@ -21,7 +20,7 @@ use Rattle.json.specs.declared.member.Collected.the-variants.{Rows, More
 -- where none begins.
 unfoldable pub nextFrom : List ℕ → ℕ → ℕ
 nextFrom s at =
-    pick (eqb (octetAt s (skipSpace s at)) comma) (skipSpace s (step s (skipSpace s at))) (length s)
+    cond (eqb (octetAt s (skipSpace s at)) comma) (skipSpace s (step s (skipSpace s at))) (length s)
 
 abbrev pub rowOf : places.Member → Row
 rowOf m = record {
@@ -49,4 +48,4 @@ flat (m ∷ rest) = numbers m ++ flat rest
 
 -- How many there are, or that there are more than the 32 of which a table has room.
 unfoldable pub collectedOf : List places.Member → Collected
-collectedOf rows = pick (leb (length rows) 32) (Rows (length rows)) More
+collectedOf rows = cond (leb (length rows) 32) (Rows (length rows)) More

@@ -2,7 +2,7 @@
 -- at the end of the text is 256, and no step passes the end. Recursion is on levels; the loops over entries take the
 -- reader of values as an argument, and as many turns at most as the text has octets.
 use mathlib.Core.List.{List, [], _∷_}
-use mathlib.Core.Bool.{Bool, true, false, _&&_}
+use mathlib.Core.Bool.{Bool, true, false, _&&_, cond}
 use mathlib.Core.Option.{Option, none, some}
 use Prim.Native.Nat.{ℕ, zero, suc, _+_, _-_}
 use lib.ListN.{length, drop, getD}
@@ -13,7 +13,7 @@ use Rattle.json.specs.Grammar.{isUnescaped, isEscape, isHex, literal-tru
 use Rattle.json.specs.Grammar.{Bracket, curly, square, opening, closing}
 use Rattle.json.specs.Places.{kindNested, Place, Member, Element}
 use Rattle.json.specs.Strings.{hexMore, isHigh, isLow}
-use Rattle.json.specs.Utf8.{pick, utf8}
+use Rattle.json.specs.Utf8.{utf8}
 
 -- Positions
 
@@ -23,12 +23,12 @@ octetAt s at = getD s at 256
 
 -- One on, and no further than the end.
 abbrev pub step : List ℕ → ℕ → ℕ
-step s at = pick (ltb at (length s)) (at + 1) at
+step s at = cond (ltb at (length s)) (at + 1) at
 
 -- Past the octets of a class with which t begins, t being what stands in the text from a position on.
 unfoldable pub passOver : (ℕ → Bool) → List ℕ → ℕ → ℕ
 passOver p [] at = at
-passOver p (c ∷ t) at = let e = passOver p t (at + 1) in pick (p c) e at
+passOver p (c ∷ t) at = let e = passOver p t (at + 1) in cond (p c) e at
 
 -- Past the octets of a class that stand here.
 unfoldable pub skip : (ℕ → Bool) → List ℕ → ℕ → ℕ
@@ -66,8 +66,8 @@ pub data Turn : Type 0 where
 
 -- After the four digits of \u, which say u.
 abbrev pub afterUnit : Bool → ℕ → Turn
-afterUnit false u = pick (isLow u) broken (goOn (between (isHigh u)))
-afterUnit true u = pick (isLow u) (goOn (between false)) broken
+afterUnit false u = cond (isLow u) broken (goOn (between (isHigh u)))
+afterUnit true u = cond (isLow u) (goOn (between false)) broken
 
 -- After any other character.
 abbrev pub afterChar : Bool → Turn
@@ -77,12 +77,12 @@ afterChar true = broken
 -- What one octet does.
 unfoldable pub turn : Scan → ℕ → Turn
 turn (between h) c =
-    pick (eqb c quote) (pick h broken closed)
-    (pick (eqb c backslash) (goOn (escaping h))
-    (pick (isUnescaped c) (afterChar h) broken))
-turn (escaping h) c = pick (eqb c letterU) (goOn (digit h 3 0)) (pick (isEscape c) (afterChar h) broken)
-turn (digit h zero x) c = pick (isHex c) (afterUnit h (hexMore x c)) broken
-turn (digit h (suc n) x) c = pick (isHex c) (goOn (digit h n (hexMore x c))) broken
+    cond (eqb c quote) (cond h broken closed)
+    (cond (eqb c backslash) (goOn (escaping h))
+    (cond (isUnescaped c) (afterChar h) broken))
+turn (escaping h) c = cond (eqb c letterU) (goOn (digit h 3 0)) (cond (isEscape c) (afterChar h) broken)
+turn (digit h zero x) c = cond (isHex c) (afterUnit h (hexMore x c)) broken
+turn (digit h (suc n) x) c = cond (isHex c) (goOn (digit h n (hexMore x c))) broken
 
 -- A string from a place in it on.
 unfoldable pub scanString : Scan → List ℕ → ℕ → End
@@ -98,29 +98,29 @@ scanString x (c ∷ t) at =
 unfoldable pub stringAt : List ℕ → ℕ → End
 stringAt s at =
     let e = scanString (between false) (drop (step s at) s) (step s at) in
-    pick (eqb (octetAt s at) quote) e refused
+    cond (eqb (octetAt s at) quote) e refused
 
 -- Numbers (section 6), part by part
 
 -- One digit of a class and any digits.
 unfoldable pub digitsAt : (ℕ → Bool) → List ℕ → ℕ → End
-digitsAt p s at = pick (p (octetAt s at)) (ended (skip isDigit s (step s at))) refused
+digitsAt p s at = cond (p (octetAt s at)) (ended (skip isDigit s (step s at))) refused
 
 -- int: a zero, or a digit from 1 to 9 and any digits.
 unfoldable pub intAt : List ℕ → ℕ → End
-intAt s at = pick (eqb (octetAt s at) digitZero) (ended (step s at)) (digitsAt isNonzero s at)
+intAt s at = cond (eqb (octetAt s at) digitZero) (ended (step s at)) (digitsAt isNonzero s at)
 
 -- Past an octet of a class, if it stands here.
 unfoldable pub perhapsAt : (ℕ → Bool) → List ℕ → ℕ → ℕ
-perhapsAt p s at = pick (p (octetAt s at)) (step s at) at
+perhapsAt p s at = cond (p (octetAt s at)) (step s at) at
 
 -- frac, if it is there: a point and digits.
 unfoldable pub fractionAt : List ℕ → ℕ → End
-fractionAt s at = pick (isPoint (octetAt s at)) (digitsAt isDigit s (step s at)) (ended at)
+fractionAt s at = cond (isPoint (octetAt s at)) (digitsAt isDigit s (step s at)) (ended at)
 
 -- exp, if it is there: e or E, perhaps a plus or a minus, digits.
 unfoldable pub exponentAt : List ℕ → ℕ → End
-exponentAt s at = pick (isE (octetAt s at)) (digitsAt isDigit s (perhapsAt isPlusMinus s (step s at))) (ended at)
+exponentAt s at = cond (isE (octetAt s at)) (digitsAt isDigit s (perhapsAt isPlusMinus s (step s at))) (ended at)
 
 -- A number that begins here: [ minus ] int [ frac ] [ exp ].
 unfoldable pub numberAt : List ℕ → ℕ → End
@@ -130,7 +130,7 @@ numberAt s at =
 -- Words: the octets of w, one after the other.
 unfoldable pub wordAt : List ℕ → List ℕ → ℕ → End
 wordAt [] s at = ended at
-wordAt (c ∷ w) s at = let e = wordAt w s (step s at) in pick (eqb (octetAt s at) c) e refused
+wordAt (c ∷ w) s at = let e = wordAt w s (step s at) in cond (eqb (octetAt s at) c) e refused
 
 -- Entries (sections 4 and 5)
 
@@ -154,7 +154,7 @@ pub record Before : Type 0 where
 abbrev pub colonAt : List ℕ → ℕ → End → Option Before
 colonAt s at refused = none
 colonAt s at (ended e) =
-    pick (eqb (octetAt s (skipSpace s e)) colon)
+    cond (eqb (octetAt s (skipSpace s e)) colon)
     (some (record {
       name = record { start = at + 1; size = e - (at + 2) };
       value = skipSpace s (step s (skipSpace s e));
@@ -193,7 +193,7 @@ entryAt inner b s at = valueAfter inner (beforeAt b s at)
 abbrev pub closeOr : Bracket → List ℕ → (ℕ → Answer) → ℕ → Answer
 closeOr b s others at =
     let r = others (skipSpace s (step s at)) in
-    pick (eqb (octetAt s at) (closing b)) (found (step s at) (kindNested b)) (pick (eqb (octetAt s at) comma) r nothing)
+    cond (eqb (octetAt s at) (closing b)) (found (step s at) (kindNested b)) (cond (eqb (octetAt s at) comma) r nothing)
 
 -- What follows an entry, if there is one.
 abbrev pub afterEntry : Bracket → List ℕ → (ℕ → Answer) → Option Entry → Answer
@@ -211,7 +211,7 @@ rowsAfter s others none = []
 rowsAfter s others (some x) =
     let at = skipSpace s (x .after) in
     let r = others (skipSpace s (step s at)) in
-    x .row ∷ pick (eqb (octetAt s at) comma) r []
+    x .row ∷ cond (eqb (octetAt s at) comma) r []
 
 -- The rows of those entries.
 unfoldable pub rowsAt : (ℕ → Answer) → Bracket → List ℕ → ℕ → ℕ → List Member
@@ -223,14 +223,14 @@ unfoldable pub nestedAt : (ℕ → Answer) → Bracket → List ℕ → ℕ → 
 nestedAt inner b s at =
     let q = skipSpace s at in
     let r = entriesAt inner b s (length s) q in
-    pick (eqb (octetAt s q) (closing b)) (found (step s q) (kindNested b)) r
+    cond (eqb (octetAt s q) (closing b)) (found (step s q) (kindNested b)) r
 
 -- Its rows.
 unfoldable pub rowsIn : (ℕ → Answer) → Bracket → List ℕ → ℕ → List Member
 rowsIn inner b s at =
     let q = skipSpace s at in
     let r = rowsAt inner b s (length s) q in
-    pick (eqb (octetAt s q) (closing b)) [] r
+    cond (eqb (octetAt s q) (closing b)) [] r
 
 -- Values (section 3)
 
@@ -248,13 +248,13 @@ valueWith nest s at c =
     let f = ofKind 5 (wordAt (letters literal-false) s at) in
     let n = ofKind 6 (wordAt (letters literal-null) s at) in
     let d = ofKind 3 (numberAt s at) in
-    pick (eqb c (opening curly)) o
-    (pick (eqb c (opening square)) a
-    (pick (eqb c quote) x
-    (pick (eqb c letterT) t
-    (pick (eqb c letterF) f
-    (pick (eqb c letterN) n
-    (pick (isNumberStart c) d nothing))))))
+    cond (eqb c (opening curly)) o
+    (cond (eqb c (opening square)) a
+    (cond (eqb c quote) x
+    (cond (eqb c letterT) t
+    (cond (eqb c letterF) f
+    (cond (eqb c letterN) n
+    (cond (isNumberStart c) d nothing))))))
 
 -- A value of at most so many levels that begins here.
 unfoldable pub valueAt : ℕ → List ℕ → ℕ → Answer
@@ -290,7 +290,7 @@ elementsAt l s at = elementsOf (rowsIn (valueAt l s) square s (step s at))
 -- An answer for a value behind which nothing but space stands.
 abbrev pub wholly : List ℕ → Answer → Answer
 wholly s nothing = nothing
-wholly s (found e k) = pick (eqb (skipSpace s e) (length s)) (found e k) nothing
+wholly s (found e k) = cond (eqb (skipSpace s e) (length s)) (found e k) nothing
 
 -- A text that is an object of at most so many levels with space around it, and well-formed UTF-8: where the object
 -- ends, and its kind, which is 0. It begins at skipSpace s 0.
@@ -298,4 +298,4 @@ unfoldable pub readText : ℕ → List ℕ → Answer
 readText l s =
     let at = skipSpace s 0 in
     let r = wholly s (valueAt l s at) in
-    pick (eqb (octetAt s at) (opening curly) && utf8 s) r nothing
+    cond (eqb (octetAt s at) (opening curly) && utf8 s) r nothing

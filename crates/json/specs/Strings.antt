@@ -2,24 +2,24 @@
 -- section 7; RFC 7515, section 5.3).
 use mathlib.Core.Path.{_≡_}
 use mathlib.Core.List.{List, [], _∷_, _++_}
-use mathlib.Core.Bool.{Bool, true, false, not, _&&_}
+use mathlib.Core.Bool.{Bool, true, false, not, _&&_, cond}
 use mathlib.Core.Option.{Option, none, some}
 use Prim.Native.Nat.{ℕ, _+_, _-_, _*_}
 use lib.Dec.{eqb, leb}
 use Rattle.json.specs.Grammar.{Char, unescaped, escape, unicode, Str, Bracket, curly, square, Label, Value}
 use Rattle.json.specs.Grammar.{nested, empty, string, number, literal, Entries, last, more}
-use Rattle.json.specs.Utf8.{pick, points, encode, encodes}
+use Rattle.json.specs.Utf8.{points, encode, encodes}
 
 -- Escapes
 
 -- What a backslash and the octet c stand for: b f n r t are backspace, form feed, LF, CR and tab; " \ / are themselves.
 abbrev pub escapePoint : ℕ → ℕ
 escapePoint c =
-    pick (eqb c 98) 8 (pick (eqb c 102) 12 (pick (eqb c 110) 10 (pick (eqb c 114) 13 (pick (eqb c 116) 9 c))))
+    cond (eqb c 98) 8 (cond (eqb c 102) 12 (cond (eqb c 110) 10 (cond (eqb c 114) 13 (cond (eqb c 116) 9 c))))
 
 -- The value of a hexadecimal digit: 0 to 9, A to F, a to f.
 abbrev pub hexDigit : ℕ → ℕ
-hexDigit c = pick (leb c 57) (c - 48) (pick (leb c 70) (c - 55) (c - 87))
+hexDigit c = cond (leb c 57) (c - 48) (cond (leb c 70) (c - 55) (c - 87))
 
 -- One more hexadecimal digit c behind those that say x.
 abbrev pub hexMore : ℕ → ℕ → ℕ
@@ -45,7 +45,7 @@ half (unescaped o) = none
 half (escape o) = none
 half (unicode a b c d) =
     let u = unit (a .code) (b .code) (c .code) (d .code) in
-    pick (isHigh u) (some u) none
+    cond (isHigh u) (some u) none
 
 -- Whether a character may stand here: after a first half only a second half, and a second half only there.
 unfoldable pub allowed : Option ℕ → Char → Bool
@@ -80,7 +80,7 @@ undoneChar h (unescaped o) = o .code ∷ []
 undoneChar h (escape o) = escapePoint (o .code) ∷ []
 undoneChar none (unicode a b c d) =
     let u = unit (a .code) (b .code) (c .code) (d .code) in
-    pick (isHigh u) [] (encode u)
+    cond (isHigh u) [] (encode u)
 undoneChar (some h) (unicode a b c d) = encode (combined h (unit (a .code) (b .code) (c .code) (d .code)))
 
 -- The octets that characters add, after a first half or not.

@@ -1,15 +1,10 @@
 -- UTF-8 by RFC 3629: which lists of octets are well-formed, and the code points that they stand for.
 use mathlib.Core.Path.{_≡_}
 use mathlib.Core.List.{List, [], _∷_, _++_}
-use mathlib.Core.Bool.{Bool, true, false, _&&_, _||_}
+use mathlib.Core.Bool.{Bool, true, false, _&&_, _||_, cond}
 use mathlib.Core.Option.{Option, none, some}
 use Prim.Native.Nat.{ℕ, zero, suc, _+_, _-_, _*_, _/_, _%_}
 use lib.Dec.{T, leb}
-
--- A choice by a test.
-abbrev pub pick : {A : Type 0} → Bool → A → A → A
-pick true a b = a
-pick false a b = b
 
 -- Well-formed octets (section 4)
 
@@ -85,7 +80,7 @@ pub record Utf8 (s : List ℕ) : Type 0 where
 -- The ranges that follow a first octet, by the first row that has it.
 unfoldable pub follow : List Row → ℕ → Option (List Range)
 follow [] c = none
-follow (r ∷ rs) c = pick (within (r .first) c) (some (r .others)) (follow rs c)
+follow (r ∷ rs) c = cond (within (r .first) c) (some (r .others)) (follow rs c)
 
 -- Whether octets begin with some that fit the ranges, and are well-formed from there on.
 unfoldable pub utf8After : List Range → List ℕ → Bool
@@ -102,7 +97,7 @@ utf8 s = utf8After [] s
 
 -- How many octets follow the first one, c, of a character.
 abbrev pub tails : ℕ → ℕ
-tails c = pick (leb c 0x7F) 0 (pick (leb c 0xDF) 1 (pick (leb c 0xEF) 2 3))
+tails c = cond (leb c 0x7F) 0 (cond (leb c 0xDF) 1 (cond (leb c 0xEF) 2 3))
 
 -- The bits that mark a first octet with n more to come: 0xxxxxxx, 110xxxxx, 1110xxxx, 11110xxx.
 abbrev pub mark : ℕ → ℕ
@@ -134,9 +129,9 @@ sixBits n = 0x80 + n % 64
 -- The octets of a code point.
 unfoldable pub encode : ℕ → List ℕ
 encode n =
-    pick (leb n 0x7F) (n ∷ [])
-    (pick (leb n 0x7FF) ((0xC0 + n / 64) ∷ sixBits n ∷ [])
-    (pick (leb n 0xFFFF) ((0xE0 + n / 4096) ∷ sixBits (n / 64) ∷ sixBits n ∷ [])
+    cond (leb n 0x7F) (n ∷ [])
+    (cond (leb n 0x7FF) ((0xC0 + n / 64) ∷ sixBits n ∷ [])
+    (cond (leb n 0xFFFF) ((0xE0 + n / 4096) ∷ sixBits (n / 64) ∷ sixBits n ∷ [])
     ((0xF0 + n / 262144) ∷ sixBits (n / 4096) ∷ sixBits (n / 64) ∷ sixBits n ∷ [])))
 
 -- The octets of code points.

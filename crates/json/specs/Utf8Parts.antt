@@ -1,17 +1,17 @@
 -- UTF-8 as the code reads it: what is left to test after a character, and after a run of them.
 use Prim.Native.Nat.{ℕ, _+_, _≤_, _<_}
-use mathlib.Core.Bool.{Bool, false}
+use mathlib.Core.Bool.{Bool, false, cond}
 use mathlib.Core.List.{List}
 use lib.ListN.{length, drop, getD}
 use lib.Dec.{eqb}
-use Rattle.json.specs.Utf8.{pick, utf8}
+use Rattle.json.specs.Utf8.{utf8}
 use Rattle.json.specs.declared.Position.{Position}
 use Rattle.json.specs.declared.Ends.{Ends}
 use Rattle.json.specs.declared.Ends.the-variants.{At, Refused}
 
 -- A character of n octets at a position: whether octets are well-formed from its end on. With n = 0, none stands there.
 abbrev pub past : List ℕ → ℕ → ℕ → Bool
-past s at n = pick (eqb n 0) false (utf8 (drop (at + n) s))
+past s at n = cond (eqb n 0) false (utf8 (drop (at + n) s))
 
 -- Characters up to a position: whether octets are well-formed from there on; and that it is at or after `to`.
 

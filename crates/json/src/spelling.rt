@@ -1,10 +1,11 @@
 // Strings compared by their spellings, the octets between the quotation marks, escapes undone on the way.
+ghost use mathlib.Core.Bool.{cond};
 ghost use mathlib.Core.Path.{_≡_};
 ghost use Prim.Native.Nat.{_-_, _≤_, _<_};
 ghost use lib.ListN.{drop};
 ghost use Rattle.json.specs.Strings.{hexDigit, escapePoint, combined, unit, isHigh};
 ghost use Rattle.json.specs.Spellings.{equal, alike, has};
-ghost use Rattle.json.specs.Utf8.{pick, sixBits};
+ghost use Rattle.json.specs.Utf8.{sixBits};
 ghost use Rattle.json.specs.Cursors.{undoAt, rest, told, Falls, cursor, octet, pendingOf, encoded};
 
 // Where in a spelling we are, between characters: a first half that stands directly before, or 0; and of the code point that
@@ -80,7 +81,7 @@ fn escape_point(c: u8) -> u8
 
 // A first half, or 0.
 fn waiting(u: u32) -> u32
-    ensures { λ r. ⌜ (r ≡ pick (isHigh u) u 0) × (r ≤ 56319) ⌝ }
+    ensures { λ r. ⌜ (r ≡ cond (isHigh u) u 0) × (r ≤ 56319) ⌝ }
 {
     if u < 55296 {
         return 0;
