@@ -52,7 +52,7 @@ fn is_digit(c: u16) -> bool
 
 impl Position {
     // The octet here; 256 at the end.
-    pub fn peek(self, s: &[u8]) -> u16
+    pub(crate) fn peek(self, s: &[u8]) -> u16
         ensures { λ r. ⌜ r ≡ octetAt (now (s .entry)) (self .at) ⌝ }
     {
         let at = self.at;
@@ -60,7 +60,7 @@ impl Position {
     }
 
     // One on, and no further than the end.
-    pub fn step(self, s: &[u8]) -> Position
+    pub(crate) fn step(self, s: &[u8]) -> Position
         ensures { λ r. ⌜ r .at ≡ step (now (s .entry)) (self .at) ⌝ }
     {
         let at = self.at;
@@ -72,7 +72,7 @@ impl Position {
     }
 
     // Past the space that stands here.
-    pub fn skip_space(self, s: &[u8]) -> Position
+    pub(crate) fn skip_space(self, s: &[u8]) -> Position
         ensures { λ r. ⌜ r .at ≡ skipSpace (now (s .entry)) (self .at) ⌝ }
     {
         let mut at = self.at;
@@ -86,7 +86,7 @@ impl Position {
     }
 
     // Past the digits that stand here.
-    pub fn skip_digits(self, s: &[u8]) -> Position
+    pub(crate) fn skip_digits(self, s: &[u8]) -> Position
         ensures { λ r. ⌜ r .at ≡ skip isDigit (now (s .entry)) (self .at) ⌝ }
     {
         let mut at = self.at;

@@ -77,7 +77,7 @@ impl Position {
     }
 
     // A number that begins here.
-    pub fn number(self, s: &[u8]) -> Ends
+    pub(crate) fn number(self, s: &[u8]) -> Ends
         ensures { λ r. ⌜ r ≡ endsOf (numberAt (now (s .entry)) (self .at)) ⌝ }
     {
         let whole = self.skip_minus(s).int(s);

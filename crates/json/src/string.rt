@@ -223,7 +223,7 @@ impl Position {
     }
 
     // A string that begins here.
-    pub fn string(self, s: &[u8]) -> Ends
+    pub(crate) fn string(self, s: &[u8]) -> Ends
         ensures { λ r. ⌜ r ≡ endsOf (stringAt (now (s .entry)) (self .at)) ⌝ }
     {
         if self.peek(s) != 34 {
