@@ -178,8 +178,27 @@ impl Position {
         Escape::Next(self.step(s), false)
     }
 
-    // Past the octets here that stand for themselves.
+    // Past the octets here that stand for themselves. Names and most values are short: blocks begin after sixteen octets.
     fn skip_plain(self, s: &[u8]) -> Position
+        ensures { λ r. ⌜ r .at ≡ skip isUnescaped (now (s .entry)) (self .at) ⌝ }
+    {
+        let mut at = self.at;
+        let mut few: usize = 0;
+        while few < 16 {
+            if s.len() <= at {
+                return Position { at };
+            }
+            if is_stop(s[at]) {
+                return Position { at };
+            }
+            at += 1;
+            few += 1;
+        }
+        Position { at }.skip_long(s)
+    }
+
+    // The same for a long run.
+    fn skip_long(self, s: &[u8]) -> Position
         ensures { λ r. ⌜ r .at ≡ skip isUnescaped (now (s .entry)) (self .at) ⌝ }
     {
         let mut at = self.skip_blocks(s).at;

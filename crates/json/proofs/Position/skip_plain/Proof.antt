@@ -1,7 +1,7 @@
--- `skip_plain` ends where the plain octets end: what is left to skip stays the same, octet by octet.
-use Prim.Native.Nat.{_-_}
+-- `skip_plain` ends where the plain octets end: what is left to skip stays the same, octet by octet, and then by blocks.
+use Prim.Native.Nat.{_-_, _≤_}
 use mathlib.Core.Path.{_≡_, refl, sym, _∙_}
-use lib.ListN.{length}
+use native.Mathlib.Omega.{arith}
 use borrow.Author.Tests.{not-true, not-false}
 use Rattle.json.specs.Grammar.{isUnescaped}
 use Rattle.json.specs.Reader.{skip}
@@ -11,16 +11,18 @@ use Rattle.json.proofs.Position.skip_plain.Statement.{statement}
 use Rattle.json.proofs.Position.skip_plain.Tie as tie
 
 abbrev Inv-loop : tie.InvT-loop
-Inv-loop s at₀ at = skip isUnescaped s at ≡ skip isUnescaped s at₀
+Inv-loop s at₀ few₀ at few = (few ≤ 16) × (skip isUnescaped s at ≡ skip isUnescaped s at₀)
 
 abbrev μ-loop : tie.MeasureT-loop
-μ-loop s at₀ at = length s - at
-
-skip-blocks-requires : tie.Need-skip-blocks-requires Inv-loop μ-loop
-skip-blocks-requires c κs = search needs
+μ-loop s at₀ few₀ at few = 16 - few
 
 loop-holds : tie.Need-loop-holds Inv-loop μ-loop
-loop-holds c = refl
+loop-holds c = (search needs, refl)
+
+returns : tie.Need-returns Inv-loop μ-loop
+returns c =
+    let s = c .before .before .before .before .args .s .now in
+    sym (skip-end isUnescaped s (c .before .before .loop .at) (c .if1 .taken)) ∙ c .before .before .loop .inv .1
 
 shared-slice-read-is-stop : tie.Need-shared-slice-read-is-stop Inv-loop μ-loop
 shared-slice-read-is-stop c = search needs
@@ -28,16 +30,19 @@ shared-slice-read-is-stop c = search needs
 is-stop-requires : tie.Need-is-stop-requires Inv-loop μ-loop
 is-stop-requires c κs = search needs
 
-returns : tie.Need-returns Inv-loop μ-loop
-returns c =
+returns-2 : tie.Need-returns-2 Inv-loop μ-loop
+returns-2 c =
     let s = c .before .before .before .before .before .before .before .args .s .now in
-    let at = c .before .before .before .before .loop .at in
+    let at = c .before .before .before .before .before .loop .at in
     let tested = sym (c .before .is-stop .ensures) in
-    let blocks = c .before .before .before .before .before .skip-blocks .ensures in
-    sym (skip-stop isUnescaped s at (c .before .before .before .loop-test .taken) (not-true _ (tested ∙ c .if1 .taken))) ∙ c .before .before .before .before .loop .inv ∙ blocks
+    let inside = c .before .before .before .if1 .left in
+    sym (skip-stop isUnescaped s at inside (not-true _ (tested ∙ c .if2 .taken))) ∙ c .before .before .before .before .before .loop .inv .1
 
 add-at : tie.Need-add-at Inv-loop μ-loop
 add-at c = search needs
+
+add-few : tie.Need-add-few Inv-loop μ-loop
+add-few c = search needs
 
 loop-less : tie.Need-loop-less Inv-loop μ-loop
 loop-less c = search needs
@@ -45,15 +50,16 @@ loop-less c = search needs
 loop-again : tie.Need-loop-again Inv-loop μ-loop
 loop-again c =
     let s = c .before .before .before .before .before .before .before .args .s .now in
-    let at = c .before .before .before .before .loop .at in
+    let at = c .before .before .before .before .before .loop .at in
     let tested = sym (c .before .is-stop .ensures) in
-    let blocks = c .before .before .before .before .before .skip-blocks .ensures in
-    sym (skip-next isUnescaped s at (c .before .before .before .loop-test .taken) (not-false _ (tested ∙ c .if1 .left))) ∙ c .before .before .before .before .loop .inv
+    let inside = c .before .before .before .if1 .left in
+    (omega arith, sym (skip-next isUnescaped s at inside (not-false _ (tested ∙ c .if2 .left))) ∙ c .before .before .before .before .before .loop .inv .1)
 
-returns-2 : tie.Need-returns-2 Inv-loop μ-loop
-returns-2 c =
-    let s = c .before .before .before .before .args .s .now in
-    sym (skip-end isUnescaped s (c .before .loop .at) (c .loop-test .left)) ∙ c .before .loop .inv ∙ c .before .before .skip-blocks .ensures
+skip-long-requires : tie.Need-skip-long-requires Inv-loop μ-loop
+skip-long-requires c κs = search needs
+
+returns-3 : tie.Need-returns-3 Inv-loop μ-loop
+returns-3 c = c .skip-long .ensures ∙ c .before .before .loop .inv .1
 
 pub skip-plain-spec : {M : Type 1} → statement M
 skip-plain-spec =
@@ -61,12 +67,14 @@ skip-plain-spec =
     (tie.spec
     Inv-loop
     μ-loop
-    skip-blocks-requires
     loop-holds
+    returns
     shared-slice-read-is-stop
     is-stop-requires
-    returns
+    returns-2
     add-at
+    add-few
     loop-less
     loop-again
-    returns-2)
+    skip-long-requires
+    returns-3)
