@@ -3,10 +3,10 @@
 use mathlib.Core.Path.{_≡_, refl, ap, ap₂, sym, _∙_}
 use mathlib.Core.Bool.{Bool, true, false, _&&_}
 use mathlib.Core.List.{List, [], _∷_}
-use Prim.Native.Nat.{ℕ, _+_, _≤_, _<_}
+use Prim.Native.Nat.{ℕ, _+_, _<_}
 use lib.ListN.{length, drop, getD, drop-of-length-le}
 use lib.Dec.{leb}
-use borrow.Author.Tests.{eq-eqb, ne-eqb, le-leb, lt-leb, leb-true, leb-false}
+use borrow.Author.Tests.{eq-eqb, ne-eqb, leb-true, leb-false}
 use Rattle.prelude.proofs.Lists.{drop-next}
 use Rattle.json.specs.Spellings.{undo, equal, alike, has}
 use Rattle.json.specs.Cursors.{undoAt}
@@ -58,6 +58,19 @@ module _ (v w : List ℕ) (k : ℕ) (h : k < length v) (i : k < length w) (e : g
   has-passes =
       same (undoAt v 0 k) (drop k w) (getD v k 0) (undoAt v 0 (k + 1)) (getD w k 0) (drop (k + 1) w)
       (undo-plain v 0 k h n) (sym (drop-next w k (k + 1) refl i)) e
+
+-- Different octets that stand for themselves.
+module _ (v w : List ℕ) (k : ℕ) (h : k < length v) (i : k < length w) (m : getD v k 0 ≡ 92 → ⊥)
+    (d : getD v k 0 ≡ getD w k 0 → ⊥) where
+  pub alike-differs : (getD w k 0 ≡ 92 → ⊥) → false ≡ equal (undoAt v 0 k) (undoAt w 0 k)
+  alike-differs n =
+      differ (undoAt v 0 k) (undoAt w 0 k) (getD v k 0) (undoAt v 0 (k + 1)) (getD w k 0) (undoAt w 0 (k + 1))
+      (undo-plain v 0 k h m) (undo-plain w 0 k i n) d
+
+  pub has-differs : false ≡ equal (undoAt v 0 k) (drop k w)
+  has-differs =
+      differ (undoAt v 0 k) (drop k w) (getD v k 0) (undoAt v 0 (k + 1)) (getD w k 0) (drop (k + 1) w)
+      (undo-plain v 0 k h m) (sym (drop-next w k (k + 1) refl i)) d
 
 -- A spelling that is at its end has the octets from k on exactly where there are none.
 pub has-ends : (v w : List ℕ) (k : ℕ) → [] ≡ v → leb (length w) k ≡ equal v (drop k w)

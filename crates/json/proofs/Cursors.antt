@@ -6,7 +6,7 @@ use mathlib.Core.Option.{Option, none, some}
 use Prim.Native.Nat.{ℕ, zero, suc, _+_, _-_, _*_, _/_, _≤_, _<_}
 use native.Mathlib.Omega.{arith}
 use lib.ListN.{length, drop, getD, drop-of-length-le, length-drop}
-use lib.Dec.{eqb, leb}
+use lib.Dec.{leb}
 use borrow.Author.Tests.{ne-eqb}
 use Rattle.prelude.proofs.Lists.{drop-next}
 use Rattle.json.specs.Strings.{hexDigit, hexMore, unit, escapePoint, isHigh, combined}
@@ -14,8 +14,7 @@ use Rattle.json.specs.Utf8.{sixBits, encode}
 use Rattle.json.specs.Spellings.{Spot, between, escaping, digit, unitOctets, adds, next, undoFrom}
 use Rattle.json.specs.Cursors.{halfOf, undoAt, rest, told, size, Falls, cursor, encoded, pendingOctet, pendingOf}
 use Rattle.json.specs.declared.spelling.Cursor.{Cursor}
-use Rattle.json.specs.declared.spelling.Octet.{Octet}
-use Rattle.json.specs.declared.spelling.Octet.the-variants.{Next, End}
+use Rattle.json.specs.declared.spelling.Octet.the-variants.{Next}
 
 -- Octets of a spelling
 

@@ -2,6 +2,7 @@
 ghost use mathlib.Core.Bool.{cond};
 ghost use mathlib.Core.Path.{_≡_};
 ghost use Prim.Native.Nat.{_-_, _≤_, _<_};
+ghost use mathlib.Core.Bool.{true, false};
 ghost use lib.ListN.{drop};
 ghost use Rattle.json.specs.Strings.{hexDigit, escapePoint, combined, unit, isHigh};
 ghost use Rattle.json.specs.Spellings.{equal, alike, has};
@@ -236,11 +237,39 @@ fn common(a: &[u8], b: &[u8]) -> usize
     k
 }
 
+// Whether what follows these is an octet that stands for itself in both, and not the same.
+fn differ_at(a: &[u8], b: &[u8], k: usize) -> bool
+    ensures { λ r. ⌜ (r ≡ true → false ≡ equal (undoAt (now (a .entry)) 0 k) (undoAt (now (b .entry)) 0 k)) ⌝ }
+    ensures { λ r. ⌜ (r ≡ true → false ≡ equal (undoAt (now (a .entry)) 0 k) (drop k (now (b .entry)))) ⌝ }
+{
+    if a.len() <= k {
+        return false;
+    }
+    if b.len() <= k {
+        return false;
+    }
+    let c = a[k];
+    let d = b[k];
+    if c == 92 {
+        return false;
+    }
+    if d == 92 {
+        return false;
+    }
+    if c == d {
+        return false;
+    }
+    true
+}
+
 // Whether two spellings say the same.
 pub fn alike(a: &[u8], b: &[u8]) -> bool
     ensures { λ r. ⌜ r ≡ alike (now (a .entry)) (now (b .entry)) ⌝ }
 {
     let k = common(a, b);
+    if differ_at(a, b, k) {
+        return false;
+    }
     let mut p = cursor_at(k);
     let mut q = cursor_at(k);
     loop {
@@ -268,6 +297,9 @@ pub fn has(a: &[u8], w: &[u8]) -> bool
     ensures { λ r. ⌜ r ≡ has (now (a .entry)) (now (w .entry)) ⌝ }
 {
     let mut k = common(a, w);
+    if differ_at(a, w, k) {
+        return false;
+    }
     let mut p = cursor_at(k);
     loop {
         let x = p.next(a);

@@ -19,6 +19,12 @@ abbrev μ-loop : tie.MeasureT-loop
 common-requires : tie.Need-common-requires Inv-loop μ-loop
 common-requires c κs = search needs
 
+differ-at-requires : tie.Need-differ-at-requires Inv-loop μ-loop
+differ-at-requires c κs = search needs
+
+returns : tie.Need-returns Inv-loop μ-loop
+returns c = c .before .differ-at .ensures .0 (c .if1 .taken) ∙ c .before .before .common .ensures .0
+
 cursor-at-requires : tie.Need-cursor-at-requires Inv-loop μ-loop
 cursor-at-requires c κs = search needs
 
@@ -51,9 +57,9 @@ enum-told-2 c = search needs
 enum-told-3 : tie.Need-enum-told-3 Inv-loop μ-loop
 enum-told-3 c = search needs
 
-returns : tie.Need-returns Inv-loop μ-loop
-returns c =
-    let start = c .before .before .before .before .before .before .before .before .before .before .before .before in
+returns-2 : tie.Need-returns-2 Inv-loop μ-loop
+returns-2 c =
+    let start = c .before .before .before .before .before .before .before .before .before .before .before .before .before .before in
     let a = start .args .a .now in
     let b = start .args .b .now in
     let loop = c .before .before .before .before .before .before .loop in
@@ -66,12 +72,12 @@ returns c =
     let whole =
     loop .inv .0
     ∙ ap₂ (λ (v w : Cursor). equal (rest a v) (rest b w)) (c .before .before .before .before .before .before .before .before .cursor-at .ensures) (c .before .before .before .before .before .before .before .cursor-at2 .ensures)
-    ∙ c .before .before .before .before .before .before .before .before .before .common .ensures .0 in
+    ∙ c .before .before .before .before .before .before .before .before .before .before .before .common .ensures .0 in
     left-ends (rest a (loop .p)) (rest b (loop .q)) (y .0 .0) (rest b (y .0 .1 .0)) left right ∙ whole
 
-returns-2 : tie.Need-returns-2 Inv-loop μ-loop
-returns-2 c =
-    let start = c .before .before .before .before .before .before .before .before .before .before .before .before in
+returns-3 : tie.Need-returns-3 Inv-loop μ-loop
+returns-3 c =
+    let start = c .before .before .before .before .before .before .before .before .before .before .before .before .before .before in
     let a = start .args .a .now in
     let b = start .args .b .now in
     let loop = c .before .before .before .before .before .before .loop in
@@ -84,7 +90,7 @@ returns-2 c =
     let whole =
     loop .inv .0
     ∙ ap₂ (λ (v w : Cursor). equal (rest a v) (rest b w)) (c .before .before .before .before .before .before .before .before .cursor-at .ensures) (c .before .before .before .before .before .before .before .cursor-at2 .ensures)
-    ∙ c .before .before .before .before .before .before .before .before .before .common .ensures .0 in
+    ∙ c .before .before .before .before .before .before .before .before .before .before .before .common .ensures .0 in
     both-end (rest a (loop .p)) (rest b (loop .q)) left right ∙ whole
 
 enum-known-y : tie.Need-enum-known-y Inv-loop μ-loop
@@ -93,9 +99,9 @@ enum-known-y c = search needs
 enum-told-4 : tie.Need-enum-told-4 Inv-loop μ-loop
 enum-told-4 c = search needs
 
-returns-3 : tie.Need-returns-3 Inv-loop μ-loop
-returns-3 c =
-    let start = c .before .before .before .before .before .before .before .before .before .before .before .before .before in
+returns-4 : tie.Need-returns-4 Inv-loop μ-loop
+returns-4 c =
+    let start = c .before .before .before .before .before .before .before .before .before .before .before .before .before .before .before in
     let a = start .args .a .now in
     let b = start .args .b .now in
     let loop = c .before .before .before .before .before .before .before .loop in
@@ -108,12 +114,12 @@ returns-3 c =
     let whole =
     loop .inv .0
     ∙ ap₂ (λ (v w : Cursor). equal (rest a v) (rest b w)) (c .before .before .before .before .before .before .before .before .before .cursor-at .ensures) (c .before .before .before .before .before .before .before .before .cursor-at2 .ensures)
-    ∙ c .before .before .before .before .before .before .before .before .before .before .common .ensures .0 in
+    ∙ c .before .before .before .before .before .before .before .before .before .before .before .before .common .ensures .0 in
     right-ends (rest a (loop .p)) (rest b (loop .q)) (x .0 .0) (rest a (x .0 .1 .0)) left right ∙ whole
 
-returns-4 : tie.Need-returns-4 Inv-loop μ-loop
-returns-4 c =
-    let start = c .before .before .before .before .before .before .before .before .before .before .before .before .before .before .before in
+returns-5 : tie.Need-returns-5 Inv-loop μ-loop
+returns-5 c =
+    let start = c .before .before .before .before .before .before .before .before .before .before .before .before .before .before .before .before .before in
     let a = start .args .a .now in
     let b = start .args .b .now in
     let loop = c .before .before .before .before .before .before .before .before .before .loop in
@@ -126,17 +132,17 @@ returns-4 c =
     let whole =
     loop .inv .0
     ∙ ap₂ (λ (v w : Cursor). equal (rest a v) (rest b w)) (c .before .before .before .before .before .before .before .before .before .before .before .cursor-at .ensures) (c .before .before .before .before .before .before .before .before .before .before .cursor-at2 .ensures)
-    ∙ c .before .before .before .before .before .before .before .before .before .before .before .before .common .ensures .0 in
-    differ (rest a (loop .p)) (rest b (loop .q)) (x .0 .0) (rest a (x .0 .1 .0)) (y .0 .0) (rest b (y .0 .1 .0)) left right (c .if1 .taken) ∙ whole
+    ∙ c .before .before .before .before .before .before .before .before .before .before .before .before .before .before .common .ensures .0 in
+    differ (rest a (loop .p)) (rest b (loop .q)) (x .0 .0) (rest a (x .0 .1 .0)) (y .0 .0) (rest b (y .0 .1 .0)) left right (c .if2 .taken) ∙ whole
 
 loop-less : tie.Need-loop-less Inv-loop μ-loop
 loop-less c =
-    let a = c .before .before .before .before .before .before .before .before .before .before .before .before .before .before .before .args .a .now in
+    let a = c .before .before .before .before .before .before .before .before .before .before .before .before .before .before .before .before .before .args .a .now in
     subst (Falls a (c .before .before .before .before .before .before .before .before .before .loop .p)) (c .before .before .before .before .before .x .given .1) (c .before .before .before .before .before .before .before .before .next .ensures .1) .1
 
 loop-again : tie.Need-loop-again Inv-loop μ-loop
 loop-again c =
-    let start = c .before .before .before .before .before .before .before .before .before .before .before .before .before .before .before in
+    let start = c .before .before .before .before .before .before .before .before .before .before .before .before .before .before .before .before .before in
     let a = start .args .a .now in
     let b = start .args .b .now in
     let loop = c .before .before .before .before .before .before .before .before .before .loop in
@@ -149,8 +155,8 @@ loop-again c =
     let whole =
     loop .inv .0
     ∙ ap₂ (λ (v w : Cursor). equal (rest a v) (rest b w)) (c .before .before .before .before .before .before .before .before .before .before .before .cursor-at .ensures) (c .before .before .before .before .before .before .before .before .before .before .cursor-at2 .ensures)
-    ∙ c .before .before .before .before .before .before .before .before .before .before .before .before .common .ensures .0 in (
-      same (rest a (loop .p)) (rest b (loop .q)) (x .0 .0) (rest a (x .0 .1 .0)) (y .0 .0) (rest b (y .0 .1 .0)) left right (c .if1 .left) ∙ loop .inv .0,
+    ∙ c .before .before .before .before .before .before .before .before .before .before .before .before .before .before .common .ensures .0 in (
+      same (rest a (loop .p)) (rest b (loop .q)) (x .0 .0) (rest a (x .0 .1 .0)) (y .0 .0) (rest b (y .0 .1 .0)) left right (c .if2 .left) ∙ loop .inv .0,
       subst (Falls a (loop .p)) (x .1) (next .ensures .1) .0,
       subst (Falls b (loop .q)) (y .1) (next2 .ensures .1) .0,
     )
@@ -162,6 +168,8 @@ alike-spec =
     Inv-loop
     μ-loop
     common-requires
+    differ-at-requires
+    returns
     cursor-at-requires
     cursor-at-requires-2
     loop-holds
@@ -171,11 +179,11 @@ alike-spec =
     enum-told
     enum-told-2
     enum-told-3
-    returns
     returns-2
+    returns-3
     enum-known-y
     enum-told-4
-    returns-3
     returns-4
+    returns-5
     loop-less
     loop-again)

@@ -2,7 +2,6 @@
 use mathlib.Core.Path.{ap, sym}
 use borrow.Author.Tests.{ne-eqb}
 use Rattle.json.specs.Strings.{escapePoint}
-use borrow.Author.Needs.{needs}
 use Rattle.json.proofs.spelling.escape_point.Statement.{statement}
 use Rattle.json.proofs.spelling.escape_point.Tie as tie
 

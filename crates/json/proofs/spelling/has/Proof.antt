@@ -22,6 +22,12 @@ abbrev μ-loop : tie.MeasureT-loop
 common-requires : tie.Need-common-requires Inv-loop μ-loop
 common-requires c κs = search needs
 
+differ-at-requires : tie.Need-differ-at-requires Inv-loop μ-loop
+differ-at-requires c κs = search needs
+
+returns : tie.Need-returns Inv-loop μ-loop
+returns c = c .before .differ-at .ensures .1 (c .if1 .taken) ∙ c .before .before .common .ensures .1
+
 cursor-at-requires : tie.Need-cursor-at-requires Inv-loop μ-loop
 cursor-at-requires c κs = search needs
 
@@ -37,9 +43,9 @@ enum-known-x c = search needs
 enum-told : tie.Need-enum-told Inv-loop μ-loop
 enum-told c = search needs
 
-returns : tie.Need-returns Inv-loop μ-loop
-returns c =
-    let start = c .before .before .before .before .before .before .before .before in
+returns-2 : tie.Need-returns-2 Inv-loop μ-loop
+returns-2 c =
+    let start = c .before .before .before .before .before .before .before .before .before .before in
     let a = start .args .a .now in
     let w = start .args .w .now in
     let loop = c .before .before .before .loop in
@@ -49,13 +55,13 @@ returns c =
     let left = ap (told a) (sym (x .1)) ∙ next .ensures .0 in
     let whole =
     loop .inv .0
-    ∙ ap (λ (v : Cursor). equal (rest a v) (drop (c .before .before .before .before .before .common .result) w)) (c .before .before .before .before .cursor-at .ensures)
-    ∙ c .before .before .before .before .before .common .ensures .1 in
+    ∙ ap (λ (v : Cursor). equal (rest a v) (drop (c .before .before .before .before .before .before .before .common .result) w)) (c .before .before .before .before .cursor-at .ensures)
+    ∙ c .before .before .before .before .before .before .before .common .ensures .1 in
     has-ends (rest a (loop .p)) w k left ∙ whole
 
-returns-2 : tie.Need-returns-2 Inv-loop μ-loop
-returns-2 c =
-    let start = c .before .before .before .before .before .before .before .before .before .before in
+returns-3 : tie.Need-returns-3 Inv-loop μ-loop
+returns-3 c =
+    let start = c .before .before .before .before .before .before .before .before .before .before .before .before in
     let a = start .args .a .now in
     let w = start .args .w .now in
     let loop = c .before .before .before .before .before .loop in
@@ -65,17 +71,17 @@ returns-2 c =
     let left = ap (told a) (sym (x .1)) ∙ next .ensures .0 in
     let whole =
     loop .inv .0
-    ∙ ap (λ (v : Cursor). equal (rest a v) (drop (c .before .before .before .before .before .before .before .common .result) w)) (c .before .before .before .before .before .before .cursor-at .ensures)
-    ∙ c .before .before .before .before .before .before .before .common .ensures .1 in
-    let right = sym (drop-of-length-le w {i = k} (c .if1 .taken)) in
+    ∙ ap (λ (v : Cursor). equal (rest a v) (drop (c .before .before .before .before .before .before .before .before .before .common .result) w)) (c .before .before .before .before .before .before .cursor-at .ensures)
+    ∙ c .before .before .before .before .before .before .before .before .before .common .ensures .1 in
+    let right = sym (drop-of-length-le w {i = k} (c .if2 .taken)) in
     right-ends (rest a (loop .p)) (drop k w) (x .0 .0) (rest a (x .0 .1 .0)) left right ∙ whole
 
-shared-slice-read-if2 : tie.Need-shared-slice-read-if2 Inv-loop μ-loop
-shared-slice-read-if2 c = search needs
+shared-slice-read-if3 : tie.Need-shared-slice-read-if3 Inv-loop μ-loop
+shared-slice-read-if3 c = search needs
 
-returns-3 : tie.Need-returns-3 Inv-loop μ-loop
-returns-3 c =
-    let start = c .before .before .before .before .before .before .before .before .before .before .before .before in
+returns-4 : tie.Need-returns-4 Inv-loop μ-loop
+returns-4 c =
+    let start = c .before .before .before .before .before .before .before .before .before .before .before .before .before .before in
     let a = start .args .a .now in
     let w = start .args .w .now in
     let loop = c .before .before .before .before .before .before .before .loop in
@@ -85,10 +91,10 @@ returns-3 c =
     let left = ap (told a) (sym (x .1)) ∙ next .ensures .0 in
     let whole =
     loop .inv .0
-    ∙ ap (λ (v : Cursor). equal (rest a v) (drop (c .before .before .before .before .before .before .before .before .before .common .result) w)) (c .before .before .before .before .before .before .before .before .cursor-at .ensures)
-    ∙ c .before .before .before .before .before .before .before .before .before .common .ensures .1 in
-    let right = sym (drop-next w k (k + 1) refl (c .before .before .if1 .left)) in
-    differ (rest a (loop .p)) (drop k w) (x .0 .0) (rest a (x .0 .1 .0)) (getD w k 0) (drop (k + 1) w) left right (c .if2 .taken) ∙ whole
+    ∙ ap (λ (v : Cursor). equal (rest a v) (drop (c .before .before .before .before .before .before .before .before .before .before .before .common .result) w)) (c .before .before .before .before .before .before .before .before .cursor-at .ensures)
+    ∙ c .before .before .before .before .before .before .before .before .before .before .before .common .ensures .1 in
+    let right = sym (drop-next w k (k + 1) refl (c .before .before .if2 .left)) in
+    differ (rest a (loop .p)) (drop k w) (x .0 .0) (rest a (x .0 .1 .0)) (getD w k 0) (drop (k + 1) w) left right (c .if3 .taken) ∙ whole
 
 add-k : tie.Need-add-k Inv-loop μ-loop
 add-k c = search needs
@@ -98,7 +104,7 @@ loop-less c = search needs
 
 loop-again : tie.Need-loop-again Inv-loop μ-loop
 loop-again c =
-    let start = c .before .before .before .before .before .before .before .before .before .before .before .before in
+    let start = c .before .before .before .before .before .before .before .before .before .before .before .before .before .before in
     let a = start .args .a .now in
     let w = start .args .w .now in
     let loop = c .before .before .before .before .before .before .before .loop in
@@ -108,10 +114,10 @@ loop-again c =
     let left = ap (told a) (sym (x .1)) ∙ next .ensures .0 in
     let whole =
     loop .inv .0
-    ∙ ap (λ (v : Cursor). equal (rest a v) (drop (c .before .before .before .before .before .before .before .before .before .common .result) w)) (c .before .before .before .before .before .before .before .before .cursor-at .ensures)
-    ∙ c .before .before .before .before .before .before .before .before .before .common .ensures .1 in
-    let right = sym (drop-next w k (k + 1) refl (c .before .before .if1 .left)) in (
-      same (rest a (loop .p)) (drop k w) (x .0 .0) (rest a (x .0 .1 .0)) (getD w k 0) (drop (k + 1) w) left right (c .if2 .left) ∙ loop .inv .0,
+    ∙ ap (λ (v : Cursor). equal (rest a v) (drop (c .before .before .before .before .before .before .before .before .before .before .before .common .result) w)) (c .before .before .before .before .before .before .before .before .cursor-at .ensures)
+    ∙ c .before .before .before .before .before .before .before .before .before .before .before .common .ensures .1 in
+    let right = sym (drop-next w k (k + 1) refl (c .before .before .if2 .left)) in (
+      same (rest a (loop .p)) (drop k w) (x .0 .0) (rest a (x .0 .1 .0)) (getD w k 0) (drop (k + 1) w) left right (c .if3 .left) ∙ loop .inv .0,
       subst (Falls a (loop .p)) (x .1) (next .ensures .1) .0,
     )
 
@@ -122,15 +128,17 @@ has-spec =
     Inv-loop
     μ-loop
     common-requires
+    differ-at-requires
+    returns
     cursor-at-requires
     loop-holds
     next-requires
     enum-known-x
     enum-told
-    returns
     returns-2
-    shared-slice-read-if2
     returns-3
+    shared-slice-read-if3
+    returns-4
     add-k
     loop-less
     loop-again)

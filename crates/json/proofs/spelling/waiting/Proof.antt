@@ -2,7 +2,6 @@
 use mathlib.Core.Path.{sym}
 use native.Mathlib.Omega.{arith}
 use borrow.Author.Tests.{le-leb, lt-leb}
-use borrow.Author.Needs.{needs}
 use Rattle.json.proofs.spelling.waiting.Statement.{statement}
 use Rattle.json.proofs.spelling.waiting.Tie as tie
 
