@@ -1,5 +1,8 @@
-//! Measures check, decode and encode of 16 MiB beside plain Rust table loops in the same process, and a copy for scale.
-//! Deterministic input; ours and the peer take turns, so that both meet the same machine.
+//! Measures check, decode and encode of 16 MiB beside plain Rust table loops in the same process, and a copy for scale; then
+//! judging JSON texts of 16 MiB beside a plain Rust recursive descent. Deterministic input; ours and the peer take turns, so
+//! that both meet the same machine.
+
+mod validator;
 
 use std::hint::black_box;
 use std::ptr::null_mut;
@@ -9,6 +12,7 @@ extern "C" {
     fn jwe_decode(text: *const u8, text_len: usize, out: *mut u8, out_len: usize, octets: *mut usize) -> u32;
     fn probe_check(text: *const u8, text_len: usize) -> u32;
     fn probe_encode(octets: *const u8, len: usize, out: *mut u8, out_len: usize, at: usize, end: *mut usize) -> u32;
+    fn probe_judge(text: *const u8, text_len: usize, levels: u32, end: *mut usize) -> u32;
     fn mmap(near: *mut u8, length: usize, protection: i32, flags: i32, file: i32, offset: i64) -> *mut u8;
     fn munmap(start: *mut u8, length: usize) -> i32;
     fn clock_gettime(clock: i32, time: *mut [i64; 2]) -> i32;
@@ -31,6 +35,17 @@ fn encode(octets: &[u8], out: &mut [u8]) -> Option<usize> {
     let mut end = 0;
     let refusal = unsafe { probe_encode(octets.as_ptr(), octets.len(), out.as_mut_ptr(), out.len(), 0, &mut end) };
     (refusal == 0).then_some(end)
+}
+
+fn judge(text: &[u8], levels: u32) -> Option<usize> {
+    let mut end = 0;
+    let refusal = unsafe { probe_judge(text.as_ptr(), text.len(), levels, &mut end) };
+    (refusal == 0).then_some(end)
+}
+
+#[inline(never)]
+fn peer_judge(text: &[u8], levels: u32) -> Option<usize> {
+    validator::judge(text, levels)
 }
 
 // The peers: what one writes in Rust with a table, by whole groups and without an index that has to be checked. They
@@ -186,11 +201,16 @@ fn summary(mut speeds: Vec<f64>) -> (f64, f64) {
 }
 
 /// One line: ours and the peer in turn. The first round is not counted.
-fn line(name: &str, mut ours: impl FnMut() -> f64, mut peer: impl FnMut() -> f64) {
+fn line(name: &str, ours: impl FnMut() -> f64, peer: impl FnMut() -> f64) {
+    line_with(name, ours, peer, "");
+}
+
+/// The same, with more columns.
+fn line_with(name: &str, mut ours: impl FnMut() -> f64, mut peer: impl FnMut() -> f64, more: &str) {
     let (our_speeds, peer_speeds) = (0..=ROUNDS).map(|_| (ours(), peer())).skip(1).unzip();
     let ((our_best, our_median), (peer_best, peer_median)) = (summary(our_speeds), summary(peer_speeds));
     println!(
-        "{name:<20} {our_best:>9.0} {our_median:>9.0} {peer_best:>9.0} {peer_median:>9.0} {:>9.2} {:>9.2}",
+        "{name:<20} {our_best:>9.0} {our_median:>9.0} {peer_best:>9.0} {peer_median:>9.0} {:>9.2} {:>9.2}{more}",
         our_best / peer_best,
         our_median / peer_median
     );
@@ -236,6 +256,72 @@ fn compare(octets: &[u8]) {
     }
 }
 
+// JSON texts of 16 MiB: those that messages have, and the worst valid ones
+
+/// SIZE octets: a beginning, parts that are counted from 0, an end; the rest is space.
+fn repeated(start: &[u8], part: impl Fn(usize) -> Vec<u8>, end: &[u8]) -> Vec<u8> {
+    let mut text = Vec::with_capacity(SIZE);
+    text.extend_from_slice(start);
+    for i in 0.. {
+        let part = part(i);
+        if text.len() + part.len() + end.len() > SIZE {
+            break;
+        }
+        text.extend(part);
+    }
+    text.extend_from_slice(end);
+    text.resize(SIZE, b' ');
+    text
+}
+
+/// A part with a comma before it, but for the first one.
+fn listed(i: usize, part: &str) -> Vec<u8> {
+    [if i > 0 { "," } else { "" }, part].concat().into_bytes()
+}
+
+fn json_texts() -> Vec<(&'static str, Vec<u8>)> {
+    let flattened = br#"{"protected":"eyJhbGciOiJkaXIiLCJlbmMiOiJBMTI4R0NNIn0","iv":"AA","tag":"Ag","ciphertext":""#;
+    let letters = |i: usize| vec![ALPHABET[i * 7 % 64]];
+    let member = |i: usize| {
+        let value = match i % 7 {
+            0 => r#""dir""#.to_string(),
+            1 => r#""A128GCM""#.to_string(),
+            2 => (i % 1000).to_string(),
+            3 => "true".to_string(),
+            4 => format!(r#"["{}",null]"#, i % 100),
+            5 => format!(r#"{{"kty":"oct","k":{i}}}"#),
+            _ => "-1.5e3".to_string(),
+        };
+        listed(i, &format!(r#""m{i}":{value}"#))
+    };
+    let alternating = |_| "a\u{e9}".as_bytes().to_vec();
+    vec![
+        ("long string", repeated(flattened, letters, b"\"}")),
+        ("small members", repeated(b"{", member, b"}")),
+        ("[[],[],..]", repeated(b"{\"a\":[", |i| listed(i, "[]"), b"]}")),
+        ("string of \\u0041", repeated(b"{\"a\":\"", |_| b"\\u0041".to_vec(), b"\"}")),
+        ("1 and 2 octets", repeated(b"{\"a\":\"", alternating, b"\"}")),
+        ("long number", repeated(b"{\"a\":1", |i| vec![b'0' + (i % 10) as u8], b"}")),
+        ("spaces at signs", repeated(b" { ", |i| [if i > 0 { " , " } else { "" }, "\"a\" : 1"].concat().into_bytes(), b" } ")),
+    ]
+}
+
+/// Both sides give the same on a text, on its beginnings and where it is damaged.
+fn compare_json(text: &[u8]) {
+    let end = text.iter().rposition(|&c| c == b'}').map(|last| last + 1);
+    assert_eq!(judge(text, 12), end);
+    assert_eq!(peer_judge(text, 12), end);
+    assert_eq!(judge(text, 0), peer_judge(text, 0));
+    for n in 0..1000 {
+        let mut part = text[..n].to_vec();
+        assert_eq!(judge(&part, 12), peer_judge(&part, 12));
+        part.extend_from_slice(b"\"]}");
+        assert_eq!(judge(&part, 12), peer_judge(&part, 12));
+        part[n / 2] ^= 1 << (n % 8);
+        assert_eq!(judge(&part, 12), peer_judge(&part, 12));
+    }
+}
+
 fn main() {
     let message = octets(SIZE, 7516);
     compare(&message);
@@ -275,4 +361,25 @@ fn main() {
         speed(|| decode(black_box(&text), black_box(out.octets())).is_some())
     };
     line("decode, first touch", || fresh(decode), || fresh(peer_decode));
+
+    println!();
+    println!("JSON texts of 16 MiB, judged within 12 levels. Peer: from_utf8 and a plain Rust recursive descent.");
+    println!("ns/o: ours, best, in nanoseconds for an octet; last column: how many times as long as small members.");
+    println!();
+    println!("{:<20} {:>9} {:>19} {:>19}", "MB/s", "ours", "peer", "ours/peer");
+    println!("{:<20}{}{:>10}{:>10}", "(MB = 10^6)", "      best    median".repeat(3), "ns/o", "x small");
+    let texts = json_texts();
+    let small = texts.iter().position(|(name, _)| *name == "small members").expect("its text");
+    let time = |text: &[u8]| speed(|| judge(black_box(text), 12).is_some());
+    let base = (0..ROUNDS).map(|_| time(&texts[small].1)).fold(0.0, f64::max);
+    for (name, text) in &texts {
+        compare_json(text);
+        let best = (0..ROUNDS).map(|_| time(text)).fold(0.0, f64::max);
+        line_with(
+            name,
+            || speed(|| judge(black_box(text), 12).is_some()),
+            || speed(|| peer_judge(black_box(text), 12).is_some()),
+            &format!(" {:>9.3} {:>9.2}", 1e3 / best, base / best),
+        );
+    }
 }

@@ -1,11 +1,14 @@
-//! Compares the library with a second base64url on millions of random and damaged texts, and on all short ones.
+//! Compares the library with a second base64url and a second reader of JSON on millions of random and damaged texts, and
+//! on all short ones.
 //! Deterministic by seed: `harness [SEED]`. Exits 1 at the first difference.
 //!
 //! Every call is judged by its answer, its out-parameter and the whole of its memory: the buffer, the octets beside it
 //! and the input. A stray read or write beyond either stops the program.
 
+mod json;
 mod lent;
 mod random;
+mod reader;
 mod reference;
 
 use lent::{Lent, MARGIN};
@@ -76,6 +79,10 @@ struct Tester {
     decode: Counts,
     check: Counts,
     encode: Counts,
+    judged: json::Verdicts,
+    alike: json::Verdicts,
+    has: json::Verdicts,
+    members: u64,
 }
 
 impl Tester {
@@ -293,6 +300,10 @@ fn main() {
         decode: Counts::default(),
         check: Counts::default(),
         encode: Counts::default(),
+        judged: json::Verdicts::default(),
+        alike: json::Verdicts::default(),
+        has: json::Verdicts::default(),
+        members: 0,
     };
 
     let lengths = tester.lengths(&mut random);
@@ -313,7 +324,8 @@ fn main() {
     println!("all texts and octets of length 0 to 3, a wrong character in every place: {exhaustive} calls");
     println!("encoded_length: {lengths} numbers");
     let reports = [tester.check.report("check"), tester.decode.report("decode"), tester.encode.report("encode")];
-    if reports.contains(&false) {
+    let json = json::compare(&mut tester, &mut random);
+    if reports.contains(&false) || !json {
         println!("FAILED harness: accepted or refused calls are less than a third");
         exit(1);
     }

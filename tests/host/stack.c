@@ -1,5 +1,6 @@
-/* Measures the stack that jwe_decode, check and encode use: they run on a stack of their own that was painted before,
- * and the lowest octet that lost its paint shows how deep they went. Fails above 8 KiB.
+/* Measures the stack that jwe_decode, check, encode and judge use: they run on a stack of their own that was painted
+ * before, and the lowest octet that lost its paint shows how deep they went. Fails above 8 KiB, for judge on 12 levels of
+ * nesting above 64 KiB.
  *
  * Not built with the sanitizers, which use the stack themselves. */
 #define _GNU_SOURCE
@@ -13,8 +14,10 @@
 
 uint32_t probe_check(const uint8_t *text, size_t text_len);
 uint32_t probe_encode(const uint8_t *octets, size_t octets_len, uint8_t *out, size_t out_len, size_t at, size_t *end);
+uint32_t probe_judge(const uint8_t *text, size_t text_len, uint32_t levels, size_t *end);
 
-enum { LIMIT = 8192, STACK = 65536, FENCE = 65536, SHORT = 1000, LONG = 1 << 24 };
+enum { LIMIT = 8192, JUDGE_LIMIT = 65536, STACK = 131072, FENCE = 65536, SHORT = 1000, LONG = 1 << 24 };
+enum { LEVELS = 12, NO_OBJECT = 7 };
 
 typedef uint32_t call(const uint8_t *in, size_t in_len, uint8_t *out, size_t out_len, size_t *n);
 
@@ -34,6 +37,12 @@ static uint32_t check(const uint8_t *in, size_t in_len, uint8_t *out, size_t out
 static uint32_t encode(const uint8_t *in, size_t in_len, uint8_t *out, size_t out_len, size_t *n)
 {
     return probe_encode(in, in_len, out, out_len, 0, n);
+}
+
+static uint32_t judge(const uint8_t *in, size_t in_len, uint8_t *out, size_t out_len, size_t *n)
+{
+    (void)out, (void)out_len;
+    return probe_judge(in, in_len, LEVELS, n);
 }
 
 static uint8_t *stack;
@@ -111,6 +120,43 @@ static int report(const char *name, size_t most_short, size_t most_long)
     return good;
 }
 
+/* Writes an object nested so deep: of objects, of arrays, or of both in turn, with what stands in the innermost one.
+ * Answers its length. */
+static size_t nest(uint8_t *text, size_t levels, unsigned arrays, const char *inmost)
+{
+    char closing[64];
+    size_t n = 0;
+    for (size_t i = 0; i < levels; i++) {
+        int array = i > 0 && (arrays >> i & 1);
+        closing[i] = array ? ']' : '}';
+        const char *opening = array ? "[" : i + 1 < levels || *inmost != '\0' ? "{\"a\":" : "{";
+        memcpy(text + n, opening, strlen(opening));
+        n += strlen(opening);
+    }
+    memcpy(text + n, inmost, strlen(inmost));
+    n += strlen(inmost);
+    for (size_t i = levels; i-- > 0;)
+        text[n++] = (uint8_t)closing[i];
+    return n;
+}
+
+/* The most that judge uses on 12 levels and on 13, which it refuses. */
+static int report_judge(uint8_t *text)
+{
+    const unsigned arrays[] = {0, ~0u, 0xaaaa, 0x5555};
+    const char *const inmost[] = {"", "1", "-1.5e+3", "\"\\ud834\\udd1e\\n\"", "false"};
+    size_t most = 0, refused = 0;
+    for (size_t a = 0; a < sizeof arrays / sizeof *arrays; a++)
+        for (size_t i = 0; i < sizeof inmost / sizeof *inmost; i++) {
+            most = larger(most, used(judge, text, nest(text, LEVELS, arrays[a], inmost[i]), NULL, 0, JWE_OK));
+            refused = larger(refused, used(judge, text, nest(text, LEVELS + 1, arrays[a], inmost[i]), NULL, 0, NO_OBJECT));
+        }
+    int good = larger(most, refused) <= JUDGE_LIMIT;
+    printf("stack: %-10s %5zu octets for %d levels, %zu for %d, which it refuses%s\n", "judge", most, LEVELS, refused,
+           LEVELS + 1, good ? "" : ": FAILED, more than 64 KiB");
+    return good;
+}
+
 int main(void)
 {
     uint8_t *text = malloc(LONG + 1), *out = malloc(LONG / 3 * 4 + 4);
@@ -139,6 +185,7 @@ int main(void)
     int good = report("jwe_decode", decode_short, decode_long);
     good &= report("check", check_short, check_long);
     good &= report("encode", encode_short, encode_long);
+    good &= report_judge(text);
     free(text);
     free(out);
     munmap(map, FENCE + STACK);

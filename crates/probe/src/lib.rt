@@ -1,12 +1,19 @@
-// What the tests and the bench call of base64url beside the host's own functions. The gateway does not link this.
+// What the tests and the bench call of base64url and json beside the host's own functions. The gateway does not link this.
+ghost use mathlib.Core.Bool.{cond};
 ghost use mathlib.Core.Path.{_≡_};
 ghost use Prim.Native.Nat.{_-_, _^_, min};
 ghost use lib.ListN.{length};
 ghost use Rattle.base64url.specs.Base64url.{encodedLength};
 ghost use Rattle.base64url.specs.Answers.{checkRefusal, checkAnswer, encodeRefusal, encodeNext, encodeAnswer};
 ghost use Rattle.base64url.specs.Answers.{encodeBuffer};
+ghost use Rattle.json.specs.Reader.{readText, valueAt};
+ghost use Rattle.json.specs.Ends.{foundOf};
+ghost use Rattle.json.specs.Spellings.{alike, has};
+ghost use Rattle.probe.specs.Numbers.{judgeRefusal, valueKind, foundEnd};
 use base64url::Checked;
 use base64url::Encoded;
+use json::Found;
+use json::Position;
 
 // 0 or 5.
 #[no_mangle]
@@ -44,6 +51,61 @@ pub extern "C" fn probe_encode(octets: &[u8], out: &mut [u8], at: usize, end: &m
         Encoded::Full => {
             *end = 0;
             1
+        }
+    }
+}
+
+// 0 or 7: whether a text is one JSON object of so many levels; *end is the position after the object, or 0.
+#[no_mangle]
+pub extern "C" fn probe_judge(text: &[u8], levels: u32, end: &mut usize) -> u32
+    ensures { λ r. ⌜ r ≡ judgeRefusal (foundOf (readText levels (now (text .entry)))) ⌝ }
+    ensures { λ _. ⌜ now (end .exit) ≡ foundEnd (foundOf (readText levels (now (text .entry)))) ⌝ }
+{
+    let answer = json::judge(text, levels);
+    match answer {
+        Found::Value(last, _) => {
+            *end = last.at;
+            0
+        }
+        Found::Nothing => {
+            *end = 0;
+            7
+        }
+    }
+}
+
+// 1 where two spellings say the same, or 0.
+#[no_mangle]
+pub extern "C" fn probe_alike(a: &[u8], b: &[u8]) -> u32
+    ensures { λ r. ⌜ r ≡ cond (alike (now (a .entry)) (now (b .entry))) 1 0 ⌝ }
+{
+    if json::spelling::alike(a, b) { 1 } else { 0 }
+}
+
+// 1 where a spelling has the octets w, or 0.
+#[no_mangle]
+pub extern "C" fn probe_has(a: &[u8], w: &[u8]) -> u32
+    ensures { λ r. ⌜ r ≡ cond (has (now (a .entry)) (now (w .entry))) 1 0 ⌝ }
+{
+    if json::spelling::has(a, w) { 1 } else { 0 }
+}
+
+// The kind of the value of so many levels that begins at an offset, or 7 where none does; *end is the position after it, or
+// 0.
+#[no_mangle]
+pub extern "C" fn probe_value(text: &[u8], at: usize, levels: u32, end: &mut usize) -> u32
+    ensures { λ r. ⌜ r ≡ valueKind (foundOf (valueAt levels (now (text .entry)) at)) ⌝ }
+    ensures { λ _. ⌜ now (end .exit) ≡ foundEnd (foundOf (valueAt levels (now (text .entry)) at)) ⌝ }
+{
+    let answer = Position { at }.value(text, levels);
+    match answer {
+        Found::Value(after, kind) => {
+            *end = after.at;
+            kind as u32
+        }
+        Found::Nothing => {
+            *end = 0;
+            7
         }
     }
 }
