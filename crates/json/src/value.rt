@@ -80,7 +80,7 @@ impl Position {
     }
 
     // A value that begins here.
-    pub(crate) fn value(self, s: &[u8], levels: u32) -> Found
+    pub fn value(self, s: &[u8], levels: u32) -> Found
         ensures { λ r. ⌜ r ≡ foundOf (valueAt levels (now (s .entry)) (self .at)) ⌝ }
     {
         let c = self.peek(s);
