@@ -5,7 +5,7 @@ ghost use Rattle.json.specs.Grammar.{isSpace, isDigit};
 ghost use Rattle.json.specs.Reader.{octetAt, step, skip, skipSpace, readText};
 ghost use Rattle.json.specs.Ends.{foundOf};
 
-mod member;
+pub mod member;
 mod number;
 pub mod spelling;
 mod string;
