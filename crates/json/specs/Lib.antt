@@ -7,6 +7,7 @@ pub mod Spellings
 pub mod Reader
 pub mod Readings
 pub mod Ends
+pub mod Numbers
 pub mod Utf8Parts
 pub mod Cursors
 pub mod Members

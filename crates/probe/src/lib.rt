@@ -9,7 +9,7 @@ ghost use Rattle.base64url.specs.Answers.{encodeBuffer};
 ghost use Rattle.json.specs.Reader.{readText, valueAt};
 ghost use Rattle.json.specs.Ends.{foundOf};
 ghost use Rattle.json.specs.Spellings.{alike, has};
-ghost use Rattle.probe.specs.Numbers.{judgeRefusal, valueKind, foundEnd};
+ghost use Rattle.json.specs.Numbers.{judgeRefusal, valueKind, foundEnd};
 use base64url::Checked;
 use base64url::Encoded;
 use json::Found;

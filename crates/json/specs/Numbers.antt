@@ -1,7 +1,7 @@
--- The numbers that the tests get for the answers of the crate json.
+-- The papers' numbers for the answers.
 use Prim.Native.Nat.{ℕ}
 use Rattle.json.specs.declared.Found.{Found}
 use Rattle.json.specs.declared.Found.the-variants.{Value, Nothing}
 
 -- Judging. Document 01's number: 7 where a text is no JSON object within the levels.
 abbrev pub judgeRefusal : Found → ℕ
