@@ -16,6 +16,10 @@ use Rattle.json.specs.declared.member.Member.the-variants.{Here, End}
 use Rattle.json.specs.declared.member.Collected.{Collected}
 use Rattle.json.specs.declared.member.Collected.the-variants.{Rows, More}
 
+-- Where the first one of an object or array that begins here would stand.
+abbrev pub firstIn : List ℕ → ℕ → ℕ
+firstIn s at = skipSpace s (step s at)
+
 -- Where the next one begins, a value having ended at a position: past a comma, if one stands there; else at the text's end,
 -- where none begins.
 unfoldable pub nextFrom : List ℕ → ℕ → ℕ

@@ -287,6 +287,10 @@ elementsAt l s at = elementsOf (rowsIn (valueAt l s) square s (step s at))
 
 -- Texts
 
+-- Whether the first octet that is not space is an opening curly bracket: document 01's test for a JSON message.
+unfoldable pub opensObject : List ℕ → Bool
+opensObject s = eqb (octetAt s (skipSpace s 0)) (opening curly)
+
 -- An answer for a value behind which nothing but space stands.
 abbrev pub wholly : List ℕ → Answer → Answer
 wholly s nothing = nothing

@@ -2,7 +2,7 @@
 // in specs/Reader.antt, which specs/Grammar.antt and proofs/Theorems.antt tie to the RFC's grammar.
 ghost use mathlib.Core.Path.{_≡_};
 ghost use Rattle.json.specs.Grammar.{isSpace, isDigit};
-ghost use Rattle.json.specs.Reader.{octetAt, step, skip, skipSpace, readText};
+ghost use Rattle.json.specs.Reader.{octetAt, step, skip, skipSpace, opensObject, readText};
 ghost use Rattle.json.specs.Ends.{foundOf};
 
 pub mod member;
@@ -72,7 +72,7 @@ impl Position {
     }
 
     // Past the space that stands here.
-    pub(crate) fn skip_space(self, s: &[u8]) -> Position
+    pub fn skip_space(self, s: &[u8]) -> Position
         ensures { λ r. ⌜ r .at ≡ skipSpace (now (s .entry)) (self .at) ⌝ }
     {
         let mut at = self.at;
@@ -98,6 +98,15 @@ impl Position {
         }
         Position { at }
     }
+}
+
+// Whether the first octet that is not space is an opening curly bracket.
+pub fn opens_object(s: &[u8]) -> bool
+    ensures { λ r. ⌜ r ≡ opensObject (now (s .entry)) ⌝ }
+{
+    let start = Position { at: 0 };
+    let first = start.skip_space(s);
+    first.peek(s) == 123
 }
 
 // Whether a text is one object of so many levels and well-formed UTF-8: where the object ends, and its kind, 0.

@@ -5,7 +5,7 @@ ghost use lib.ListN.{length, take};
 ghost use Rattle.prelude.specs.Buffer.{written};
 ghost use Rattle.json.specs.Grammar.{curly, square};
 ghost use Rattle.json.specs.Reader.{entryAt, valueAt, membersAt, elementsAt};
-ghost use Rattle.json.specs.Members.{memberOf, nextFrom, fiveOf, flat, collectedOf};
+ghost use Rattle.json.specs.Members.{firstIn, memberOf, nextFrom, fiveOf, flat, collectedOf};
 use crate::Ends;
 use crate::Found;
 use crate::Position;
@@ -57,6 +57,14 @@ fn put_row(row: Row, table: &mut [usize], at: usize)
 }
 
 impl Position {
+    // Where the first member or element of the object or array that begins here would stand.
+    pub fn inside(self, s: &[u8]) -> Position
+        ensures { λ r. ⌜ r .at ≡ firstIn (now (s .entry)) (self .at) ⌝ }
+    {
+        let past = self.step(s);
+        past.skip_space(s)
+    }
+
     // Where the member or element after this one begins: past a comma, if one stands here; else the text's end.
     fn next_entry(self, s: &[u8]) -> Position
         ensures { λ r. ⌜ r .at ≡ nextFrom (now (s .entry)) (self .at) ⌝ }
