@@ -28,6 +28,9 @@ pub mod FirstOctet
 pub mod Shown
 pub mod Stands
 pub mod Decide
+-- What the reader answers lies within the text.
+pub mod Endings
+pub mod Within
 -- For the proofs of the functions.
 pub mod Classes
 pub mod Steps

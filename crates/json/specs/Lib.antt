@@ -11,3 +11,4 @@ pub mod Numbers
 pub mod Utf8Parts
 pub mod Cursors
 pub mod Members
+pub mod Bounds
