@@ -1,0 +1,91 @@
+-- Members of the objects whose names are compared, as entries: document 01's list entry (origin, the name's place, the
+-- value's place, the kind), which of some names the member has, and a fingerprint of what its name says.
+use mathlib.Core.List.{List, [], _∷_, map}
+use mathlib.Core.Bool.{Bool, true, not, _&&_, cond}
+use Prim.Native.Nat.{ℕ, zero, suc, _+_, _-_}
+use lib.Dec.{eqb}
+use Rattle.parts.specs.Parts.{part}
+use Rattle.names.specs.Names.{numberIn}
+use Rattle.json.specs.Places.{Member, Place}
+use Rattle.json.specs.Spellings.{undo, alike, fingerprint}
+use Rattle.rows.specs.Any.{any, anyPair}
+
+-- Origins (document 01): 0 the protected header, 1 the shared header or the message itself, 2 a recipient's own header.
+pub record Entry : Type 0 where
+  pub origin : ℕ
+  pub member : Member
+  pub number : ℕ
+  pub print : ℕ
+
+-- Origin 0 counts in the decoded protected header, others in the message.
+abbrev pub textOf : List ℕ → List ℕ → ℕ → List ℕ
+textOf header message zero = header
+textOf header message (suc o) = message
+
+-- A member's name as it is spelled, without quotation marks.
+abbrev pub spelledName : List ℕ → Member → List ℕ
+spelledName s m = part s (m .nameStart) (m .nameSize)
+
+-- A string value as it is spelled, without quotation marks.
+abbrev pub spelledValue : List ℕ → Member → List ℕ
+spelledValue s m = part s (m .valueStart + 1) (m .valueSize - 2)
+
+-- The entry of a member that stands in the text s.
+abbrev pub entryOf : List (List ℕ) → List ℕ → ℕ → Member → Entry
+entryOf names s o m = record {
+  origin = o;
+  member = m;
+  number = numberIn names (spelledName s m);
+  print = fingerprint (undo (spelledName s m));
+}
+
+-- The entries of members that stand in the text s.
+unfoldable pub entriesIn : List (List ℕ) → List ℕ → ℕ → List Member → List Entry
+entriesIn names s o ms = map (entryOf names s o) ms
+
+-- An entry's name and its string value, as they are spelled.
+
+abbrev pub nameIn : List ℕ → List ℕ → Entry → List ℕ
+nameIn header message e = spelledName (textOf header message (e .origin)) (e .member)
+
+abbrev pub valueIn : List ℕ → List ℕ → Entry → List ℕ
+valueIn header message e = spelledValue (textOf header message (e .origin)) (e .member)
+
+-- Whether an entry has the n-th of the names.
+abbrev pub numbered : ℕ → Entry → Bool
+numbered n e = eqb (e .number) n
+
+-- Whether there is one.
+unfoldable pub present : ℕ → List Entry → Bool
+present n es = any (numbered n) es
+
+-- The place of the value of the first one, with quotation marks; 0, 0 where there is none.
+unfoldable pub valueOf : ℕ → List Entry → Place
+valueOf n [] = record { start = 0; size = 0 }
+valueOf n (e ∷ es) =
+    let rest = valueOf n es in
+    cond (numbered n e) (record { start = e .member .valueStart; size = e .member .valueSize }) rest
+
+-- Repeated names: within headers, or across them
+
+-- Whether two origins differ, or are the same.
+abbrev pub apart : Bool → ℕ → ℕ → Bool
+apart across o p = cond across (not (eqb o p)) (eqb o p)
+
+-- Whether two names of one object, or of two, say the same.
+abbrev pub same : Bool → List ℕ → List ℕ → Entry → Entry → Bool
+same across header message e f =
+    apart across (e .origin) (f .origin) && alike (nameIn header message e) (nameIn header message f)
+
+unfoldable pub repeated : Bool → List ℕ → List ℕ → List Entry → Bool
+repeated across header message es = anyPair (same across header message) es
+
+-- The same as the code asks it: names with different fingerprints are not compared.
+
+abbrev pub clash : Bool → List ℕ → List ℕ → Entry → Entry → Bool
+clash across header message e f =
+    apart across (e .origin) (f .origin)
+    && (eqb (e .print) (f .print) && alike (nameIn header message e) (nameIn header message f))
+
+unfoldable pub clashes : Bool → List ℕ → List ℕ → List Entry → Bool
+clashes across header message es = anyPair (clash across header message) es

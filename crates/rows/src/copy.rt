@@ -1,0 +1,43 @@
+// Entries copied, and the list that is handed out.
+ghost use mathlib.Core.Path.{_≡_};
+ghost use Prim.Native.Nat.{_+_, _*_, _≤_};
+ghost use lib.ListN.{length};
+ghost use Rattle.prelude.specs.Buffer.{written};
+ghost use Rattle.rows.specs.Tables.{listed, entriesOf};
+
+// Numbers copied into a table from a position on.
+pub fn copy(from: &[u32], into: &mut [u32], at: usize)
+    requires { ⌜ at + length (now from) ≤ length (now into) ⌝ }
+    ensures { λ _. ⌜ now (into .exit) ≡ written at (now (from .entry)) (now (into .entry)) ⌝ }
+{
+    let mut k: usize = 0;
+    while k < from.len() {
+        into[at + k] = from[k];
+        k += 1;
+    }
+}
+
+// The same for octets.
+pub fn copy_octets(from: &[u8], into: &mut [u8], at: usize)
+    requires { ⌜ at + length (now from) ≤ length (now into) ⌝ }
+    ensures { λ _. ⌜ now (into .exit) ≡ written at (now (from .entry)) (now (into .entry)) ⌝ }
+{
+    let mut k: usize = 0;
+    while k < from.len() {
+        into[at + k] = from[k];
+        k += 1;
+    }
+}
+
+// The first entries laid out as document 01's list: six numbers each, at the start of the list.
+pub fn lay(table: &[u32], count: usize, list: &mut [u32])
+    requires { ⌜ count * 8 ≤ length (now table) ⌝ }
+    requires { ⌜ count * 6 ≤ length (now list) ⌝ }
+    ensures { λ _. ⌜ now (list .exit) ≡ written 0 (listed (entriesOf count (now (table .entry)))) (now (list .entry)) ⌝ }
+{
+    let mut i: usize = 0;
+    while i < count {
+        lay_one(table, i, list);
+        i += 1;
+    }
+}
