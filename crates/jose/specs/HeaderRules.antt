@@ -1,0 +1,109 @@
+-- The rules on one recipient's parameters (document 01, 'Header rules', refusals 12 to 18), as questions on entries, whose
+-- numbers count the registered names.
+use mathlib.Core.List.{List, [], _∷_}
+use mathlib.Core.Bool.{Bool, true, false, not, _&&_, _||_, xor, cond}
+use Prim.Native.Nat.{ℕ, _+_, _-_}
+use lib.Dec.{eqb}
+use Rattle.parts.specs.Parts.{part}
+use Rattle.names.specs.Names.{numberIn}
+use Rattle.json.specs.Places.{Element}
+use Rattle.json.specs.Reader.{elementsAt}
+use Rattle.json.specs.Spellings.{alike}
+use Rattle.rows.specs.Any.{any, anyPair}
+use Rattle.rows.specs.Rows.{Entry, textOf, nameIn, valueIn, numbered, present, repeated}
+use Rattle.jose.specs.Algorithms.{algs, algNames, encNames, zipNames, nth, modeOf}
+use Rattle.jose.specs.Registered.{registered, alg, enc, zip, crit, string, anyKind, kindAsked}
+use Rattle.jose.specs.Refusals.{Test, _if_}
+
+-- How deep JSON may be nested (document 01, 'Sizes').
+abbrev pub levels : ℕ
+levels = 12
+
+-- 13: `alg` or `enc` is absent.
+unfoldable pub incomplete : List Entry → Bool
+incomplete es = not (present alg es) || not (present enc es)
+
+-- 14: a parameter is of another kind than its name asks for.
+abbrev pub wrongKind : Entry → Bool
+wrongKind e = not (eqb (kindAsked (e .number)) anyKind) && not (eqb (kindAsked (e .number)) (e .member .kind))
+
+-- 15: the value of `alg`, `enc` or the compression parameter is not listed.
+abbrev pub unlisted : List ℕ → List ℕ → Entry → Bool
+unlisted header message e =
+    (numbered alg e && eqb (numberIn algNames (valueIn header message e)) 0)
+    || ((numbered enc e && eqb (numberIn encNames (valueIn header message e)) 0)
+    || (numbered zip e && eqb (numberIn zipNames (valueIn header message e)) 0))
+
+-- 16: compression or `crit` outside protection.
+abbrev pub unprotected : Entry → Bool
+unprotected e = (numbered zip e || numbered crit e) && not (eqb (e .origin) 0)
+
+-- 17: the contents of `crit`
+
+-- A string element as it is spelled, without quotation marks.
+abbrev pub spelledElement : List ℕ → Element → List ℕ
+spelledElement s x = part s (x .start + 1) (x .size - 2)
+
+-- An element that is no string, or none of the known names.
+abbrev pub unknown : List (List ℕ) → List ℕ → Element → Bool
+unknown known s x = not (eqb (x .kind) string) || eqb (numberIn known (spelledElement s x)) 0
+
+-- Two elements that say the same.
+abbrev pub sameElement : List ℕ → Element → Element → Bool
+sameElement s x y = alike (spelledElement s x) (spelledElement s y)
+
+-- Whether some entry's name says what a spelling does.
+abbrev pub nameSays : List ℕ → List ℕ → List ℕ → Entry → Bool
+nameSays header message w e = alike (nameIn header message e) w
+
+-- An element that is a registered name, or no name of the recipient's headers.
+abbrev pub misplaced : List ℕ → List ℕ → List Entry → List ℕ → Element → Bool
+misplaced header message es s x =
+    not (eqb (numberIn registered (spelledElement s x)) 0)
+    || not (any (nameSays header message (spelledElement s x)) es)
+
+-- No element.
+abbrev pub isEmpty : List Element → Bool
+isEmpty [] = true
+isEmpty (x ∷ xs) = false
+
+-- The elements of `crit`, which stand in the text s.
+unfoldable pub wrongCrit : List (List ℕ) → List ℕ → List ℕ → List Entry → List ℕ → List Element → Bool
+wrongCrit known header message es s xs =
+    isEmpty xs
+    || (any (unknown known s) xs || (anyPair (sameElement s) xs || any (misplaced header message es s) xs))
+
+-- An entry that is a `crit` with wrong contents.
+abbrev pub critical : List (List ℕ) → List ℕ → List ℕ → List Entry → Entry → Bool
+critical known header message es e =
+    let s = textOf header message (e .origin) in
+    numbered crit e && wrongCrit known header message es s (elementsAt levels s (e .member .valueStart))
+
+-- 18: the key
+
+-- The mode of the algorithm that the first `alg` names; 0 where none is named or listed.
+unfoldable pub modeIn : List ℕ → List ℕ → List Entry → ℕ
+modeIn header message [] = 0
+modeIn header message (e ∷ es) =
+    let rest = modeIn header message es in
+    let here = modeOf (nth algs (numberIn algNames (valueIn header message e))) in
+    cond (numbered alg e) here rest
+
+-- Modes 3 and 5 have no key of their own, the others do.
+abbrev pub keyless : ℕ → Bool
+keyless m = eqb m 3 || eqb m 5
+
+abbrev pub wrongKey : ℕ → Bool → Bool
+wrongKey m noKey = xor (keyless m) noKey
+
+-- Refusals 12 to 18 of a recipient with these entries, whose key is empty or not.
+unfoldable pub recipientOrder : List (List ℕ) → List ℕ → List ℕ → List Entry → Bool → List Test
+recipientOrder known header message es noKey =
+    12 if repeated true header message es
+    ∷ 13 if incomplete es
+    ∷ 14 if any wrongKind es
+    ∷ 15 if any (unlisted header message) es
+    ∷ 16 if any unprotected es
+    ∷ 17 if any (critical known header message es) es
+    ∷ 18 if wrongKey (modeIn header message es) noKey
+    ∷ []

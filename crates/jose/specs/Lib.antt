@@ -1,0 +1,4 @@
+pub mod Algorithms
+pub mod Registered
+pub mod Refusals
+pub mod HeaderRules

@@ -1,0 +1,1 @@
+// One recipient's parameters judged, in document 01's order.
