@@ -5,8 +5,8 @@ use mathlib.Core.List.{List, [], _∷_, _++_, append-nil}
 use Prim.Native.Nat.{ℕ, zero, suc, _+_, _-_, _≤_, _<_, suc-le-suc, max}
 use native.Mathlib.Nat.{le-of-suc-le-suc, not-suc-le-zero}
 use native.Mathlib.Omega.{arith}
-use lib.ListN.{length, take, drop, getD, length-take, length-drop}
-use lib.Seq.{drop-append-seam, getD-drop}
+use lib.ListN.{length, take, drop, getD, length-append, length-take, length-drop}
+use lib.Seq.{take-append-seam, drop-append-seam, getD-drop}
 use lib.Dec.{leb, ltb, eqb}
 use borrow.Author.Tests.{le-leb, lt-leb, eq-eqb, ne-eqb, ltb-true, ltb-false}
 use Rattle.prelude.specs.Buffer.{AllBelow}
@@ -36,6 +36,12 @@ module _ (s : List ℕ) (start size : ℕ) where
       cases true = below-part limit s start size h
       cases false = tt
 
+-- what stands between a front and a rest is the part at its place
+pub part-between : (p a b : List ℕ) → part (p ++ (a ++ b)) (length p) (length a) ≡ a
+part-between p a b =
+    part-fits (p ++ (a ++ b)) (length p) (length a) (omega (arith, length-append p (a ++ b), length-append a b))
+    ∙ ap (take (length a)) (drop-append-seam p (a ++ b)) ∙ take-append-seam a b
+
 -- Seeking
 
 module _ (c : ℕ) (s : List ℕ) (at : ℕ) where
@@ -55,10 +61,9 @@ module _ (c : ℕ) (s : List ℕ) (at : ℕ) where
     -- .. and stands there, unless that is the text's end
     pub seek-there : e < length s → getD s e 0 ≡ c
     seek-there h =
-        let forward = seek-bounds .0 in
-        let place : at + (e - at) ≡ e = omega (arith, found) in
+        let place : at + (e - at) ≡ e = omega (arith, found, seek-bounds .0) in
         ap (λ (k : ℕ). getD s k 0) (sym place) ∙ sym (getD-drop at s (e - at) 0)
-        ∙ seeking.stops c (drop at s) at (e - at) reached .there (omega (arith, found, length-drop at s))
+        ∙ seeking.stops c (drop at s) at (e - at) reached .there (omega (arith, length-drop at s))
 
     pub seek-split : (holds c (take (e - at) (drop at s)) ≡ false) × (e < length s → getD s e 0 ≡ c)
     seek-split = (seek-before, seek-there)
@@ -76,8 +81,8 @@ module _ (c : ℕ) (s : List ℕ) (at : ℕ) where
       cases true b = let inside = ltb-true e (length s) b in seeking.seek-stop c s e inside (there inside)
       cases false b = seeking.seek-end c s e (ltb-false e (length s) b)
 
+-- Octets a among which c does not stand: c behind them is found where they end ..
 module _ (c : ℕ) (a : List ℕ) (none : holds c a ≡ false) where
-  -- it stands behind a
   pub seek-after : (p b : List ℕ) → seek c (p ++ (a ++ (c ∷ b))) (length p) ≡ length p + length a
   unfolding seek seekIn
   seek-after p b =
@@ -86,11 +91,10 @@ module _ (c : ℕ) (a : List ℕ) (none : holds c a ≡ false) where
       ∙ seeking.passed c a (c ∷ b) (length p) none
       ∙ ap (λ (t : Bool). cond t e (seekIn c b (e + 1))) (eq-eqb c c refl)
 
-  -- it stands in a text of a and more from the start on
   pub seek-first : (b : List ℕ) → seek c (a ++ (c ∷ b)) 0 ≡ length a
   seek-first b = seek-after [] b ∙ omega arith
 
-  -- it stands nowhere
+  -- .. and so is the text's end
   pub seek-none : (p : List ℕ) → seek c (p ++ a) (length p) ≡ length p + length a
   unfolding seek seekIn
   seek-none p =

@@ -1,5 +1,5 @@
 -- Seeking as the code does it: one octet at a time, or past a block in which the octet does not stand.
-use mathlib.Core.Path.{_≡_, refl, ap, ap₂, sym, _∙_}
+use mathlib.Core.Path.{_≡_, refl, ap, sym, _∙_}
 use mathlib.Core.Bool.{Bool, true, false, _||_, cond, true≢false}
 use mathlib.Core.List.{List, [], _∷_, _++_}
 use Prim.Native.Nat.{ℕ, zero, suc, _+_, _-_, _≤_, _<_, max}
@@ -58,7 +58,8 @@ module _ (c : ℕ) where
   count-none [] e = refl
   count-none (x ∷ a) e = cases (eqb x c) e (count-none a)
     where
-      cases : (b : Bool) → cond b 1 0 + count c a ≡ 0 → (count c a ≡ 0 → holds c a ≡ false) → (b || holds c a) ≡ false
+      cases : (b : Bool) → cond b 1 0 + count c a ≡ 0 → (count c a ≡ 0 → holds c a ≡ false)
+          → (b || holds c a) ≡ false
       cases true e later = absurd (omega (arith, e))
       cases false e later = later (omega (arith, e))
 
@@ -104,7 +105,8 @@ module _ (c : ℕ) where
   bounds s at = let e = ends (drop at s) at in (e .0, omega (arith, e .1, length-drop at s))
 
   -- what `seek` ensures of its result, from the first part of it
-  pub ensured : (s : List ℕ) (at r : ℕ) → r ≡ seek c s at → (r ≡ seek c s at) × ((at ≤ r) × (r ≤ max at (length s)))
+  pub ensured : (s : List ℕ) (at r : ℕ) → r ≡ seek c s at
+      → (r ≡ seek c s at) × ((at ≤ r) × (r ≤ max at (length s)))
   ensured s at r e = (e, (omega (arith, e, bounds s at), omega (arith, e, bounds s at)))
 
   -- c does not stand before the end, and stands there unless that is the text's end

@@ -38,15 +38,18 @@ loop-again c =
     let at = c .before .before .before .loop in
     let given = c .before .before .before .before .args in
     let more = c .before .before .loop-test .taken in
+    let one = count-one (given .c) (given .block .now) (at .k) more in
+    let other = count-other (given .c) (given .block .now) (at .k) more in
     ⊎-elim
-    (λ w. (omega arith, (omega (arith, w .1), omega (arith, w .1, count-one (given .c) (given .block .now) (at .k) more (w .0 .taken)))))
-    (λ w. (omega arith, (omega (arith, w .1), omega (arith, w .1, count-other (given .c) (given .block .now) (at .k) more (w .0 .left)))))
+    (λ w. (omega arith, (omega (arith, w .1), omega (arith, w .1, one (w .0 .taken)))))
+    (λ w. (omega arith, (omega (arith, w .1), omega (arith, w .1, other (w .0 .left)))))
     (c .if1 .came)
 
 returns : tie.Need-returns Inv-loop μ-loop
 returns c =
     let given = c .before .before .args in
-    c .before .loop .inv .1 .1 ∙ ap (count (given .c)) (take-all (c .before .loop .k) (given .block .now) (c .loop-test .left))
+    let at = c .before .loop in
+    at .inv .1 .1 ∙ ap (count (given .c)) (take-all (at .k) (given .block .now) (c .loop-test .left))
 
 pub count-spec : {M : Type 1} → statement M
 count-spec =

@@ -2,7 +2,6 @@
 use Prim.Native.Nat.{_-_, _≤_}
 use mathlib.Core.Path.{_≡_, refl, sym, _∙_}
 use native.Mathlib.Omega.{arith}
-use lib.ListN.{length}
 use Rattle.parts.specs.Parts.{seek}
 use Rattle.parts.proofs.Seeking.{seek-end, seek-stop, seek-next, ensured}
 use borrow.Author.Needs.{needs}

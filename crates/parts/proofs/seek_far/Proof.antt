@@ -27,7 +27,8 @@ returns : tie.Need-returns Inv-loop μ-loop
 returns c =
     let given = c .before .before .before .before .before .before .args in
     let loop = c .before .before .before .loop in
-    sym (seek-stop (given .c) (given .s .now) (loop .i) (c .before .before .loop-test .taken) (c .if1 .taken)) ∙ loop .inv
+    let stop = seek-stop (given .c) (given .s .now) (loop .i) (c .before .before .loop-test .taken) (c .if1 .taken) in
+    sym stop ∙ loop .inv
 
 add-i : tie.Need-add-i Inv-loop μ-loop
 add-i c = search needs
@@ -39,13 +40,15 @@ loop-again : tie.Need-loop-again Inv-loop μ-loop
 loop-again c =
     let given = c .before .before .before .before .before .before .args in
     let loop = c .before .before .before .loop in
-    sym (seek-next (given .c) (given .s .now) (loop .i) (c .before .before .loop-test .taken) (c .if1 .left)) ∙ loop .inv
+    let next = seek-next (given .c) (given .s .now) (loop .i) (c .before .before .loop-test .taken) (c .if1 .left) in
+    sym next ∙ loop .inv
 
 returns-2 : tie.Need-returns-2 Inv-loop μ-loop
 returns-2 c =
     let given = c .before .before .before .before .args in
     let loop = c .before .loop in
-    sym (seek-end (given .c) (given .s .now) (loop .i) (c .loop-test .left)) ∙ loop .inv
+    let end = seek-end (given .c) (given .s .now) (loop .i) (c .loop-test .left) in
+    sym end ∙ loop .inv
 
 pub seek-far-spec : {M : Type 1} → statement M
 seek-far-spec =

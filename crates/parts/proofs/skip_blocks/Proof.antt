@@ -47,7 +47,8 @@ loop-again c =
     let given = c .before .before .before .before .before .before .before .args in
     let loop = c .before .before .before .before .loop in
     let none = sym (c .before .count .ensures) ∙ c .if2 .left in
-    (omega arith, seek-block (given .c) (given .s .now) (loop .i) (loop .i + 192) (omega arith) (omega arith) none ∙ loop .inv .1)
+    let block = seek-block (given .c) (given .s .now) (loop .i) (loop .i + 192) (omega arith) (omega arith) none in
+    (omega arith, block ∙ loop .inv .1)
 
 returns-2 : tie.Need-returns-2 Inv-loop μ-loop
 returns-2 c = c .before .loop .inv .1
