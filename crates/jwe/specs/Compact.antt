@@ -7,11 +7,10 @@ use lib.Dec.{eqb, leb, ltb}
 use Rattle.parts.specs.Parts.{seek}
 use Rattle.json.specs.Places.{Place}
 use Rattle.rows.specs.Any.{any}
-use Rattle.rows.specs.Rows.{Entry}
 use Rattle.jose.specs.Refusals.{Test, _if_}
-use Rattle.jose.specs.HeaderRules.{recipientOrder, modeIn}
-use Rattle.jwe.specs.Headers.{absent, misspelled, headerText, tooLong, unread, protectedEntries, objectOrder}
-use Rattle.jwe.specs.Limits.{headerRoom}
+use Rattle.jose.specs.HeaderRules.{recipientOrder}
+use Rattle.headers.specs.Components.{absent, Components, places, misspelled}
+use Rattle.headers.specs.Headers.{headerText, textOrder, protectedEntries, objectOrder}
 
 -- .
 abbrev pub fullStop : ℕ
@@ -42,21 +41,13 @@ fourStops message =
     let d = stops message .fourth in
     ltb d (length message) && eqb (after message d) (length message)
 
--- Components by their places in the message. A compact message has no aad.
-pub record Places : Type 0 where
-  pub protected : Place
-  pub key : Place
-  pub iv : Place
-  pub aad : Place
-  pub ciphertext : Place
-  pub tag : Place
-
 -- What stands between two full stops.
 abbrev pub between : ℕ → ℕ → Place
 between a b = record { start = a + 1; size = b - (a + 1) }
 
-unfoldable pub compactPlaces : List ℕ → Places
-compactPlaces message =
+-- The components. There is no aad.
+unfoldable pub compactComponents : List ℕ → Components
+compactComponents message =
     let s = stops message in
     record {
       protected = record { start = 0; size = s .first };
@@ -67,20 +58,15 @@ compactPlaces message =
       tag = between (s .fourth) (length message);
     }
 
--- All components.
-abbrev pub components : Places → List Place
-components q = q .protected ∷ q .key ∷ q .iv ∷ q .aad ∷ q .ciphertext ∷ q .tag ∷ []
-
 -- The refusals of a compact message, from 4 on.
 unfoldable pub compactOrder : List ℕ → List (List ℕ) → ℕ → List Test
 compactOrder message known recipient =
-    let q = compactPlaces message in
+    let q = compactComponents message in
     let header = headerText message (q .protected) in
     let es = protectedEntries header in
     4 if not (fourStops message)
-    ∷ 5 if any (misspelled message) (components q)
-    ∷ 6 if tooLong header
-    ∷ 7 if unread header
-    ∷ (objectOrder header message es
+    ∷ 5 if any (misspelled message) (places q)
+    ∷ (textOrder header
+    ++ (objectOrder header es
     ++ (recipientOrder known header message es (eqb (q .key .size) 0)
-    ++ (19 if leb 1 recipient ∷ [])))
+    ++ (19 if leb 1 recipient ∷ []))))

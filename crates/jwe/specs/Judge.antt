@@ -13,11 +13,13 @@ use Rattle.rows.specs.Rows.{Entry, present}
 use Rattle.rows.specs.Tables.{listed}
 use Rattle.jose.specs.Refusals.{Test, _if_, first}
 use Rattle.jose.specs.HeaderRules.{modeIn}
-use Rattle.jwe.specs.Limits.{longest, headerRoom, listRoom}
-use Rattle.jwe.specs.Headers.{absent, headerText, protectedEntries}
-use Rattle.jwe.specs.Compact.{Places, compactPlaces, compactOrder}
-use Rattle.jwe.specs.Shape.{recipients, Recipient, recipientOf}
-use Rattle.jwe.specs.General.{topEntries, recipientsIn, placesIn, parameters, jsonOrder}
+use Rattle.headers.specs.Limits.{longest, headerRoom, listRoom}
+use Rattle.headers.specs.Components.{Components}
+use Rattle.headers.specs.Headers.{headerText, protectedEntries}
+use Rattle.shape.specs.Shape.{recipients, Recipient, recipientOf}
+use Rattle.shape.specs.Recipients.{topEntries, recipientsIn, componentsIn}
+use Rattle.jwe.specs.Compact.{compactComponents, compactOrder}
+use Rattle.jwe.specs.General.{parameters, jsonOrder}
 
 -- All refusals in order, of a message, a list of known names, a recipient number and the lengths of the lent outputs.
 unfoldable pub order : List ℕ → List ℕ → ℕ → ℕ → ℕ → List Test
@@ -36,15 +38,15 @@ refusal message known recipient headerLent listLent = first (order message known
 pub record Outcome : Type 0 where
   pub form : ℕ
   pub recipients : ℕ
-  pub places : Places
+  pub components : Components
   pub header : List ℕ
   pub entries : List Entry
 
-unfoldable pub compactReading : List ℕ → Outcome
-compactReading message =
-    let q = compactPlaces message in
+unfoldable pub compactOutcome : List ℕ → Outcome
+compactOutcome message =
+    let q = compactComponents message in
     let header = headerText message (q .protected) in
-    record { form = 0; recipients = 1; places = q; header = header; entries = protectedEntries header }
+    record { form = 0; recipients = 1; components = q; header = header; entries = protectedEntries header }
 
 -- The n-th recipient, counted from 0; the flattened form's, or one without header and key, where there is none.
 unfoldable pub asked : List Recipient → ℕ → Recipient
@@ -52,25 +54,25 @@ asked [] n = recipientOf []
 asked (r ∷ rs) zero = r
 asked (r ∷ rs) (suc n) = asked rs n
 
-unfoldable pub jsonReading : List ℕ → ℕ → Outcome
-jsonReading message recipient =
+unfoldable pub jsonOutcome : List ℕ → ℕ → Outcome
+jsonOutcome message recipient =
     let es = topEntries message in
     let rs = recipientsIn message es in
     let r = asked rs recipient in
-    let q = placesIn es r in
+    let q = componentsIn es r in
     let header = headerText message (q .protected) in
     record {
       form = cond (present recipients es) 2 1;
       recipients = length rs;
-      places = q;
+      components = q;
       header = header;
       entries = parameters header message es r;
     }
 
-unfoldable pub reading : List ℕ → ℕ → Outcome
-reading message recipient =
-    let j = jsonReading message recipient in
-    let c = compactReading message in
+unfoldable pub outcome : List ℕ → ℕ → Outcome
+outcome message recipient =
+    let j = jsonOutcome message recipient in
+    let c = compactOutcome message in
     cond (opensObject message) j c
 
 -- The numbers of the result, in document 01's order: number, form, recipient count, mode, the six places, header length,
@@ -84,12 +86,12 @@ accepted message x =
     ∷ x .form
     ∷ x .recipients
     ∷ modeIn (x .header) message (x .entries)
-    ∷ place (x .places .protected)
-      (place (x .places .key)
-      (place (x .places .iv)
-      (place (x .places .aad)
-      (place (x .places .ciphertext)
-      (place (x .places .tag) (length (x .header) ∷ length (x .entries) ∷ []))))))
+    ∷ place (x .components .protected)
+      (place (x .components .key)
+      (place (x .components .iv)
+      (place (x .components .aad)
+      (place (x .components .ciphertext)
+      (place (x .components .tag) (length (x .header) ∷ length (x .entries) ∷ []))))))
 
 unfoldable pub refused : ℕ → List ℕ
 refused n = n ∷ 0 ∷ 0 ∷ 0 ∷ 0 ∷ 0 ∷ 0 ∷ 0 ∷ 0 ∷ 0 ∷ 0 ∷ 0 ∷ 0 ∷ 0 ∷ 0 ∷ 0 ∷ 0 ∷ 0 ∷ []
@@ -99,16 +101,16 @@ refused n = n ∷ 0 ∷ 0 ∷ 0 ∷ 0 ∷ 0 ∷ 0 ∷ 0 ∷ 0 ∷ 0 ∷ 0 ∷ 0 
 unfoldable pub result : List ℕ → List ℕ → ℕ → ℕ → ℕ → List ℕ
 result message known recipient headerLent listLent =
     let n = refusal message known recipient headerLent listLent in
-    cond (eqb n 0) (accepted message (reading message recipient)) (refused n)
+    cond (eqb n 0) (accepted message (outcome message recipient)) (refused n)
 
 unfoldable pub headerAfter : List ℕ → List ℕ → ℕ → List ℕ → List ℕ → List ℕ
 headerAfter message known recipient buffer list =
     cond (eqb (refusal message known recipient (length buffer) (length list)) 0)
-    (written 0 (reading message recipient .header) buffer)
+    (written 0 (outcome message recipient .header) buffer)
     buffer
 
 unfoldable pub listAfter : List ℕ → List ℕ → ℕ → List ℕ → List ℕ → List ℕ
 listAfter message known recipient buffer list =
     cond (eqb (refusal message known recipient (length buffer) (length list)) 0)
-    (written 0 (listed (reading message recipient .entries)) list)
+    (written 0 (listed (outcome message recipient .entries)) list)
     list

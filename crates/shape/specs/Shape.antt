@@ -7,14 +7,15 @@ use lib.ListN.{length}
 use lib.Dec.{eqb, ltb}
 use Rattle.prelude.specs.Ascii.{ascii}
 use Rattle.parts.specs.Parts.{part, holds}
-use Rattle.json.specs.Grammar.{backslash}
+use Rattle.json.specs.Grammar.{backslash, Bracket, curly, closing}
 use Rattle.json.specs.Places.{Place, Member, Element}
-use Rattle.json.specs.Reader.{membersAt, elementsAt}
+use Rattle.json.specs.Reader.{octetAt}
+use Rattle.json.specs.Members.{firstIn}
 use Rattle.rows.specs.Any.{any}
 use Rattle.rows.specs.Rows.{Entry, entriesIn, numbered, present, valueOf, spelledValue}
 use Rattle.jose.specs.Registered.{object, array, string}
-use Rattle.jose.specs.HeaderRules.{levels, isEmpty}
-use Rattle.jwe.specs.Headers.{absent, outermost}
+use Rattle.jose.specs.HeaderRules.{isEmpty}
+use Rattle.headers.specs.Components.{absent}
 
 -- The known members of a message.
 unfoldable pub memberNames : List (List ℕ)
@@ -71,36 +72,33 @@ wrongComponent message e =
     || (holds backslash (spelledValue message (e .member))
     || (not (numbered ciphertext e) && eqb (e .member .valueSize) 2))
 
+-- Whether nothing stands in the object or array that begins at a position.
+abbrev pub hollow : Bracket → List ℕ → ℕ → Bool
+hollow b s at = eqb (octetAt s (firstIn s at)) (closing b)
+
 -- A header: an object with a member.
-abbrev pub noMember : List Member → Bool
-noMember [] = true
-noMember (m ∷ ms) = false
-
 abbrev pub wrongHeader : List ℕ → Entry → Bool
-wrongHeader message e =
-    not (eqb (e .member .kind) object) || noMember (membersAt levels message (e .member .valueStart))
+wrongHeader message e = not (eqb (e .member .kind) object) || hollow curly message (e .member .valueStart)
 
--- `recipients`: an array with an element, all of them objects.
-abbrev pub noObject : Element → Bool
-noObject x = not (eqb (x .kind) object)
-
-abbrev pub wrongRecipients : List ℕ → Entry → Bool
-wrongRecipients message e =
-    let xs = elementsAt levels message (e .member .valueStart) in
-    not (eqb (e .member .kind) array) || (isEmpty xs || any noObject xs)
-
--- Any of them; unknown members are ignored.
+-- Any known member; unknown ones are ignored. The elements of `recipients` are judged apart.
 unfoldable pub wrongMember : List ℕ → Entry → Bool
 wrongMember message e =
     cond (eqb (e .number) 0) false
     (cond (numbered unprotected e || numbered header e) (wrongHeader message e)
-    (cond (numbered recipients e) (wrongRecipients message e) (wrongComponent message e)))
+    (cond (numbered recipients e) (not (eqb (e .member .kind) array)) (wrongComponent message e)))
 
--- 10 on the top level.
+-- 10 on the top level, the elements of `recipients` aside.
 unfoldable pub wrongTop : List ℕ → List Entry → Bool
 wrongTop message es =
     any (wrongMember message) es
     || (not (present ciphertext es) || (present recipients es && (present header es || present encryptedKey es)))
+
+-- 10 on `recipients` itself: it has no element, or one that is no object.
+abbrev pub noObject : Element → Bool
+noObject x = not (eqb (x .kind) object)
+
+unfoldable pub wrongElements : List Element → Bool
+wrongElements xs = isEmpty xs || any noObject xs
 
 -- 10 on an element of `recipients`, which knows only `header` and `encrypted_key`.
 abbrev pub wrongInElement : List ℕ → Entry → Bool
