@@ -7,24 +7,19 @@ ghost use Rattle.names.specs.Names.{names, filled};
 ghost use Rattle.json.specs.Reader.{membersAt};
 ghost use Rattle.rows.specs.Rows.{entriesIn};
 ghost use Rattle.rows.specs.Tables.{collectedTable};
+ghost use Rattle.jose.specs.Refusals.{first};
 ghost use Rattle.headers.specs.Components.{misspelled};
-ghost use Rattle.headers.specs.Headers.{headerText};
-ghost use Rattle.headers.specs.Answers.{placeOf, objectAnswer, headerAnswer, headerBuffer};
+ghost use Rattle.headers.specs.Headers.{headerText, textOrder, objectOrder};
+ghost use Rattle.headers.specs.Answers.{placeOf, stageOf, headerBuffer};
 use base64url::Checked;
 use base64url::Decoded;
 use json::Found;
 use json::member::Collected;
 use json::member::Place;
 
-// What collecting an object answers: how many entries it has, or document 01's 8 or 9.
-pub enum Object {
-    Entries(usize),
-    Refused(u32),
-}
-
-// What decoding a protected header answers: how long its text is, or document 01's 6 or 7.
-pub enum Header {
-    Text(usize),
+// What a stage of judging answers: that it passed, with a number, or document 01's refusal.
+pub enum Stage {
+    Passed(usize),
     Refused(u32),
 }
 
@@ -39,39 +34,41 @@ pub fn misspelled(message: &[u8], place: Place) -> bool
     false
 }
 
-// The object at a position of a text: its members as entries of the table from the entry `from` on.
-pub fn object(s: &[u8], at: usize, origin: u32, list: &[u8], table: &mut [u32], from: usize) -> Object
+// 8 and 9 on the object at a position of a text: its members as entries of the table from the entry `from` on, and how many
+// they are.
+pub fn object(s: &[u8], at: usize, origin: u32, list: &[u8], table: &mut [u32], from: usize) -> Stage
     requires { ⌜ length (now s) ≤ 16777216 ⌝ }
     requires { ⌜ filled (now list) ≡ true ⌝ }
     requires { ⌜ from * 8 + 256 ≤ length (now table) ⌝ }
-    ensures { λ r. ⌜ r ≡ objectAnswer (now (s .entry)) (entriesIn (names (now (list .entry))) (now (s .entry)) origin (membersAt 12 (now (s .entry)) at)) ⌝ }
+    ensures { λ r. ⌜ r ≡ stageOf (first (objectOrder (now (s .entry)) (entriesIn (names (now (list .entry))) (now (s .entry)) origin (membersAt 12 (now (s .entry)) at)))) (length (membersAt 12 (now (s .entry)) at)) ⌝ }
     ensures { λ _. ⌜ now (table .exit) ≡ collectedTable from (entriesIn (names (now (list .entry))) (now (s .entry)) origin (membersAt 12 (now (s .entry)) at)) (now (table .entry)) ⌝ }
 {
     let collected = rows::collect::collect(s, at, origin, list, table, from);
     let Collected::Rows(count) = collected else {
-        return Object::Refused(8);
+        return Stage::Refused(8);
     };
     let first = from * 8;
     if rows::repeat::clashes(s, s, &table[first..], count, false) {
-        return Object::Refused(9);
+        return Stage::Refused(9);
     }
-    Object::Entries(count)
+    Stage::Passed(count)
 }
 
-// The protected header, whose encoded text at a place of the message has no fault, decoded into the buffer and judged.
-pub fn header(message: &[u8], place: Place, buffer: &mut [u8]) -> Header
+// 6 and 7 on the protected header, whose encoded text at a place of the message has no fault: it is decoded into the buffer,
+// and how long it is.
+pub fn header(message: &[u8], place: Place, buffer: &mut [u8]) -> Stage
     requires { ⌜ misspelled (now message) (placeOf place) ≡ false ⌝ }
     requires { ⌜ length (now buffer) ≡ 4096 ⌝ }
-    ensures { λ r. ⌜ r ≡ headerAnswer (headerText (now (message .entry)) (placeOf place)) ⌝ }
+    ensures { λ r. ⌜ r ≡ stageOf (first (textOrder (headerText (now (message .entry)) (placeOf place)))) (length (headerText (now (message .entry)) (placeOf place))) ⌝ }
     ensures { λ _. ⌜ now (buffer .exit) ≡ headerBuffer (headerText (now (message .entry)) (placeOf place)) (now (buffer .entry)) ⌝ }
 {
     let decoded = base64url::decode(parts::part(message, place.start, place.len), buffer);
     let Decoded::Octets(n) = decoded else {
-        return Header::Refused(6);
+        return Stage::Refused(6);
     };
     let judged = json::judge(&buffer[..n], 12);
     let Found::Value(_, _) = judged else {
-        return Header::Refused(7);
+        return Stage::Refused(7);
     };
-    Header::Text(n)
+    Stage::Passed(n)
 }

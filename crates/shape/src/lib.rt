@@ -2,20 +2,14 @@
 ghost use mathlib.Core.Path.{_≡_};
 ghost use Prim.Native.Nat.{_*_, _≤_};
 ghost use lib.ListN.{length};
-ghost use Rattle.rows.specs.Tables.{entriesOf};
-ghost use Rattle.shape.specs.Answers.{topAnswer, listedAnswer, TopTable, ListedTable};
-
-// What the top level answers: how many entries it has, or document 01's 7 to 10.
-pub enum Top {
-    Entries(usize),
-    Refused(u32),
-}
-
-// What the recipients answer: how many they are, or document 01's 8 to 11.
-pub enum Listed {
-    Recipients(usize),
-    Refused(u32),
-}
+ghost use Rattle.rows.specs.Tables.{flat, entriesOf};
+ghost use Rattle.jose.specs.Refusals.{first};
+ghost use Rattle.headers.specs.Answers.{stageOf, Leaves};
+ghost use Rattle.shape.specs.Recipients.{topEntries, topOrder, elementsOrder, recipientsIn};
+ghost use Rattle.shape.specs.Answers.{flatRecipients};
+use headers::Stage;
+use json::Found;
+use json::Position;
 
 // The known members of a message, contents first.
 pub const MEMBERS: [u8; 77] = [
@@ -31,17 +25,49 @@ pub const MEMBERS: [u8; 77] = [
     116, 97, 103,
 ];
 
-// The top level of a message: its members as entries of the table.
-pub fn top(message: &[u8], table: &mut [u32]) -> Top
+mod element;
+mod member;
+
+// 7, and 8 to 10 on the top level: its members as entries of the table, and how many they are.
+pub fn top(message: &[u8], table: &mut [u32]) -> Stage
     requires { ⌜ length (now message) ≤ 16777216 ⌝ }
     requires { ⌜ 256 ≤ length (now table) ⌝ }
-    ensures { λ r. ⌜ r ≡ topAnswer (now (message .entry)) ⌝ }
-    ensures { λ r. ⌜ TopTable (now (message .entry)) r (now (table .entry)) (now (table .exit)) ⌝ }
+    ensures { λ r. ⌜ r ≡ stageOf (first (topOrder (now (message .entry)))) (length (topEntries (now (message .entry)))) ⌝ }
+    ensures { λ r. ⌜ Leaves (flat (topEntries (now (message .entry)))) (now (table .entry)) (now (table .exit)) r ⌝ }
+{
+    let judged = json::judge(message, 12);
+    let Found::Value(_, _) = judged else {
+        return Stage::Refused(7);
+    };
+    let list = MEMBERS;
+    let at = Position { at: 0 }.skip_space(message).at;
+    let object = headers::object(message, at, 1, &list, table, 0);
+    let Stage::Passed(count) = object else {
+        return object;
+    };
+    if member::wrong_top(message, table, count) {
+        return Stage::Refused(10);
+    }
+    object
+}
 
-// The recipients of a message whose top level has passed and stands in the table: three numbers each.
-pub fn recipients(message: &[u8], table: &[u32], count: usize, into: &mut [usize]) -> Listed
+// 10 on `recipients`, 11, and 8 to 10 on its elements: the recipients as numbers of the table, three each, and how many they
+// are. The entries are those of a top level that has passed.
+pub fn recipients(message: &[u8], table: &[u32], count: usize, into: &mut [usize]) -> Stage
     requires { ⌜ length (now message) ≤ 16777216 ⌝ }
     requires { ⌜ count * 8 ≤ length (now table) ⌝ }
     requires { ⌜ 24 ≤ length (now into) ⌝ }
-    ensures { λ r. ⌜ r ≡ listedAnswer (now (message .entry)) (entriesOf count (now (table .entry))) ⌝ }
-    ensures { λ r. ⌜ ListedTable (now (message .entry)) (entriesOf count (now (table .entry))) r (now (into .entry)) (now (into .exit)) ⌝ }
+    ensures { λ r. ⌜ r ≡ stageOf (first (elementsOrder (now (message .entry)) (entriesOf count (now (table .entry))))) (length (recipientsIn (now (message .entry)) (entriesOf count (now (table .entry))))) ⌝ }
+    ensures { λ r. ⌜ Leaves (flatRecipients (recipientsIn (now (message .entry)) (entriesOf count (now (table .entry))))) (now (into .entry)) (now (into .exit)) r ⌝ }
+{
+    if !rows::ask::present(table, count, 5) {
+        element::put(element::recipient_of(table, count), into, 0);
+        return Stage::Passed(1);
+    }
+    let mut starts = [0usize; 8];
+    let walked = element::walk(message, rows::ask::value_of(table, count, 5).start, &mut starts);
+    let Stage::Passed(elements) = walked else {
+        return walked;
+    };
+    element::elements(message, &starts, elements, into)
+}
