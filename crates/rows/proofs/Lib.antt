@@ -4,3 +4,5 @@ pub mod Entries
 pub mod Asking
 -- Comparing fingerprints first changes no answer.
 pub mod Printing
+-- Numbers copied, and entries laid out.
+pub mod Copying
