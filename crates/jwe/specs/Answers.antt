@@ -23,11 +23,11 @@ numbers r =
     ∷ r .form
     ∷ r .recipients
     ∷ r .mode
-    ∷ placeNumbers (r .protected)
-      (placeNumbers (r .key)
-      (placeNumbers (r .iv)
-      (placeNumbers (r .aad)
-      (placeNumbers (r .ciphertext) (placeNumbers (r .tag) (r .header ∷ r .parameters ∷ []))))))
+    ∷ placeNumbers (r .components .protected)
+      (placeNumbers (r .components .key)
+      (placeNumbers (r .components .iv)
+      (placeNumbers (r .components .aad)
+      (placeNumbers (r .components .ciphertext) (placeNumbers (r .components .tag) (r .header ∷ r .parameters ∷ []))))))
 
 -- A message judged by an order: refused by its first failing test, or accepted with the numbers of its outcome, the decoded
 -- header at the start of the text buffer and the entries at the start of the table.

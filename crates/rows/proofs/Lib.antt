@@ -6,3 +6,5 @@ pub mod Asking
 pub mod Printing
 -- For `collect`: entries of rows.
 pub mod Collecting
+-- Numbers copied, and entries laid out.
+pub mod Copying
