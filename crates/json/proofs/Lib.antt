@@ -42,6 +42,7 @@ pub mod Utf8Parts
 pub mod ValueParts
 pub mod Cursors
 pub mod Compare
+pub mod Fingerprints
 pub mod MemberParts
 pub mod MemberRows
 pub mod MemberTable

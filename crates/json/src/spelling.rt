@@ -5,9 +5,9 @@ ghost use Prim.Native.Nat.{_-_, _≤_, _<_};
 ghost use mathlib.Core.Bool.{true, false};
 ghost use lib.ListN.{drop};
 ghost use Rattle.json.specs.Strings.{hexDigit, escapePoint, combined, unit, isHigh};
-ghost use Rattle.json.specs.Spellings.{equal, alike, has};
+ghost use Rattle.json.specs.Spellings.{undo, equal, alike, has, mixed, fingerprintFrom, fingerprint};
 ghost use Rattle.json.specs.Utf8.{sixBits};
-ghost use Rattle.json.specs.Cursors.{undoAt, rest, told, Falls, cursor, octet, pendingOf, encoded};
+ghost use Rattle.json.specs.Cursors.{undoAt, rest, told, size, Falls, cursor, octet, pendingOf, encoded};
 
 // Where in a spelling we are, between characters: a first half that stands directly before, or 0; and of the code point that
 // the last escape said, how many octets are still to come.
@@ -22,6 +22,12 @@ pub struct Cursor {
 pub enum Octet {
     Next(u8, Cursor),
     End,
+}
+
+// A fingerprint of the octets that come before a cursor.
+pub struct Mixed {
+    pub value: u32,
+    pub place: Cursor,
 }
 
 // The difference; 0 where there is none.
@@ -314,5 +320,62 @@ pub fn has(a: &[u8], w: &[u8]) -> bool
         }
         p = after;
         k += 1;
+    }
+}
+
+// A fingerprint, one octet more taken in.
+fn mix(h: u32, c: u8) -> u32
+    ensures { λ r. ⌜ r ≡ mixed h c ⌝ }
+{
+    ((h as u64 * 16777619 + c as u64 + 1) % 4294967296) as u32
+}
+
+// Over the octets from a cursor on that stand for themselves.
+fn mix_plain(s: &[u8], p: Cursor, h: u32) -> Mixed
+    requires { ⌜ p .half ≤ 56319 ⌝ }
+    ensures { λ r. ⌜ fingerprintFrom (r .value) (rest (now (s .entry)) (r .place)) ≡ fingerprintFrom h (rest (now (s .entry)) p) ⌝ }
+    ensures { λ r. ⌜ (r .place .half ≤ 56319) × (size (now (s .entry)) (r .place) ≤ size (now (s .entry)) p) ⌝ }
+{
+    if 0 < p.left {
+        return Mixed { value: h, place: p };
+    }
+    let mut at = p.at;
+    let mut half = p.half;
+    let mut value = h;
+    while at < s.len() {
+        let c = s[at];
+        if c == 92 {
+            break;
+        }
+        value = mix(value, c);
+        half = 0;
+        at += 1;
+    }
+    Mixed {
+        value,
+        place: Cursor {
+            at,
+            half,
+            point: 0,
+            left: 0,
+        },
+    }
+}
+
+// A fingerprint of what a spelling says.
+pub fn fingerprint(a: &[u8]) -> u32
+    ensures { λ r. ⌜ r ≡ fingerprint (undo (now (a .entry))) ⌝ }
+{
+    let mut p = cursor_at(0);
+    let mut value: u32 = 2166136261;
+    loop {
+        let run = mix_plain(a, p, value);
+        let place = run.place;
+        let x = place.next(a);
+        let Octet::Next(c, after) = x else {
+            return run.value;
+        };
+        value = mix(run.value, c);
+        p = after;
     }
 }

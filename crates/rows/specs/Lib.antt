@@ -1,3 +1,4 @@
 pub mod Any
 pub mod Rows
+pub mod Prints
 pub mod Tables

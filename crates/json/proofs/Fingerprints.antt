@@ -1,0 +1,52 @@
+-- Fingerprints as the code makes them, octet by octet; and what they say: strings that say the same have equal ones.
+use mathlib.Core.Path.{_≡_, refl, ap, sym, subst}
+use mathlib.Core.Bool.{Bool, true, false}
+use mathlib.Core.List.{List, [], _∷_}
+use Prim.Native.Nat.{ℕ, _+_, _<_}
+use lib.ListN.{length, getD}
+use lib.Dec.{T}
+use Rattle.json.specs.Spellings.{undo, alike, has, mixed, fingerprintFrom, fingerprint}
+use Rattle.json.specs.Cursors.{undoAt}
+use Rattle.json.proofs.Cursors.{undo-plain}
+use Rattle.json.proofs.Spellings.{equal-sound}
+
+-- One octet that is to come.
+pub mixed-next : (h c : ℕ) (t w : List ℕ) → c ∷ t ≡ w → fingerprintFrom (mixed h c) t ≡ fingerprintFrom h w
+unfolding fingerprintFrom
+mixed-next h c t w e = ap (fingerprintFrom h) e
+
+-- None is.
+pub mixed-end : (h : ℕ) (w : List ℕ) → [] ≡ w → h ≡ fingerprintFrom h w
+unfolding fingerprintFrom
+mixed-end h w e = ap (fingerprintFrom h) e
+
+-- One that stands for itself.
+pub mixed-plain : (s : List ℕ) (half at h : ℕ) → at < length s → (getD s at 0 ≡ 92 → ⊥) →
+    fingerprintFrom (mixed h (getD s at 0)) (undoAt s 0 (at + 1)) ≡ fingerprintFrom h (undoAt s half at)
+mixed-plain s half at h i n =
+    mixed-next h (getD s at 0) (undoAt s 0 (at + 1)) (undoAt s half at) (undo-plain s half at i n)
+
+-- From the beginning.
+pub mixed-start : (w : List ℕ) → fingerprintFrom 2166136261 (undoAt w 0 0) ≡ fingerprint (undo w)
+unfolding fingerprint undo
+mixed-start w = refl
+
+false-unless : (b : Bool) → (b ≡ true → ⊥) → b ≡ false
+false-unless true n = absurd (n refl)
+false-unless false n = refl
+
+-- Spellings that say the same have the same fingerprint, and where it differs they do not.
+module _ (v w : List ℕ) where
+  pub alike-fingerprint : alike v w ≡ true → fingerprint (undo v) ≡ fingerprint (undo w)
+  unfolding alike
+  alike-fingerprint e = ap fingerprint (equal-sound (undo v) (undo w) (subst T (sym e) tt))
+
+  pub has-fingerprint : has v w ≡ true → fingerprint (undo v) ≡ fingerprint w
+  unfolding has
+  has-fingerprint e = ap fingerprint (equal-sound (undo v) w (subst T (sym e) tt))
+
+  pub alike-not : (fingerprint (undo v) ≡ fingerprint (undo w) → ⊥) → alike v w ≡ false
+  alike-not n = false-unless (alike v w) (λ e. n (alike-fingerprint e))
+
+  pub has-not : (fingerprint (undo v) ≡ fingerprint w → ⊥) → has v w ≡ false
+  has-not n = false-unless (has v w) (λ e. n (has-fingerprint e))

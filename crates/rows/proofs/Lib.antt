@@ -1,0 +1,6 @@
+-- Entries as numbers of a table, and back.
+pub mod Entries
+-- Loops that ask something of one entry after the other.
+pub mod Asking
+-- Comparing fingerprints first changes no answer.
+pub mod Printing
