@@ -2,3 +2,4 @@ pub mod Algorithms
 pub mod Registered
 pub mod Refusals
 pub mod HeaderRules
+pub mod Elements
