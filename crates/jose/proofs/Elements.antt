@@ -36,22 +36,25 @@ module _ (s : List ℕ) where
     elements-none e = ap elementsOf (rows-none square s levels left at h e)
 
     -- one element more, and those from the next one on
-    pub elements-more : (row : Row) (next : Position) → Here row next ≡ memberOf s (entryAt (valueAt levels s) square s at) →
+    pub elements-more : (row : Row) (next : Position) →
+        Here row next ≡ memberOf s (entryAt (valueAt levels s) square s at) →
         elementsFrom s left at ≡ elementOf row ∷ elementsFrom s (left - 1) (next .at)
     unfolding elementsFrom elementsOf
     elements-more row next e =
         let read = the-read square s levels left at h row next e in
         ap elementsOf (rows-more square s levels left at h row next e)
-        ∙ ap (λ (x : Element). x ∷ elementsFrom s (left - 1) (next .at)) (sym (element-read row (read .entry .row) (read .five)))
+        ∙ ap (λ (x : Element). x ∷ elementsFrom s (left - 1) (next .at))
+        (sym (element-read row (read .entry .row) (read .five)))
 
   -- where none begins there is none, however many turns are left
-  pub elements-empty : (left at : ℕ) → End ≡ memberOf s (entryAt (valueAt levels s) square s at) → elementsFrom s left at ≡ []
+  pub elements-empty : (left at : ℕ) → End ≡ memberOf s (entryAt (valueAt levels s) square s at) →
+      elementsFrom s left at ≡ []
   elements-empty zero at e = elements-spent zero at refl
   elements-empty (suc left) at e = elements-none (suc left) at (omega arith) e
 
   -- where one begins there are octets
-  pub elements-octets : (at : ℕ) (row : Row) (next : Position) → Here row next ≡ memberOf s (entryAt (valueAt levels s) square s at) →
-      0 < length s
+  pub elements-octets : (at : ℕ) (row : Row) (next : Position) →
+      Here row next ≡ memberOf s (entryAt (valueAt levels s) square s at) → 0 < length s
   elements-octets at row next e =
       let within = row-within levels s square at row next e .2 in
       omega (arith, within .value, within .filled)

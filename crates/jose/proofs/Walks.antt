@@ -1,5 +1,5 @@
--- Loops that ask something of one element of an array after the other: what is asked of the elements from here on stays the
--- answer for all, until one passes or none is left. Stated once for every question that goes element by element.
+-- Loops that ask something of one element of an array after the other: what is asked of the elements from here on stays
+-- the answer for all, until one passes or none is left. Stated once for every question that goes element by element.
 use mathlib.Core.Path.{_≡_, refl, ap, sym, _∙_}
 use mathlib.Core.Bool.{Bool, true, false, _||_}
 use mathlib.Core.List.{List, [], _∷_}
@@ -46,7 +46,8 @@ module _ {question : List Element → Bool} {test : Element → List Element →
     pub walk-end : End ≡ memberOf s (entryAt (valueAt levels s) square s at) → false ≡ answer
     walk-end e = none-here (elements-none s left at h e)
 
-    module _ (row : Row) (next : Position) (e : Here row next ≡ memberOf s (entryAt (valueAt levels s) square s at)) where
+    module _ (row : Row) (next : Position)
+        (e : Here row next ≡ memberOf s (entryAt (valueAt levels s) square s at)) where
       abbrev rest : List Element
       rest = elementsFrom s (left - 1) (next .at)
 

@@ -1,5 +1,5 @@
-// The contents of `crit` (document 01's 17): its elements are read one after the other, where the value stands. What each
-// function answers stands in specs/HeaderRules.
+// The contents of `crit` (document 01's 17): its elements are read one after the other, where the value stands. What
+// each function answers stands in specs/HeaderRules.
 ghost use mathlib.Core.Path.{_≡_};
 ghost use mathlib.Core.Bool.{true};
 ghost use Prim.Native.Nat.{_+_, _-_, _*_, _≤_};
@@ -8,8 +8,8 @@ ghost use Rattle.json.specs.Reader.{elementsAt};
 ghost use Rattle.names.specs.Names.{names, filled};
 ghost use Rattle.rows.specs.Any.{any, anyPair};
 ghost use Rattle.rows.specs.Tables.{firstOf, entriesOf};
-ghost use Rattle.jose.specs.HeaderRules.{levels, spelledElement, unknown, sameElement, nameSays, misplaced, isEmpty};
-ghost use Rattle.jose.specs.HeaderRules.{wrongCrit, critical};
+ghost use Rattle.jose.specs.HeaderRules.{levels, spelledElement, unknown, sameElement, nameSays, misplaced};
+ghost use Rattle.jose.specs.HeaderRules.{isEmpty, wrongCrit, critical};
 ghost use Rattle.jose.specs.Elements.{elementOf, elementsFrom};
 use json::Position;
 use json::member::Member;

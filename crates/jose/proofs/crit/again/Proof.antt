@@ -11,7 +11,8 @@ use Rattle.jose.proofs.crit.again.Tie as tie
 
 abbrev Inv-loop : tie.InvT-loop
 Inv-loop s row turns p₀ left₀ p left =
-    any (sameElement s (elementOf row)) (elementsFrom s left (p .at)) ≡ any (sameElement s (elementOf row)) (elementsFrom s left₀ (p₀ .at))
+    any (sameElement s (elementOf row)) (elementsFrom s left (p .at))
+    ≡ any (sameElement s (elementOf row)) (elementsFrom s left₀ (p₀ .at))
 
 abbrev μ-loop : tie.MeasureT-loop
 μ-loop s row turns p₀ left₀ p left = left

@@ -36,7 +36,9 @@ shared-slice-read-at : tie.Need-shared-slice-read-at
 shared-slice-read-at c = search needs
 
 cast-at : tie.Need-cast-at
-cast-at c = omega (arith, c .shared-slice-known6 .given (c .before .before .before .before .before .before .before .args .i * 8 + 3))
+cast-at c =
+    let given = c .before .before .before .before .before .before .before .args in
+    omega (arith, c .shared-slice-known6 .given (given .i * 8 + 3))
 
 mul-if2 : tie.Need-mul-if2
 mul-if2 c = search needs

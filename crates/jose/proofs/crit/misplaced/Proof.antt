@@ -1,8 +1,8 @@
 -- `misplaced` asks the registered names for the spelling, and then the entries: the list in the source is the list of
 -- those names, by computing.
-use mathlib.Core.Path.{_≡_, ap, sym, _∙_}
-use mathlib.Core.List.{flatten}
-use mathlib.Core.Bool.{not}
+use mathlib.Core.Path.{ap, sym, _∙_}
+use mathlib.Core.List.{List, flatten}
+use mathlib.Core.Bool.{Bool, not}
 use Prim.Native.Nat.{ℕ}
 use borrow.Author.Tests.{eq-eqb, ne-eqb}
 use Rattle.prelude.specs.Ascii.{ascii}
@@ -12,8 +12,7 @@ use Rattle.names.proofs.Contents.{filled-list}
 use Rattle.rows.specs.Any.{any}
 use Rattle.rows.specs.Tables.{entriesOf}
 use Rattle.jose.specs.Registered.{registered}
-use Rattle.jose.specs.HeaderRules.{spelledElement, nameSays}
-use Rattle.jose.specs.Elements.{elementOf}
+use Rattle.jose.specs.HeaderRules.{nameSays}
 use borrow.Author.Needs.{needs}
 use Rattle.jose.proofs.crit.misplaced.Statement.{statement}
 use Rattle.jose.proofs.crit.misplaced.Tie as tie
@@ -31,9 +30,10 @@ find-requires c κs = filled-list registered
 returns : tie.Need-returns
 unfolding listOf registered ascii flatten
 returns c =
+    let word = c .before .before .before .spelled in
     let number =
-    c .before .find .ensures ∙ ap (λ ns. numberIn ns (c .before .before .before .spelled .result .now)) (names-of registered)
-    ∙ ap (numberIn registered) (c .before .before .before .spelled .ensures) in
+    c .before .find .ensures ∙ ap (λ ns. numberIn ns (word .result .now)) (names-of registered)
+    ∙ ap (numberIn registered) (word .ensures) in
     simp (sym number, ne-eqb _ _ (c .if1 .taken))
 
 named-requires : tie.Need-named-requires
@@ -44,14 +44,12 @@ unfolding listOf registered ascii flatten
 returns-2 c =
     let given = c .before .before .before .before .before .before .before .before .before .args in
     let es = entriesOf (given .count) (given .table .now) in
+    let word = c .before .before .before .before .spelled in
     let number =
-    c .before .before .find .ensures
-    ∙ ap (λ ns. numberIn ns (c .before .before .before .before .spelled .result .now)) (names-of registered)
-    ∙ ap (numberIn registered) (c .before .before .before .before .spelled .ensures) in
-    simp (sym number, eq-eqb _ _ (c .before .if1 .left))
-    (ap not
-    (c .named .ensures
-    ∙ ap (λ w. any (nameSays (given .header .now) (given .message .now) w) es) (c .before .before .before .before .spelled .ensures)))
+    c .before .before .find .ensures ∙ ap (λ ns. numberIn ns (word .result .now)) (names-of registered)
+    ∙ ap (numberIn registered) (word .ensures) in
+    let some : List ℕ → Bool = λ w. any (nameSays (given .header .now) (given .message .now) w) es in
+    simp (sym number, eq-eqb _ _ (c .before .if1 .left)) (ap not (c .named .ensures ∙ ap some (word .ensures)))
 
 pub misplaced-spec : {M : Type 1} → statement M
 misplaced-spec =

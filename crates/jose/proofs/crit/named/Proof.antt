@@ -13,7 +13,8 @@ use Rattle.jose.proofs.crit.named.Tie as tie
 
 abbrev Inv-loop : tie.InvT-loop
 Inv-loop header message table count w i₀ i =
-    any (nameSays header message w) (drop i (entriesOf count table)) ≡ any (nameSays header message w) (entriesOf count table)
+    any (nameSays header message w) (drop i (entriesOf count table))
+    ≡ any (nameSays header message w) (entriesOf count table)
 
 abbrev μ-loop : tie.MeasureT-loop
 μ-loop header message table count w i₀ i = count - i

@@ -22,7 +22,9 @@ shared-slice-read-start : tie.Need-shared-slice-read-start
 shared-slice-read-start c = search needs
 
 cast-start : tie.Need-cast-start
-cast-start c = omega (arith, c .shared-slice-known5 .given (c .before .before .before .before .before .args .i * 8 + 1))
+cast-start c =
+    let given = c .before .before .before .before .before .args in
+    omega (arith, c .shared-slice-known5 .given (given .i * 8 + 1))
 
 add-len : tie.Need-add-len
 add-len c = search needs
@@ -34,7 +36,9 @@ shared-slice-read-len : tie.Need-shared-slice-read-len
 shared-slice-read-len c = search needs
 
 cast-len : tie.Need-cast-len
-cast-len c = omega (arith, c .shared-slice-known6 .given (c .before .before .before .before .before .before .args .i * 8 + 2))
+cast-len c =
+    let given = c .before .before .before .before .before .before .args in
+    omega (arith, c .shared-slice-known6 .given (given .i * 8 + 2))
 
 mul-if1 : tie.Need-mul-if1
 mul-if1 c = search needs

@@ -14,7 +14,8 @@ use Rattle.jose.proofs.crit.some_unknown.Tie as tie
 
 abbrev Inv-loop : tie.InvT-loop
 Inv-loop s known at p₀ left₀ p left =
-    any (unknown (names known) s) (elementsFrom s left (p .at)) ≡ any (unknown (names known) s) (elementsAt levels s at)
+    any (unknown (names known) s) (elementsFrom s left (p .at))
+    ≡ any (unknown (names known) s) (elementsAt levels s at)
 
 abbrev μ-loop : tie.MeasureT-loop
 μ-loop s known at p₀ left₀ p left = left

@@ -41,8 +41,9 @@ some-misplaced-requires c κs = search needs
 returns-4 : tie.Need-returns-4
 unfolding wrongCrit
 returns-4 c =
+    let one = c .before .before .before .before .before in
     simp (
-      sym (c .before .before .before .before .before .before .empty .ensures) ∙ c .before .before .before .before .before .if1 .left,
+      sym (one .before .empty .ensures) ∙ one .if1 .left,
       sym (c .before .before .before .before .some-unknown .ensures) ∙ c .before .before .before .if2 .left,
       sym (c .before .before .twice .ensures) ∙ c .before .if3 .left,
     )

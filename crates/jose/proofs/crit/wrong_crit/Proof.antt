@@ -24,7 +24,9 @@ loop-holds : tie.Need-loop-holds Inv-loop μ-loop
 loop-holds c = refl
 
 critical-requires : tie.Need-critical-requires Inv-loop μ-loop
-critical-requires c κs = (c .before .before .before .before .before .before .pre .0, (c .before .before .before .before .before .before .pre .1, omega arith))
+critical-requires c κs =
+    let given = c .before .before .before .before .before .before .pre in
+    (given .0, (given .1, omega arith))
 
 returns : tie.Need-returns Inv-loop μ-loop
 returns c =
