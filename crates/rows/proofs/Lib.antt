@@ -4,3 +4,7 @@ pub mod Entries
 pub mod Asking
 -- Comparing fingerprints first changes no answer.
 pub mod Printing
+-- For `collect`: entries of rows.
+pub mod Collecting
+-- Numbers copied, and entries laid out.
+pub mod Copying
