@@ -1,0 +1,2 @@
+-- Faults of components.
+pub mod Faults
