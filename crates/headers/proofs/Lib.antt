@@ -1,2 +1,6 @@
 -- Faults of components.
 pub mod Faults
+-- A bound that is asked either way.
+pub mod Bounds
+-- The text of a protected header.
+pub mod Texts
