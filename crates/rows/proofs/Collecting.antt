@@ -133,24 +133,26 @@ module _ (ms : List Member) (count : ℕ) (answered : Rows count ≡ rows.collec
     all-laid : all ≡ written 0 (rows.flat ms) before
     all-laid = laid ∙ ap (λ (l : List Member). written 0 (rows.flat l) before) (take-all 32 ms (few-counted .0))
 
-    pub members-laid : membersOf count all ≡ ms
+    pub rows-laid : take (count * 5) all ≡ rows.flat ms
+    rows-laid =
+        begins (count * 5) (rows.flat ms) all before (table.flat-length ms ∙ omega (arith, few-counted .1)) all-laid
+
+    members-laid : membersOf count all ≡ ms
     unfolding written
     members-laid = ap₂ membersOf (sym (few-counted .1)) all-laid ∙ members-flat ms _
 
-    pub rows-laid : take (count * 5) all ≡ rows.flat ms
-    rows-laid =
-        begins (count * 5) (rows.flat ms) all before
-        (table.flat-length ms ∙ omega (arith, few-counted .1)) all-laid
-
-  -- The table then has their entries.
-  pub entries-collected : (names : List (List ℕ)) (s : List ℕ) (o from : ℕ) (before : List ℕ) →
-      written (from * 8) (flat (entriesIn names s o ms)) before ≡ collectedTable from (entriesIn names s o ms) before
-  unfolding collectedTable entriesIn
-  entries-collected names s o from before =
-      let fits : length (entriesIn names s o ms) ≤ 32 =
-      omega (arith, few-counted .0, length-map ms (entryOf names s o)) in
-      sym (ap (λ (b : Bool). cond b (written (from * 8) (flat (entriesIn names s o ms)) before) before)
-      (le-leb (length (entriesIn names s o ms)) 32 fits))
+    -- A table in which the entries of the rows were written has those of the members.
+    pub entries-collected : (names : List (List ℕ)) (s : List ℕ) (o from : ℕ) (t last : List ℕ) →
+        last ≡ written (from * 8) (flat (entriesIn names s o (membersOf count all))) t →
+        last ≡ collectedTable from (entriesIn names s o ms) t
+    unfolding collectedTable entriesIn
+    entries-collected names s o from t last e =
+        let fits : length (entriesIn names s o ms) ≤ 32 =
+        omega (arith, few-counted .0, length-map ms (entryOf names s o)) in
+        e
+        ∙ ap (λ (l : List Member). written (from * 8) (flat (entriesIn names s o l)) t) members-laid
+        ∙ sym (ap (λ (b : Bool). cond b (written (from * 8) (flat (entriesIn names s o ms)) t) t)
+        (le-leb (length (entriesIn names s o ms)) 32 fits))
 
 -- Where there are more the table is as it was.
 pub none-collected : (ms : List Member) → More ≡ rows.collectedOf ms → (names : List (List ℕ)) (s : List ℕ) (o from : ℕ)

@@ -1,19 +1,15 @@
 -- `collect` lays the members' rows flat and then writes their entries; the rows' numbers are within the text, so that
 -- they fit the table.
-use Prim.Native.Nat.{_*_, _<_}
-use mathlib.Core.Path.{ap, sym, subst, _∙_}
-use mathlib.Core.List.{List}
+use Prim.Native.Nat.{_<_}
+use mathlib.Core.Path.{sym, subst, _∙_}
 use native.Mathlib.Omega.{arith}
 use lib.ListN.{length}
 use borrow.Author.Needs.{needs}
-use Rattle.prelude.specs.Buffer.{AllBelow, written}
+use Rattle.prelude.specs.Buffer.{AllBelow}
 use Rattle.names.specs.Names.{names}
-use Rattle.json.specs.Places.{Member}
 use Rattle.json.specs.Reader.{membersAt}
 use Rattle.json.proofs.Within.{members-below}
-use Rattle.rows.specs.Rows.{Entry, entriesIn}
-use Rattle.rows.specs.Tables.{flat}
-use Rattle.rows.proofs.Collecting.{few, members-laid, rows-laid, entries-collected, none-collected}
+use Rattle.rows.proofs.Collecting.{few, rows-laid, entries-collected, none-collected}
 use Rattle.rows.proofs.collect.collect.Statement.{statement}
 use Rattle.rows.proofs.collect.collect.Tie as tie
 
@@ -74,13 +70,10 @@ returns-2 c =
     let text = args .text .now in
     let ms = membersAt 12 text (args .at) in
     let list = names (args .list .now) in
-    let told = sym (got .1) ∙ rows .ensures .0 in
-    let laid = members-laid ms (got .0 .0) told _ _ (rows .ensures .1) in
-    let entries : List Member → List Entry = entriesIn list text (args .origin) in (
+    let told = sym (got .1) ∙ rows .ensures .0 in (
       told,
-      c .before .before .fill .ensures
-          ∙ ap (λ (l : List Member). written (args .from * 8) (flat (entries l)) (args .table .now)) laid
-          ∙ entries-collected ms (got .0 .0) told list text (args .origin) (args .from) (args .table .now),
+      entries-collected ms (got .0 .0) told _ _ (rows .ensures .1) list text (args .origin) (args .from)
+          (args .table .now) _ (c .before .before .fill .ensures),
     )
 
 pub collect-spec : {M : Type 1} → statement M

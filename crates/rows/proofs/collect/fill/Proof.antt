@@ -27,9 +27,10 @@ loop-holds : tie.Need-loop-holds Inv-loop μ-loop
 loop-holds c =
     let start = c .before .before .before .before in
     let args = start .args in
-    let list = names (args .list .now) in (
+    let list = names (args .list .now) in
+    let table = args .table .now in (
       omega arith,
-      entries-begin list (args .text .now) (args .origin) (args .count) (args .rows .now) (args .from) (args .table .now)
+      entries-begin list (args .text .now) (args .origin) (args .count) (args .rows .now) (args .from) table
           (start .pre .1 .1 .1),
     )
 
