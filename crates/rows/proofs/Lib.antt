@@ -6,3 +6,5 @@ pub mod Asking
 pub mod Printing
 -- Numbers copied, and entries laid out.
 pub mod Copying
+-- An entry's text, and the value of the first entry of a name.
+pub mod Values
