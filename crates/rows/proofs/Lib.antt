@@ -8,3 +8,5 @@ pub mod Printing
 pub mod Copying
 -- An entry's text, and the value of the first entry of a name.
 pub mod Values
+-- Names compared where their fingerprints are one.
+pub mod Clashing
