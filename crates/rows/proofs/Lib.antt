@@ -8,3 +8,7 @@ pub mod Printing
 pub mod Collecting
 -- Numbers copied, and entries laid out.
 pub mod Copying
+-- An entry's text, and the value of the first entry of a name.
+pub mod Values
+-- Names compared where their fingerprints are one.
+pub mod Clashing
