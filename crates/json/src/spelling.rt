@@ -7,7 +7,8 @@ ghost use lib.ListN.{length, drop, getD};
 ghost use Rattle.json.specs.Strings.{hexDigit, escapePoint, combined, unit, isHigh};
 ghost use Rattle.json.specs.Spellings.{undo, equal, alike, has, mixed, fingerprintFrom, fingerprint};
 ghost use Rattle.json.specs.Utf8.{sixBits, encode};
-ghost use Rattle.json.specs.Cursors.{undoAt, rest, told, Falls, cursor, octet, pendingOf, encoded, hexBase, mixedAt, whole};
+ghost use Rattle.json.specs.Cursors.{undoAt, rest, told, Falls, cursor, octet, pendingOf, encoded};
+ghost use Rattle.json.specs.Cursors.{hexBase, mixedAt, whole};
 
 // Where in a spelling we are, between characters: a first half that stands directly before, or 0; and of the code point that
 // the last escape said, how many octets are still to come.
@@ -24,8 +25,8 @@ pub enum Octet {
     End,
 }
 
-// A fingerprint of what a spelling says up to a position between characters, and a first half that stands directly before
-// it, or 0.
+// A fingerprint of what a spelling says up to a position between characters; and a first half that stands directly
+// before it, or 0.
 pub struct Mixed {
     pub value: u32,
     pub at: usize,
@@ -339,6 +340,7 @@ fn mix(h: u32, c: u8) -> u32
     ((h as u64 * 16777619 + c as u64 + 1) % 4294967296) as u32
 }
 
+// A fingerprint at a position.
 fn mixed_at(value: u32, at: usize, half: u32) -> Mixed
     ensures { λ r. ⌜ r ≡ mixedAt value at half ⌝ }
 {

@@ -1,19 +1,19 @@
 -- The JSON serialization (RFC 7516, section 7.2), general and flattened: the parameters of its recipients, and its refusals
 -- in order.
-use mathlib.Core.List.{List, [], _∷_, _++_, flatMap}
+use mathlib.Core.List.{List, [], _∷_, _++_, map, flatMap}
 use mathlib.Core.Bool.{Bool, true, false, cond}
 use Prim.Native.Nat.{ℕ}
 use lib.ListN.{length}
 use lib.Dec.{eqb, leb}
-use Rattle.json.specs.Places.{Member}
+use Rattle.json.specs.Places.{Place, Member}
 use Rattle.rows.specs.Any.{any}
 use Rattle.rows.specs.Rows.{Entry, present, valueOf}
 use Rattle.jose.specs.Refusals.{Test, _if_}
 use Rattle.jose.specs.HeaderRules.{recipientOrder}
-use Rattle.headers.specs.Components.{places, misspelled}
+use Rattle.headers.specs.Components.{misspelled}
 use Rattle.headers.specs.Headers.{headerText, textOrder, outermost, protectedEntries, headerEntries, objectOrder}
-use Rattle.shape.specs.Shape.{protected, unprotected, component, Recipient}
-use Rattle.shape.specs.Recipients.{topEntries, topOrder, elementsOrder, recipientsIn, componentsIn}
+use Rattle.shape.specs.Shape.{protected, unprotected, iv, aad, ciphertext, tag, component, Recipient}
+use Rattle.shape.specs.Recipients.{topEntries, topOrder, elementsOrder, recipientsIn}
 
 -- The parameters of the shared header.
 unfoldable pub sharedEntries : List ℕ → List Entry → List Entry
@@ -27,10 +27,19 @@ ownEntries message r = headerEntries message 2 (r .header)
 unfoldable pub parameters : List ℕ → List ℕ → List Entry → Recipient → List Entry
 parameters header message es r = protectedEntries header ++ (sharedEntries message es ++ ownEntries message r)
 
+-- All components: those of the top level, and the recipients' keys.
+unfoldable pub allPlaces : List Entry → List Recipient → List Place
+allPlaces es rs =
+    component protected es
+    ∷ component iv es
+    ∷ component aad es
+    ∷ component ciphertext es
+    ∷ component tag es
+    ∷ map (λ r. r .key) rs
+
 -- 5 on all components.
 unfoldable pub anyMisspelled : List ℕ → List Entry → Bool
-anyMisspelled message es =
-    any (λ r. any (misspelled message) (places (componentsIn es r))) (recipientsIn message es)
+anyMisspelled message es = any (misspelled message) (allPlaces es (recipientsIn message es))
 
 -- The decoded protected header has no member.
 abbrev pub isHollow : List Member → Bool

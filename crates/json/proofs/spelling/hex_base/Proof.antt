@@ -1,7 +1,6 @@
 -- The code's tests are those of the definition.
 use mathlib.Core.Path.{sym}
 use borrow.Author.Tests.{le-leb, lt-leb}
-use borrow.Author.Needs.{needs}
 use Rattle.json.proofs.spelling.hex_base.Statement.{statement}
 use Rattle.json.proofs.spelling.hex_base.Tie as tie
 

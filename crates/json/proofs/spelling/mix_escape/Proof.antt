@@ -1,15 +1,16 @@
 -- One escape: what comes of it is taken in, and what was taken in with what is to come stays the whole.
 use Prim.Native.Nat.{ℕ, _+_, _≤_, _<_}
-use mathlib.Core.Path.{_≡_, refl, ap, sym, subst, _∙_}
+use mathlib.Core.Path.{_≡_, ap, sym, subst, _∙_}
 use mathlib.Core.List.{List}
 use native.Mathlib.Omega.{arith}
-use lib.ListN.{length}
+use lib.ListN.{length, getD}
 use Rattle.json.specs.Utf8.{encode}
 use Rattle.json.specs.Strings.{escapePoint, combined}
 use Rattle.json.specs.Spellings.{between, mixed, fingerprintFrom}
 use Rattle.json.specs.Cursors.{halfOf, undoAt, whole}
 use Rattle.json.specs.declared.spelling.Mixed.{Mixed}
-use Rattle.json.proofs.Cursors.{undo-end, undo-cut, undo-escape, undo-cut-digits, undo-pair, undo-single, undo-first}
+use Rattle.json.proofs.Cursors.{undo-end, undo-cut, undo-escape, undo-cut-digits, undo-pair, undo-single}
+use Rattle.json.proofs.Cursors.{undo-first}
 use Rattle.json.proofs.Fingerprints.{mixed-next, mixed-more}
 use borrow.Author.Needs.{needs}
 use Rattle.json.proofs.spelling.mix_escape.Statement.{statement}
@@ -70,7 +71,7 @@ returns-2 c =
     let value = c .before .mix .ensures ∙ ap (mixed h) (c .before .before .escape-point .ensures) in
     subst (Done s from) (sym (c .mixed-at2 .ensures)) (
       ap (λ (v : ℕ). fingerprintFrom v (undoAt s 0 (at + 2))) value
-          ∙ mixed-next h (escapePoint (lib.ListN.getD s (at + 1) 0)) (undoAt s 0 (at + 2)) (undoAt s half at) e,
+          ∙ mixed-next h (escapePoint (getD s (at + 1) 0)) (undoAt s 0 (at + 2)) (undoAt s half at) e,
       (omega arith, omega arith),
     )
 
