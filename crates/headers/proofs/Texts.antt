@@ -92,7 +92,7 @@ pub record Begins (header last : List ℕ) (n : ℕ) : Type 0 where
   pub fits : n ≤ length last
   pub front : take n last ≡ header
 
-module _ (header before last : List ℕ) (answer : Decoded) (d : Decoding header before last answer) where
+module _ {header before last : List ℕ} {answer : Decoded} (d : Decoding header before last answer) where
   too-long : hasOctets answer ≡ false → tooLong header ≡ true
   too-long e = cases (tooLong header) (sym (ap hasOctets (d .answered)) ∙ e)
     where
@@ -132,6 +132,11 @@ stage-of : (header : List ℕ) (long bad : Bool) → tooLong header ≡ long →
 unfolding first textOrder
 stage-of header long bad l b = ap₂ (λ (x y : Bool). stageOf (cond x 6 (cond y 7 0)) (length header)) l b
 
+pub refused-6 : {header before last : List ℕ} {answer : Decoded} → Decoding header before last answer →
+    hasOctets answer ≡ false → Refused 6 ≡ stageOf (first (textOrder header)) (length header)
+unfolding stageOf
+refused-6 {header} d e = sym (stage-of header true (unread header) (too-long d e) refl)
+
 -- Whether there is no reading, by the answer.
 abbrev pub noValue : Found → Bool
 noValue (Value end kind) = false
@@ -141,17 +146,13 @@ by-reading : (a : Answer) → noValue (foundOf a) ≡ isNothing a
 by-reading nothing = refl
 by-reading (found e k) = refl
 
-pub refused-6 : (header before last : List ℕ) (answer : Decoded) → Decoding header before last answer →
-    hasOctets answer ≡ false → Refused 6 ≡ stageOf (first (textOrder header)) (length header)
-unfolding stageOf
-refused-6 header before last answer d e =
-    sym (stage-of header true (unread header) (too-long header before last answer d e) refl)
-
-module _ (header last : List ℕ) (n : ℕ) (b : Begins header last n) (answer : Found)
+module _ {header last : List ℕ} {n : ℕ} (b : Begins header last n) {answer : Found}
     (a : answer ≡ foundOf (readText 12 (take n last))) where
   unread-is : unread header ≡ noValue answer
   unfolding unread
-  unread-is = sym (ap noValue (a ∙ ap (λ (s : List ℕ). foundOf (readText 12 s)) (b .front)) ∙ by-reading (readText 12 header))
+  unread-is =
+      sym (ap noValue (a ∙ ap (λ (s : List ℕ). foundOf (readText 12 s)) (b .front))
+      ∙ by-reading (readText 12 header))
 
   pub refused-7 : noValue answer ≡ true → Refused 7 ≡ stageOf (first (textOrder header)) (length header)
   unfolding stageOf
