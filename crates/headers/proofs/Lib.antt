@@ -4,3 +4,5 @@ pub mod Faults
 pub mod Bounds
 -- The text of a protected header.
 pub mod Texts
+-- The members of an object as entries.
+pub mod Objects
