@@ -1,0 +1,4 @@
+-- The first test that fails; for crates above.
+pub mod Refusals
+-- For the proofs of the functions.
+pub mod Numbered
