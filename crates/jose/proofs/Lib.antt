@@ -2,3 +2,4 @@
 pub mod Refusals
 -- For the proofs of the functions.
 pub mod Numbered
+pub mod Asked

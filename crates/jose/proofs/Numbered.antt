@@ -9,12 +9,13 @@ use lib.ListN.{length, getD}
 use types.Run.{OneOf}
 use denote.Enum.Declared.{tagOf}
 use mathlib.Core.Logic.{inl, inr}
-use Rattle.jose.specs.Algorithms.{algs, nth}
+use Rattle.jose.specs.Algorithms.{algs, mode, nth, modeOf, namedAlg}
 use Rattle.jose.specs.declared.algorithms.Alg.{Alg}
 use Rattle.jose.specs.declared.algorithms.Alg.the-variants.{Rsa15, RsaOaep, RsaOaep256, A128Kw, A192Kw, A256Kw}
 use Rattle.jose.specs.declared.algorithms.Alg.the-variants.{A128GcmKw, A192GcmKw, A256GcmKw, Pbes2A128Kw}
 use Rattle.jose.specs.declared.algorithms.Alg.the-variants.{Pbes2A192Kw, Pbes2A256Kw, EcdhEs, EcdhEsA128Kw}
 use Rattle.jose.specs.declared.algorithms.Alg.the-variants.{EcdhEsA192Kw, EcdhEsA256Kw, Dir}
+use Rattle.jose.specs.declared.algorithms.NamedAlg.the-variants as named-alg
 use Rattle.jose.proofs.algorithms.Alg.{the-type}
 
 module _ {A : Type 0} where
@@ -35,6 +36,16 @@ module _ {A : Type 0} where
   nth-suc [] k d h = absurd (not-suc-le-zero h)
   nth-suc (x ∷ xs) zero d h = refl
   nth-suc (x ∷ xs) (suc k) d h = nth-suc xs k d (le-of-suc-le-suc h)
+
+-- The mode of what is named
+
+pub unlisted-mode : (o : Option Alg) → named-alg.Unlisted ≡ namedAlg o → 0 ≡ modeOf o
+unlisted-mode none e = refl
+unlisted-mode (some b) e = let z : _≡_ {A = ℕ} 0 1 = cc in absurd (omega arith)
+
+pub listed-mode : (o : Option Alg) (a : Alg) → named-alg.Alg a ≡ namedAlg o → mode a ≡ modeOf o
+listed-mode none a e = let z : _≡_ {A = ℕ} 0 1 = cc in absurd (omega arith)
+listed-mode (some b) a e = let same : a ≡ b = cc in ap mode same
 
 -- The number of a variant, counted from 0.
 abbrev pub tag : Alg → ℕ

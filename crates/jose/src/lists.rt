@@ -26,6 +26,19 @@ pub const REGISTERED: [u8; 86] = *b"\x14\
     p2s\
     p2c";
 
+// The numbers of those that the rules name, counted from 1; ZIP is the compression parameter.
+pub const ALG: u32 = 1;
+
+pub const ENC: u32 = 2;
+
+pub const ZIP: u32 = 3;
+
+pub const JWK: u32 = 5;
+
+pub const X5C: u32 = 8;
+
+pub const CRIT: u32 = 13;
+
 // The values of `alg`.
 pub const ALGS: [u8; 195] = *b"\x11\
     \x06\x08\x0c\
