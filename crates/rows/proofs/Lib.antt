@@ -10,3 +10,5 @@ pub mod Copying
 pub mod Values
 -- Names compared where their fingerprints are one.
 pub mod Clashing
+-- For `collect`: entries of rows.
+pub mod Collecting
