@@ -2,3 +2,4 @@ pub mod Any
 pub mod Rows
 pub mod Prints
 pub mod Tables
+pub mod Members

@@ -1,23 +1,39 @@
 // Questions on a table of entries.
 ghost use mathlib.Core.Path.{_≡_};
-ghost use Prim.Native.Nat.{_+_, _*_, _≤_};
-ghost use lib.ListN.{length, drop};
+ghost use Prim.Native.Nat.{_+_, _-_, _*_, _≤_, _<_};
+ghost use lib.ListN.{length, drop, getD};
 ghost use Rattle.rows.specs.Rows.{nameIn, valueIn, present, valueOf};
 ghost use Rattle.rows.specs.Tables.{firstOf, entriesOf};
 use json::member::Place;
+
+// The k-th of an entry's eight numbers.
+pub fn field(table: &[u32], i: usize, k: usize) -> usize
+    requires { ⌜ i * 8 + 8 ≤ length (now table) ⌝ }
+    requires { ⌜ k < 8 ⌝ }
+    ensures { λ r. ⌜ r ≡ getD (drop (i * 8) (now (table .entry))) k 0 ⌝ }
+    ensures { λ r. ⌜ r < 4294967296 ⌝ }
+{
+    table[i * 8 + k] as usize
+}
 
 // The name of an entry as it is spelled: a part of the decoded header or of the message, as its origin says.
 pub fn name<'a>(header: &'a [u8], message: &'a [u8], table: &[u32], i: usize) -> &'a [u8]
     requires { ⌜ i * 8 + 8 ≤ length (now table) ⌝ }
     ensures { λ r. ⌜ now r ≡ nameIn (now (header .entry)) (now (message .entry)) (firstOf (drop (i * 8) (now (table .entry)))) ⌝ }
 {
-    let at = i * 8;
-    let start = table[at + 1] as usize;
-    let len = table[at + 2] as usize;
-    if table[at] == 0 {
+    let start = field(table, i, 1);
+    let len = field(table, i, 2);
+    if field(table, i, 0) == 0 {
         return parts::part(header, start, len);
     }
     parts::part(message, start, len)
+}
+
+// The difference, or 0.
+fn minus(a: usize, b: usize) -> usize
+    ensures { λ r. ⌜ r ≡ a - b ⌝ }
+{
+    if b <= a { a - b } else { 0 }
 }
 
 // Its value, a string, without quotation marks, likewise.
@@ -25,13 +41,13 @@ pub fn value<'a>(header: &'a [u8], message: &'a [u8], table: &[u32], i: usize) -
     requires { ⌜ i * 8 + 8 ≤ length (now table) ⌝ }
     ensures { λ r. ⌜ now r ≡ valueIn (now (header .entry)) (now (message .entry)) (firstOf (drop (i * 8) (now (table .entry)))) ⌝ }
 {
-    let at = i * 8;
-    let start = table[at + 3] as usize + 1;
-    let len = minus(table[at + 4] as usize, 2);
-    if table[at] == 0 {
-        return parts::part(header, start, len);
+    let begin = field(table, i, 3) + 1;
+    let size = minus(field(table, i, 4), 2);
+    let origin = field(table, i, 0);
+    if origin == 0 {
+        return parts::part(header, begin, size);
     }
-    parts::part(message, start, len)
+    parts::part(message, begin, size)
 }
 
 // Whether one of the first entries has the n-th of the names.
@@ -41,7 +57,7 @@ pub fn present(table: &[u32], count: usize, n: u32) -> bool
 {
     let mut i: usize = 0;
     while i < count {
-        if table[i * 8 + 6] == n {
+        if field(table, i, 6) == n as usize {
             return true;
         }
         i += 1;
@@ -55,15 +71,15 @@ pub fn value_of(table: &[u32], count: usize, n: u32) -> Place
     ensures { λ r. ⌜ r .start ≡ valueOf n (entriesOf count (now (table .entry))) .start ⌝ }
     ensures { λ r. ⌜ r .len ≡ valueOf n (entriesOf count (now (table .entry))) .size ⌝ }
 {
-    let mut i: usize = 0;
-    while i < count {
-        if table[i * 8 + 6] == n {
+    let mut j: usize = 0;
+    while j < count {
+        if field(table, j, 6) == n as usize {
             return Place {
-                start: table[i * 8 + 3] as usize,
-                len: table[i * 8 + 4] as usize,
+                start: field(table, j, 3),
+                len: field(table, j, 4),
             };
         }
-        i += 1;
+        j += 1;
     }
     Place { start: 0, len: 0 }
 }

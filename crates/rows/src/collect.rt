@@ -2,20 +2,76 @@
 ghost use mathlib.Core.Path.{_≡_};
 ghost use mathlib.Core.Bool.{true};
 ghost use Prim.Native.Nat.{_+_, _*_, _≤_};
-ghost use lib.ListN.{length};
+ghost use lib.ListN.{length, take};
+ghost use Rattle.prelude.specs.Buffer.{AllBelow, written};
 ghost use Rattle.names.specs.Names.{names, filled};
 ghost use Rattle.json.specs.Reader.{membersAt};
 ghost use Rattle.json.specs.Members.{collectedOf};
-ghost use Rattle.rows.specs.Rows.{entriesIn};
-ghost use Rattle.rows.specs.Tables.{collectedTable};
-use json::member::Collected;
+ghost use Rattle.rows.specs.Rows.{entryOf, entriesIn};
+ghost use Rattle.rows.specs.Tables.{eight, flat, collectedTable};
+ghost use Rattle.rows.specs.Members.{firstMember, membersOf};
 use json::Position;
+use json::member::Collected;
 
-// The members of the object at a position of a text of at most 16 MiB, as entries of the table from the entry `from` on; the
-// table is as it was where they are more than 32. `list` is the names that are counted.
-pub fn collect(text: &[u8], at: usize, origin: u32, list: &[u8], table: &mut [u32], from: usize) -> Collected
+// The entry of a member, of which `row` has the five numbers, written from a position of the table on.
+fn put(text: &[u8], origin: u32, list: &[u8], row: &[usize], table: &mut [u32], at: usize)
+    requires { ⌜ filled (now list) ≡ true ⌝ }
+    requires { ⌜ length (now row) ≡ 5 ⌝ }
+    requires { ⌜ AllBelow 4294967296 (now row) ⌝ }
+    requires { ⌜ at + 8 ≤ length (now table) ⌝ }
+    ensures { λ _. ⌜ now (table .exit) ≡ written at (eight (entryOf (names (now (list .entry))) (now (text .entry)) origin (firstMember (now (row .entry))))) (now (table .entry)) ⌝ }
+{
+    let start = row[0];
+    let len = row[1];
+    let name = parts::part(text, start, len);
+    let number = names::find(list, name);
+    let print = json::spelling::fingerprint(name);
+    table[at] = origin;
+    table[at + 1] = start as u32;
+    table[at + 2] = len as u32;
+    table[at + 3] = row[2] as u32;
+    table[at + 4] = row[3] as u32;
+    table[at + 5] = row[4] as u32;
+    table[at + 6] = number;
+    table[at + 7] = print;
+}
+
+// The entries of the first members of some rows, written from the entry `from` of the table on.
+fn fill(
+    text: &[u8],
+    origin: u32,
+    list: &[u8],
+    rows: &[usize],
+    count: usize,
+    table: &mut [u32],
+    from: usize,
+)
+    requires { ⌜ filled (now list) ≡ true ⌝ }
+    requires { ⌜ count * 5 ≤ length (now rows) ⌝ }
+    requires { ⌜ AllBelow 4294967296 (take (count * 5) (now rows)) ⌝ }
+    requires { ⌜ from * 8 + count * 8 ≤ length (now table) ⌝ }
+    ensures { λ _. ⌜ now (table .exit) ≡ written (from * 8) (flat (entriesIn (names (now (list .entry))) (now (text .entry)) origin (membersOf count (now (rows .entry))))) (now (table .entry)) ⌝ }
+{
+    let mut i: usize = 0;
+    while i < count {
+        let start = i * 5;
+        let end = start + 5;
+        put(text, origin, list, &rows[start..end], table, (from + i) * 8);
+        i += 1;
+    }
+}
+
+// The members of the object at a position of a text of at most 16 MiB, as entries of the table from the entry `from`
+// on; the table is as it was where they are more than 32. `list` is the names that are counted.
+pub fn collect(
+    text: &[u8],
+    at: usize,
+    origin: u32,
+    list: &[u8],
+    table: &mut [u32],
+    from: usize,
+) -> Collected
     requires { ⌜ length (now text) ≤ 16777216 ⌝ }
-    requires { ⌜ at ≤ length (now text) ⌝ }
     requires { ⌜ filled (now list) ≡ true ⌝ }
     requires { ⌜ from * 8 + 256 ≤ length (now table) ⌝ }
     ensures { λ r. ⌜ r ≡ collectedOf (membersAt 12 (now (text .entry)) at) ⌝ }

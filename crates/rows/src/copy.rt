@@ -1,9 +1,9 @@
 // Entries copied, and the list that is handed out.
 ghost use mathlib.Core.Path.{_≡_};
 ghost use Prim.Native.Nat.{_+_, _*_, _≤_};
-ghost use lib.ListN.{length};
+ghost use lib.ListN.{length, drop};
 ghost use Rattle.prelude.specs.Buffer.{written};
-ghost use Rattle.rows.specs.Tables.{listed, entriesOf};
+ghost use Rattle.rows.specs.Tables.{six, listed, firstOf, entriesOf};
 
 // Numbers copied into a table from a position on.
 pub fn copy(from: &[u32], into: &mut [u32], at: usize)
@@ -22,11 +22,22 @@ pub fn copy_octets(from: &[u8], into: &mut [u8], at: usize)
     requires { ⌜ at + length (now from) ≤ length (now into) ⌝ }
     ensures { λ _. ⌜ now (into .exit) ≡ written at (now (from .entry)) (now (into .entry)) ⌝ }
 {
-    let mut k: usize = 0;
-    while k < from.len() {
-        into[at + k] = from[k];
-        k += 1;
+    let mut j: usize = 0;
+    while j < from.len() {
+        into[at + j] = from[j];
+        j += 1;
     }
+}
+
+// One entry's six numbers of the list, which are the first of its eight in the table.
+fn lay_one(table: &[u32], i: usize, list: &mut [u32])
+    requires { ⌜ i * 8 + 8 ≤ length (now table) ⌝ }
+    requires { ⌜ i * 6 + 6 ≤ length (now list) ⌝ }
+    ensures { λ _. ⌜ now (list .exit) ≡ written (i * 6) (six (firstOf (drop (i * 8) (now (table .entry))))) (now (list .entry)) ⌝ }
+{
+    let start = i * 8;
+    let end = start + 6;
+    copy(&table[start..end], list, i * 6);
 }
 
 // The first entries laid out as document 01's list: six numbers each, at the start of the list.

@@ -1,0 +1,61 @@
+-- A list copied into a buffer element by element, whatever its elements' width, and entries laid out one after the
+-- other: what is still to come is the list from the next element on.
+use mathlib.Core.Path.{_≡_, refl, ap, sym, subst, _∙_}
+use mathlib.Core.List.{List}
+use Prim.Native.Nat.{ℕ, _+_, _-_, _*_, _≤_, _<_}
+use native.Mathlib.Nat.{add-zero}
+use native.Mathlib.Omega.{arith}
+use lib.ListN.{length, take, drop, getD, set, length-drop, drop-of-length-le}
+use lib.Seq.{take-take}
+use Rattle.prelude.specs.Buffer.{written}
+use Rattle.prelude.proofs.Lists.{drop-next}
+use Rattle.prelude.proofs.Writing.{Writing, begin, put, put-part, done}
+use Rattle.rows.specs.Rows.{Entry}
+use Rattle.rows.specs.Tables.{six, flat, listed, firstOf, entriesOf}
+use Rattle.rows.proofs.Entries.{listed-length, entries-length, flat-of, entry-at, entries-done}
+
+pub copy-begins : (at : ℕ) (s before : List ℕ) → at + length s ≤ length before → Writing at s before (drop 0 s) (at + 0) before
+copy-begins at s before h = rw (add-zero at) (begin at s before h)
+
+module _ {at : ℕ} {s before now : List ℕ} {k : ℕ} (w : Writing at s before (drop k s) (at + k) now) where
+  pub copy-turn : k < length s → Writing at s before (drop (k + 1) s) (at + (k + 1)) (set now (at + k) (getD s k 0))
+  copy-turn h =
+      put (getD s k 0) (at + (k + 1)) (omega arith)
+      (subst (λ (l : List ℕ). Writing at s before l (at + k) now) (drop-next s k (k + 1) refl h) w)
+
+  pub copied : length s ≤ k → now ≡ written at s before
+  copied h = done (subst (λ (l : List ℕ). Writing at s before l (at + k) now) (drop-of-length-le s h) w)
+
+-- The part of a table that is an entry's first six numbers.
+pub six-part : (t : List ℕ) (start : ℕ) → start + 8 ≤ length t
+    → take (start + 6 - start) (drop start t) ≡ six (firstOf (drop start t))
+unfolding flat entriesOf
+six-part t start h =
+    let six-long : start + 6 - start ≡ 6 = omega arith in
+    let entry = drop start t in
+    ap (λ (n : ℕ). take n entry) six-long ∙ sym (take-take 6 8 entry (omega arith))
+    ∙ ap (take 6) (sym (flat-of 1 entry (omega (arith, h, length-drop start t))))
+
+-- Entries of a table laid out into a list.
+module _ (t : List ℕ) (count : ℕ) (before : List ℕ) where
+  -- The list has those before the i-th.
+  abbrev pub Laid : ℕ → List ℕ → Type 0
+  Laid i now = Writing 0 (listed (entriesOf count t)) before (listed (drop i (entriesOf count t))) (i * 6) now
+
+  pub lay-begins : count * 6 ≤ length before → Laid 0 before
+  lay-begins h =
+      begin 0 (listed (entriesOf count t)) before
+      (omega (arith, h, listed-length (entriesOf count t), entries-length count t))
+
+  pub lay-turn : (i : ℕ) (now next : List ℕ) → i < count → Laid i now
+      → next ≡ written (i * 6) (six (firstOf (drop (i * 8) t))) now → Laid (i + 1) next
+  unfolding listed
+  lay-turn i now next h w e =
+      put-part (six (firstOf (drop (i * 8) t))) (listed (drop (i + 1) (entriesOf count t)))
+      (ap listed (entry-at i count t h)) w (omega arith) e
+
+  pub laid : (i : ℕ) (now : List ℕ) → count ≤ i → Laid i now → now ≡ written 0 (listed (entriesOf count t)) before
+  unfolding listed
+  laid i now h w =
+      done (subst (λ (l : List Entry). Writing 0 (listed (entriesOf count t)) before (listed l) (i * 6) now)
+      (entries-done i count t h) w)
