@@ -3,3 +3,6 @@ pub mod Refusals
 -- For the proofs of the functions.
 pub mod Numbered
 pub mod Asked
+pub mod Elements
+pub mod InTable
+pub mod Walks

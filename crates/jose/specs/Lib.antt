@@ -2,3 +2,5 @@ pub mod Algorithms
 pub mod Registered
 pub mod Refusals
 pub mod HeaderRules
+pub mod Elements
+pub mod Judged

@@ -1,10 +1,12 @@
 -- Fingerprints as the code makes them, octet by octet; and what they say: strings that say the same have equal ones.
 use mathlib.Core.Path.{_≡_, refl, ap, sym, subst}
 use mathlib.Core.Bool.{Bool, true, false}
-use mathlib.Core.List.{List, [], _∷_}
-use Prim.Native.Nat.{ℕ, _+_, _<_}
+use mathlib.Core.List.{List, [], _∷_, _++_}
+use Prim.Native.Nat.{ℕ, _+_, _/_, _≤_, _<_}
 use lib.ListN.{length, getD}
 use lib.Dec.{T}
+use borrow.Author.Tests.{le-leb, lt-leb}
+use Rattle.json.specs.Utf8.{sixBits, encode}
 use Rattle.json.specs.Spellings.{undo, alike, has, mixed, fingerprintFrom, fingerprint}
 use Rattle.json.specs.Cursors.{undoAt}
 use Rattle.json.proofs.Cursors.{undo-plain}
@@ -25,6 +27,35 @@ pub mixed-plain : (s : List ℕ) (half at h : ℕ) → at < length s → (getD s
     fingerprintFrom (mixed h (getD s at 0)) (undoAt s 0 (at + 1)) ≡ fingerprintFrom h (undoAt s half at)
 mixed-plain s half at h i n =
     mixed-next h (getD s at 0) (undoAt s 0 (at + 1)) (undoAt s half at) (undo-plain s half at i n)
+
+-- The octets of a code point n, one after the other.
+module _ (h n : ℕ) where
+  pub point-one : n ≤ 127 → mixed h n ≡ fingerprintFrom h (encode n)
+  unfolding fingerprintFrom encode
+  point-one a = sym (simp (le-leb n 127 a))
+
+  module _ (a : 127 < n) where
+    pub point-two : n ≤ 2047 → mixed (mixed h (192 + n / 64)) (sixBits n) ≡ fingerprintFrom h (encode n)
+    unfolding fingerprintFrom encode
+    point-two b = sym (simp (lt-leb n 127 a, le-leb n 2047 b))
+
+    module _ (b : 2047 < n) where
+      pub point-three : n ≤ 65535 →
+          mixed (mixed (mixed h (224 + n / 4096)) (sixBits (n / 64))) (sixBits n) ≡ fingerprintFrom h (encode n)
+      unfolding fingerprintFrom encode
+      point-three c = sym (simp (lt-leb n 127 a, lt-leb n 2047 b, le-leb n 65535 c))
+
+      pub point-four : 65535 < n →
+          mixed (mixed (mixed (mixed h (240 + n / 262144)) (sixBits (n / 4096))) (sixBits (n / 64))) (sixBits n)
+          ≡ fingerprintFrom h (encode n)
+      unfolding fingerprintFrom encode
+      point-four c = sym (simp (lt-leb n 127 a, lt-leb n 2047 b, lt-leb n 65535 c))
+
+-- Several octets that are to come.
+pub mixed-more : (h : ℕ) (v w : List ℕ) → fingerprintFrom (fingerprintFrom h v) w ≡ fingerprintFrom h (v ++ w)
+unfolding fingerprintFrom
+mixed-more h [] w = refl
+mixed-more h (c ∷ v) w = mixed-more (mixed h c) v w
 
 -- From the beginning.
 pub mixed-start : (w : List ℕ) → fingerprintFrom 2166136261 (undoAt w 0 0) ≡ fingerprint (undo w)

@@ -31,6 +31,7 @@ pub mod Decide
 -- What the reader answers lies within the text.
 pub mod Endings
 pub mod Within
+pub mod RowPlaces
 -- For the proofs of the functions.
 pub mod Classes
 pub mod Steps

@@ -1,7 +1,9 @@
 -- What it is for places to lie within a text of n octets. proofs/Within.antt shows it of every place that the reader
 -- answers.
 use mathlib.Core.List.{List, [], _∷_}
-use Prim.Native.Nat.{ℕ, _+_, _≤_, _<_}
+use mathlib.Core.Path.{_≡_}
+use Prim.Native.Nat.{ℕ, _+_, _*_, _≤_, _<_}
+use lib.ListN.{getD}
 use Rattle.json.specs.Grammar.{Bracket, curly, square}
 use Rattle.json.specs.Places.{Member, Element}
 
@@ -38,3 +40,14 @@ pub record InsideElement (n : ℕ) (x : Element) : Type 0 where
   pub filled : 1 ≤ x .size
   pub kind : x .kind ≤ 6
   pub marks : x .kind ≤ 2 → 2 ≤ x .size
+
+-- Row k of a table of rows laid flat, and that it stands there.
+pub record RowAt (b : Bracket) (n : ℕ) (ms : List Member) (table : List ℕ) (k : ℕ) : Type 0 where
+  pub row : Member
+  pub is : (d : Member) → getD ms k d ≡ row
+  pub inside : Inside b n row
+  pub nameStart : getD table (k * 5) 0 ≡ row .nameStart
+  pub nameSize : getD table (k * 5 + 1) 0 ≡ row .nameSize
+  pub valueStart : getD table (k * 5 + 2) 0 ≡ row .valueStart
+  pub valueSize : getD table (k * 5 + 3) 0 ≡ row .valueSize
+  pub kind : getD table (k * 5 + 4) 0 ≡ row .kind

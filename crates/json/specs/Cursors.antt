@@ -6,10 +6,15 @@ use Prim.Native.Nat.{ℕ, zero, suc, _+_, _-_, _*_, _/_, _≤_, _<_}
 use lib.ListN.{length, drop}
 use lib.Dec.{leb}
 use Rattle.json.specs.Utf8.{sixBits}
-use Rattle.json.specs.Spellings.{between, undoFrom}
+use Rattle.json.specs.Spellings.{between, undoFrom, fingerprintFrom}
 use Rattle.json.specs.declared.spelling.Cursor.{Cursor}
+use Rattle.json.specs.declared.spelling.Mixed.{Mixed}
 use Rattle.json.specs.declared.spelling.Octet.{Octet}
 use Rattle.json.specs.declared.spelling.Octet.the-variants.{Next, End}
+
+-- What is taken off an octet for its value as a hexadecimal digit.
+abbrev pub hexBase : ℕ → ℕ
+hexBase c = cond (leb c 57) 48 (cond (leb c 70) 55 87)
 
 -- A first half that stands before; 0 where there is none.
 abbrev pub halfOf : ℕ → Option ℕ
@@ -70,3 +75,12 @@ pendingOctet at half n (suc (suc (suc k))) = octet (sixBits (n / 4096)) at half 
 
 abbrev pub pendingOf : Cursor → Octet
 pendingOf p = pendingOctet (p .at) (p .half) (p .point) (p .left)
+
+-- Fingerprints on the way
+
+abbrev pub mixedAt : ℕ → ℕ → ℕ → Mixed
+mixedAt value at half = record { value = value; at = at; half = half }
+
+-- That of the whole: what is to come, taken in.
+abbrev pub whole : List ℕ → Mixed → ℕ
+whole s m = fingerprintFrom (m .value) (undoAt s (m .half) (m .at))

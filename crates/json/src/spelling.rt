@@ -3,11 +3,12 @@ ghost use mathlib.Core.Bool.{cond};
 ghost use mathlib.Core.Path.{_≡_};
 ghost use Prim.Native.Nat.{_-_, _≤_, _<_};
 ghost use mathlib.Core.Bool.{true, false};
-ghost use lib.ListN.{drop};
+ghost use lib.ListN.{length, drop, getD};
 ghost use Rattle.json.specs.Strings.{hexDigit, escapePoint, combined, unit, isHigh};
 ghost use Rattle.json.specs.Spellings.{undo, equal, alike, has, mixed, fingerprintFrom, fingerprint};
-ghost use Rattle.json.specs.Utf8.{sixBits};
-ghost use Rattle.json.specs.Cursors.{undoAt, rest, told, size, Falls, cursor, octet, pendingOf, encoded};
+ghost use Rattle.json.specs.Utf8.{sixBits, encode};
+ghost use Rattle.json.specs.Cursors.{undoAt, rest, told, Falls, cursor, octet, pendingOf, encoded};
+ghost use Rattle.json.specs.Cursors.{hexBase, mixedAt, whole};
 
 // Where in a spelling we are, between characters: a first half that stands directly before, or 0; and of the code point that
 // the last escape said, how many octets are still to come.
@@ -24,10 +25,12 @@ pub enum Octet {
     End,
 }
 
-// A fingerprint of the octets that come before a cursor.
+// A fingerprint of what a spelling says up to a position between characters; and a first half that stands directly
+// before it, or 0.
 pub struct Mixed {
     pub value: u32,
-    pub place: Cursor,
+    pub at: usize,
+    pub half: u32,
 }
 
 // The difference; 0 where there is none.
@@ -40,17 +43,24 @@ fn less(a: u32, b: u32) -> u32
     a - b
 }
 
+// What is taken off an octet for its value as a hexadecimal digit. By itself it is a choice without a branch.
+fn hex_base(c: u8) -> u32
+    ensures { λ r. ⌜ r ≡ hexBase c ⌝ }
+{
+    if c <= 57 {
+        return 48;
+    }
+    if c <= 70 {
+        return 55;
+    }
+    87
+}
+
 // What an octet says as a hexadecimal digit.
 fn hex_value(c: u8) -> u32
     ensures { λ r. ⌜ (r ≡ hexDigit c) × (r ≤ 168) ⌝ }
 {
-    if c <= 57 {
-        return less(c as u32, 48);
-    }
-    if c <= 70 {
-        return less(c as u32, 55);
-    }
-    less(c as u32, 87)
+    less(c as u32, hex_base(c))
 }
 
 // What four octets say as hexadecimal digits.
@@ -330,18 +340,49 @@ fn mix(h: u32, c: u8) -> u32
     ((h as u64 * 16777619 + c as u64 + 1) % 4294967296) as u32
 }
 
-// Over the octets from a cursor on that stand for themselves.
-fn mix_plain(s: &[u8], p: Cursor, h: u32) -> Mixed
-    requires { ⌜ p .half ≤ 56319 ⌝ }
-    ensures { λ r. ⌜ fingerprintFrom (r .value) (rest (now (s .entry)) (r .place)) ≡ fingerprintFrom h (rest (now (s .entry)) p) ⌝ }
-    ensures { λ r. ⌜ (r .place .half ≤ 56319) × (size (now (s .entry)) (r .place) ≤ size (now (s .entry)) p) ⌝ }
+// A fingerprint at a position.
+fn mixed_at(value: u32, at: usize, half: u32) -> Mixed
+    ensures { λ r. ⌜ r ≡ mixedAt value at half ⌝ }
 {
-    if 0 < p.left {
-        return Mixed { value: h, place: p };
+    Mixed { value, at, half }
+}
+
+// An octet with the lowest six bits taken in.
+fn mix_six(h: u32, n: u32) -> u32
+    ensures { λ r. ⌜ r ≡ mixed h (sixBits n) ⌝ }
+{
+    mix(h, six_bits(n))
+}
+
+// The octets of a code point taken in.
+fn mix_point(h: u32, n: u32) -> u32
+    requires { ⌜ n < 4194304 ⌝ }
+    ensures { λ r. ⌜ r ≡ fingerprintFrom h (encode n) ⌝ }
+{
+    if n <= 127 {
+        return mix(h, n as u8);
     }
-    let mut at = p.at;
-    let mut half = p.half;
-    let mut value = h;
+    if n <= 2047 {
+        let first = mix(h, (192 + n / 64) as u8);
+        return mix_six(first, n);
+    }
+    if n <= 65535 {
+        let first = mix(h, (224 + n / 4096) as u8);
+        return mix_six(mix_six(first, n / 64), n);
+    }
+    let first = mix(h, (240 + n / 262144) as u8);
+    mix_six(mix_six(mix_six(first, n / 4096), n / 64), n)
+}
+
+// Over the octets that stand for themselves.
+fn mix_plain(s: &[u8], from: Mixed) -> Mixed
+    requires { ⌜ from .half ≤ 56319 ⌝ }
+    ensures { λ r. ⌜ whole (now (s .entry)) r ≡ whole (now (s .entry)) from ⌝ }
+    ensures { λ r. ⌜ (r .half ≤ 56319) × (from .at ≤ r .at) × (r .at < length (now (s .entry)) → getD (now (s .entry)) (r .at) 0 ≡ 92) ⌝ }
+{
+    let mut at = from.at;
+    let mut half = from.half;
+    let mut value = from.value;
     while at < s.len() {
         let c = s[at];
         if c == 92 {
@@ -351,31 +392,50 @@ fn mix_plain(s: &[u8], p: Cursor, h: u32) -> Mixed
         half = 0;
         at += 1;
     }
-    Mixed {
-        value,
-        place: Cursor {
-            at,
-            half,
-            point: 0,
-            left: 0,
-        },
+    Mixed { value, at, half }
+}
+
+// Over one escape. Nothing comes of one that is cut off.
+fn mix_escape(s: &[u8], from: Mixed) -> Mixed
+    requires { ⌜ (from .half ≤ 56319) × (from .at < length (now s)) × (getD (now s) (from .at) 0 ≡ 92) ⌝ }
+    ensures { λ r. ⌜ whole (now (s .entry)) r ≡ whole (now (s .entry)) from ⌝ }
+    ensures { λ r. ⌜ (r .half ≤ 56319) × (from .at < r .at) ⌝ }
+{
+    let n = s.len();
+    let at = from.at;
+    let half = from.half;
+    let h = from.value;
+    if n - at < 2 {
+        return mixed_at(h, n, 0);
     }
+    let e = s[at + 1];
+    if e != 117 {
+        return mixed_at(mix(h, escape_point(e)), at + 2, 0);
+    }
+    if n - at < 6 {
+        return mixed_at(h, n, 0);
+    }
+    let u = unit_of(s[at + 2], s[at + 3], s[at + 4], s[at + 5]);
+    let waits = waiting(u);
+    if half != 0 {
+        return mixed_at(mix_point(h, combine(half, u)), at + 6, waits);
+    }
+    if waits == 0 {
+        return mixed_at(mix_point(h, u), at + 6, 0);
+    }
+    mixed_at(h, at + 6, waits)
 }
 
 // A fingerprint of what a spelling says.
 pub fn fingerprint(a: &[u8]) -> u32
     ensures { λ r. ⌜ r ≡ fingerprint (undo (now (a .entry))) ⌝ }
 {
-    let mut p = cursor_at(0);
-    let mut value: u32 = 2166136261;
+    let mut p = mixed_at(2166136261, 0, 0);
     loop {
-        let run = mix_plain(a, p, value);
-        let place = run.place;
-        let x = place.next(a);
-        let Octet::Next(c, after) = x else {
+        let run = mix_plain(a, p);
+        if a.len() <= run.at {
             return run.value;
-        };
-        value = mix(run.value, c);
-        p = after;
+        }
+        p = mix_escape(a, run);
     }
 }

@@ -4,11 +4,11 @@ pub mod Entries
 pub mod Asking
 -- Comparing fingerprints first changes no answer.
 pub mod Printing
+-- For `collect`: entries of rows.
+pub mod Collecting
 -- Numbers copied, and entries laid out.
 pub mod Copying
 -- An entry's text, and the value of the first entry of a name.
 pub mod Values
 -- Names compared where their fingerprints are one.
 pub mod Clashing
--- For `collect`: entries of rows.
-pub mod Collecting

@@ -1,6 +1,5 @@
 -- Members of the objects whose names are compared, as entries: document 01's list entry (origin, the name's place, the
 -- value's place, the kind), which of some names the member has, and a fingerprint of what its name says.
-use mathlib.Core.Path.{_≡_}
 use mathlib.Core.List.{List, [], _∷_, map}
 use mathlib.Core.Bool.{Bool, true, not, _&&_, cond}
 use Prim.Native.Nat.{ℕ, zero, suc, _+_, _-_}
@@ -90,8 +89,3 @@ clash across header message e f =
 
 unfoldable pub clashes : Bool → List ℕ → List ℕ → List Entry → Bool
 clashes across header message es = anyPair (clash across header message) es
-
--- Every entry has the fingerprint of its name; then both questions have one answer.
-abbrev pub Printed : List ℕ → List ℕ → List Entry → Type 0
-Printed header message [] = Unit {0}
-Printed header message (e ∷ es) = (e .print ≡ fingerprint (undo (nameIn header message e))) × Printed header message es

@@ -70,6 +70,7 @@ pub fn value_of(table: &[u32], count: usize, n: u32) -> Place
     requires { ⌜ count * 8 ≤ length (now table) ⌝ }
     ensures { λ r. ⌜ r .start ≡ valueOf n (entriesOf count (now (table .entry))) .start ⌝ }
     ensures { λ r. ⌜ r .len ≡ valueOf n (entriesOf count (now (table .entry))) .size ⌝ }
+    ensures { λ r. ⌜ r .start < 4294967296 ⌝ }
 {
     let mut j: usize = 0;
     while j < count {

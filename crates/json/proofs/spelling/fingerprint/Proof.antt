@@ -1,77 +1,56 @@
--- The fingerprint of a spelling: what was mixed, with what is to come from the cursor, is that of the whole.
-use Prim.Native.Nat.{ℕ, _≤_}
+-- The fingerprint of a spelling: plain octets and escapes in turn, and the whole stays the same.
+use Prim.Native.Nat.{_-_, _≤_}
 use mathlib.Core.Path.{_≡_, refl, ap, sym, subst, _∙_}
 use native.Mathlib.Omega.{arith}
-use Rattle.json.specs.Spellings.{fingerprintFrom}
-use Rattle.json.specs.Cursors.{rest, told, size, Falls}
-use Rattle.json.specs.declared.spelling.Cursor.{Cursor}
-use Rattle.json.proofs.Fingerprints.{mixed-next, mixed-end, mixed-start}
+use lib.ListN.{length}
+use Rattle.json.specs.Spellings.{between}
+use Rattle.json.specs.Cursors.{halfOf, undoAt, whole}
+use Rattle.json.specs.declared.spelling.Mixed.{Mixed}
+use Rattle.json.proofs.Cursors.{undo-end}
+use Rattle.json.proofs.Fingerprints.{mixed-end, mixed-start}
 use borrow.Author.Needs.{needs}
 use Rattle.json.proofs.spelling.fingerprint.Statement.{statement}
 use Rattle.json.proofs.spelling.fingerprint.Tie as tie
 
 abbrev Inv-loop : tie.InvT-loop
-Inv-loop a p₀ value₀ p value = (fingerprintFrom value (rest a p) ≡ fingerprintFrom value₀ (rest a p₀)) × (p .half ≤ 56319)
+Inv-loop a p₀ p = (whole a p ≡ whole a p₀) × (p .half ≤ 56319)
 
 abbrev μ-loop : tie.MeasureT-loop
-μ-loop a p₀ value₀ p value = size a p
+μ-loop a p₀ p = length a - p .at
 
-cursor-at-requires : tie.Need-cursor-at-requires Inv-loop μ-loop
-cursor-at-requires c κs = search needs
+mixed-at-requires : tie.Need-mixed-at-requires Inv-loop μ-loop
+mixed-at-requires c κs = search needs
 
 loop-holds : tie.Need-loop-holds Inv-loop μ-loop
 loop-holds c =
-    let small : Cursor → Type 0 = λ v. v .half ≤ 56319 in
-    (refl, subst small (sym (c .cursor-at .ensures)) (omega arith))
+    let small : Mixed → Type 0 = λ m. m .half ≤ 56319 in
+    (refl, subst small (sym (c .mixed-at .ensures)) (omega arith))
 
 mix-plain-requires : tie.Need-mix-plain-requires Inv-loop μ-loop
 mix-plain-requires c κs = c .loop .inv .1
 
-next-requires : tie.Need-next-requires Inv-loop μ-loop
-next-requires c κs = c .before .mix-plain .ensures .1 .0
-
-enum-known-x : tie.Need-enum-known-x Inv-loop μ-loop
-enum-known-x c = search needs
-
-enum-told : tie.Need-enum-told Inv-loop μ-loop
-enum-told c = search needs
-
 returns : tie.Need-returns Inv-loop μ-loop
 returns c =
-    let a = c .before .before .before .before .before .before .before .before .args .a .now in
-    let loop = c .before .before .before .before .before .loop in
-    let run = c .before .before .before .before .mix-plain in
-    let next = c .before .before .next in
-    let x = c .enum-told .given in
-    let over = ap (told a) (sym (x .1)) ∙ next .ensures .0 in
-    mixed-end (run .result .value) (rest a (run .result .place)) over ∙ run .ensures .0 ∙ loop .inv .0
-    ∙ ap (λ (v : Cursor). fingerprintFrom 2166136261 (rest a v)) (c .before .before .before .before .before .before .cursor-at .ensures)
-    ∙ mixed-start a
+    let a = c .before .before .before .before .before .before .args .a .now in
+    let run = c .before .before .mix-plain in
+    let over = undo-end a (between (halfOf (run .result .half))) (run .result .at) (c .if1 .taken) in
+    mixed-end (run .result .value) (undoAt a (run .result .half) (run .result .at)) (sym over)
+    ∙ run .ensures .0 ∙ c .before .before .before .loop .inv .0
+    ∙ ap (whole a) (c .before .before .before .before .mixed-at .ensures) ∙ mixed-start a
 
-mix-requires : tie.Need-mix-requires Inv-loop μ-loop
-mix-requires c κs = search needs
+mix-escape-requires : tie.Need-mix-escape-requires Inv-loop μ-loop
+mix-escape-requires c κs =
+    let run = c .before .before .mix-plain .ensures .1 in
+    (run .0, c .if1 .left, run .2 (c .if1 .left))
 
 loop-less : tie.Need-loop-less Inv-loop μ-loop
 loop-less c =
-    let a = c .before .before .before .before .before .before .before .before .before .before .args .a .now in
-    let run = c .before .before .before .before .before .before .mix-plain in
-    let next = c .before .before .before .before .next in
-    let x = c .before .before .x .given in
-    let less = subst (Falls a (run .result .place)) (x .1) (next .ensures .1) .1 in
-    omega (arith, run .ensures .1 .1)
+    omega (arith, c .before .before .before .mix-plain .ensures .1 .1, c .mix-escape .ensures .1 .1, c .before .if1 .left)
 
 loop-again : tie.Need-loop-again Inv-loop μ-loop
 loop-again c =
-    let a = c .before .before .before .before .before .before .before .before .before .before .args .a .now in
-    let loop = c .before .before .before .before .before .before .before .loop in
-    let run = c .before .before .before .before .before .before .mix-plain in
-    let next = c .before .before .before .before .next in
-    let x = c .before .before .x .given in
-    let more = ap (told a) (sym (x .1)) ∙ next .ensures .0 in
-    let one = mixed-next (run .result .value) (x .0 .0) (rest a (x .0 .1 .0)) (rest a (run .result .place)) more in (
-      ap (λ (v : ℕ). fingerprintFrom v (rest a (x .0 .1 .0))) (c .mix .ensures) ∙ one ∙ run .ensures .0 ∙ loop .inv .0,
-      subst (Falls a (run .result .place)) (x .1) (next .ensures .1) .0,
-    )
+    let run = c .before .before .before .mix-plain in
+    (c .mix-escape .ensures .0 ∙ run .ensures .0 ∙ c .before .before .before .before .loop .inv .0, c .mix-escape .ensures .1 .0)
 
 pub fingerprint-spec : {M : Type 1} → statement M
 fingerprint-spec =
@@ -79,13 +58,10 @@ fingerprint-spec =
     (tie.spec
     Inv-loop
     μ-loop
-    cursor-at-requires
+    mixed-at-requires
     loop-holds
     mix-plain-requires
-    next-requires
-    enum-known-x
-    enum-told
     returns
-    mix-requires
+    mix-escape-requires
     loop-less
     loop-again)

@@ -1,11 +1,28 @@
--- A hexadecimal digit's value: the code's tests are those of the definition.
-use mathlib.Core.Path.{_≡_, sym, _∙_}
+-- A hexadecimal digit's value: what is taken off it is what the definition takes off.
+use Prim.Native.Nat.{ℕ, _-_, _≤_, _<_}
+use mathlib.Core.Path.{_≡_, refl, ap, _∙_}
+use mathlib.Core.Bool.{Bool, true, false, cond}
 use native.Mathlib.Omega.{arith}
-use borrow.Author.Tests.{le-leb, lt-leb}
+use lib.Dec.{leb}
+use borrow.Author.Tests.{leb-true}
 use Rattle.json.specs.Strings.{hexDigit}
+use Rattle.json.specs.Cursors.{hexBase}
 use borrow.Author.Needs.{needs}
 use Rattle.json.proofs.spelling.hex_value.Statement.{statement}
 use Rattle.json.proofs.spelling.hex_value.Tie as tie
+
+value-is : (c : ℕ) → c < 256 → (c - hexBase c ≡ hexDigit c) × (hexDigit c ≤ 168)
+value-is c l = cases (leb c 57) (leb c 70) (leb-true c 57) (leb-true c 70)
+  where
+    cases : (x y : Bool) → (x ≡ true → c ≤ 57) → (y ≡ true → c ≤ 70) →
+        (c - cond x 48 (cond y 55 87) ≡ cond x (c - 48) (cond y (c - 55) (c - 87)))
+        × (cond x (c - 48) (cond y (c - 55) (c - 87)) ≤ 168)
+    cases true y p q = (refl, omega (arith, p refl))
+    cases false true p q = (refl, omega (arith, q refl))
+    cases false false p q = (refl, omega arith)
+
+hex-base-requires : tie.Need-hex-base-requires
+hex-base-requires c κs = search needs
 
 less-requires : tie.Need-less-requires
 less-requires c κs = search needs
@@ -13,27 +30,9 @@ less-requires c κs = search needs
 returns : tie.Need-returns
 returns c =
     let d = c .before .before .args .c in
-    let e : c .less .result ≡ hexDigit d = c .less .ensures ∙ sym (simp (le-leb d 57 (c .before .if1 .taken))) in
-    (e, omega (arith, c .less .ensures))
-
-less-requires-2 : tie.Need-less-requires-2
-less-requires-2 c κs = search needs
-
-returns-2 : tie.Need-returns-2
-returns-2 c =
-    let d = c .before .before .before .args .c in
-    let e : c .less2 .result ≡ hexDigit d = c .less2 .ensures ∙ sym (simp (lt-leb d 57 (c .before .before .if1 .left), le-leb d 70 (c .before .if2 .taken))) in
-    (e, omega (arith, c .less2 .ensures))
-
-less-requires-3 : tie.Need-less-requires-3
-less-requires-3 c κs = search needs
-
-returns-3 : tie.Need-returns-3
-returns-3 c =
-    let d = c .before .before .before .args .c in
-    let e : c .less3 .result ≡ hexDigit d = c .less3 .ensures ∙ sym (simp (lt-leb d 57 (c .before .before .if1 .left), lt-leb d 70 (c .before .if2 .left))) in
-    (e, omega (arith, c .less3 .ensures))
+    let is = value-is d (search needs) in
+    let e = c .less .ensures ∙ ap (λ (b : ℕ). d - b) (c .before .hex-base .ensures) ∙ is .0 in
+    (e, omega (arith, e, is .1))
 
 pub hex-value-spec : {M : Type 1} → statement M
-hex-value-spec =
-    tie.close (tie.spec less-requires returns less-requires-2 returns-2 less-requires-3 returns-3)
+hex-value-spec = tie.close (tie.spec hex-base-requires less-requires returns)

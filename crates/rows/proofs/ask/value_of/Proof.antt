@@ -39,7 +39,7 @@ returns c =
     let found = value-found (args .n) _ (args .count) (loop .j) (args .table .now) (loop .inv .1)
     (c .before .before .before .before .loop-test .taken) has in (
       c .before .field2 .ensures .0 ∙ ap (λ (p : Place). p .start) found,
-      c .field3 .ensures .0 ∙ ap (λ (p : Place). p .size) found,
+      (c .field3 .ensures .0 ∙ ap (λ (p : Place). p .size) found, c .before .field2 .ensures .1),
     )
 
 add-j : tie.Need-add-j Inv-loop μ-loop
@@ -63,7 +63,7 @@ returns-2 c =
     let args = c .before .before .before .args in
     let loop = c .before .loop in
     let none = value-none (args .n) _ (args .count) (loop .j) (args .table .now) (loop .inv .1) (c .loop-test .left) in
-    (ap (λ (p : Place). p .start) none, ap (λ (p : Place). p .size) none)
+    (ap (λ (p : Place). p .start) none, (ap (λ (p : Place). p .size) none, omega arith))
 
 pub value-of-spec : {M : Type 1} → statement M
 value-of-spec =

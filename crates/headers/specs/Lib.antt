@@ -1,0 +1,4 @@
+pub mod Limits
+pub mod Components
+pub mod Headers
+pub mod Answers

@@ -1,0 +1,74 @@
+// The headers of a message: components checked, the protected header decoded, objects collected as entries.
+ghost use mathlib.Core.Path.{_≡_};
+ghost use mathlib.Core.Bool.{true, false};
+ghost use Prim.Native.Nat.{_+_, _*_, _≤_};
+ghost use lib.ListN.{length};
+ghost use Rattle.names.specs.Names.{names, filled};
+ghost use Rattle.json.specs.Reader.{membersAt};
+ghost use Rattle.rows.specs.Rows.{entriesIn};
+ghost use Rattle.rows.specs.Tables.{collectedTable};
+ghost use Rattle.jose.specs.Refusals.{first};
+ghost use Rattle.headers.specs.Components.{misspelled};
+ghost use Rattle.headers.specs.Headers.{headerText, textOrder, objectOrder};
+ghost use Rattle.headers.specs.Answers.{placeOf, stageOf, headerBuffer};
+use base64url::Checked;
+use base64url::Decoded;
+use json::Found;
+use json::member::Collected;
+use json::member::Place;
+
+// What a stage of judging answers: that it passed, with a number, or document 01's refusal.
+pub enum Stage {
+    Passed(usize),
+    Refused(u32),
+}
+
+// Whether a component is not base64url.
+pub fn misspelled(message: &[u8], place: Place) -> bool
+    ensures { λ r. ⌜ r ≡ misspelled (now (message .entry)) (placeOf place) ⌝ }
+{
+    let checked = base64url::check(parts::part(message, place.start, place.len));
+    let Checked::Sound = checked else {
+        return true;
+    };
+    false
+}
+
+// 8 and 9 on the object at a position of a text: its members as entries of the table from the entry `from` on, and how many
+// they are.
+pub fn object(s: &[u8], at: usize, origin: u32, list: &[u8], table: &mut [u32], from: usize) -> Stage
+    requires { ⌜ length (now s) ≤ 16777216 ⌝ }
+    requires { ⌜ filled (now list) ≡ true ⌝ }
+    requires { ⌜ from * 8 + 256 ≤ length (now table) ⌝ }
+    ensures { λ r. ⌜ r ≡ stageOf (first (objectOrder (now (s .entry)) (entriesIn (names (now (list .entry))) (now (s .entry)) origin (membersAt 12 (now (s .entry)) at)))) (length (membersAt 12 (now (s .entry)) at)) ⌝ }
+    ensures { λ _. ⌜ now (table .exit) ≡ collectedTable from (entriesIn (names (now (list .entry))) (now (s .entry)) origin (membersAt 12 (now (s .entry)) at)) (now (table .entry)) ⌝ }
+{
+    let collected = rows::collect::collect(s, at, origin, list, table, from);
+    let Collected::Rows(count) = collected else {
+        return Stage::Refused(8);
+    };
+    let first = from * 8;
+    if rows::repeat::clashes(s, s, &table[first..], count, false) {
+        return Stage::Refused(9);
+    }
+    Stage::Passed(count)
+}
+
+// 6 and 7 on the protected header, whose encoded text at a place of the message has no fault: it is decoded into the buffer,
+// and how long it is.
+pub fn header(message: &[u8], place: Place, buffer: &mut [u8]) -> Stage
+    requires { ⌜ misspelled (now message) (placeOf place) ≡ false ⌝ }
+    requires { ⌜ length (now buffer) ≡ 4096 ⌝ }
+    ensures { λ r. ⌜ r ≡ stageOf (first (textOrder (headerText (now (message .entry)) (placeOf place)))) (length (headerText (now (message .entry)) (placeOf place))) ⌝ }
+    ensures { λ _. ⌜ now (buffer .exit) ≡ headerBuffer (headerText (now (message .entry)) (placeOf place)) (now (buffer .entry)) ⌝ }
+{
+    let decoded = base64url::decode(parts::part(message, place.start, place.len), buffer);
+    let Decoded::Octets(n) = decoded else {
+        return Stage::Refused(6);
+    };
+    let judged = json::judge(&buffer[..n], 12);
+    let Found::Value(_, _) = judged else {
+        return Stage::Refused(7);
+    };
+    Stage::Passed(n)
+}

@@ -1,0 +1,81 @@
+-- The code's answers.
+use mathlib.Core.Path.{_≡_}
+use mathlib.Core.Bool.{cond}
+use mathlib.Core.List.{List, [], _∷_}
+use Prim.Native.Nat.{ℕ, _<_}
+use lib.ListN.{length}
+use Rattle.prelude.specs.Buffer.{written}
+use Rattle.json.specs.Places as json
+use Rattle.json.specs.declared.member.Place.{Place}
+use Rattle.headers.specs.Components as headers
+use Rattle.headers.specs.Answers.{placeOf}
+use Rattle.rows.specs.Tables.{flat}
+use Rattle.jose.specs.Refusals.{Test, first}
+use Rattle.jwe.specs.Judge.{Outcome, accepted}
+use Rattle.jwe.specs.Compact.{fourStops, compactComponents}
+use Rattle.jwe.specs.declared.Components.{Components}
+use Rattle.jwe.specs.declared.Result.{Result}
+use Rattle.jwe.specs.declared.compact.Split.{Split}
+use Rattle.jwe.specs.declared.compact.Split.the-variants.{Four, Other}
+use Rattle.jwe.specs.declared.judged.Judged.{Judged}
+use Rattle.jwe.specs.declared.judged.Judged.the-variants.{Accepted, Refused}
+
+-- Places and components of the code for those of the definitions, and back.
+
+abbrev pub codePlace : json.Place → Place
+codePlace q = record { start = q .start; len = q .size }
+
+abbrev pub codeComponents : headers.Components → Components
+codeComponents q = record {
+  protected = codePlace (q .protected);
+  key = codePlace (q .key);
+  iv = codePlace (q .iv);
+  aad = codePlace (q .aad);
+  ciphertext = codePlace (q .ciphertext);
+  tag = codePlace (q .tag);
+}
+
+abbrev pub componentsOf : Components → headers.Components
+componentsOf q = record {
+  protected = placeOf (q .protected);
+  key = placeOf (q .key);
+  iv = placeOf (q .iv);
+  aad = placeOf (q .aad);
+  ciphertext = placeOf (q .ciphertext);
+  tag = placeOf (q .tag);
+}
+
+-- A message split at its full stops.
+unfoldable pub splitOf : List ℕ → Split
+splitOf message = cond (fourStops message) (Four (codeComponents (compactComponents message))) Other
+
+-- The eighteen numbers of a result, in document 01's order.
+
+abbrev pub placeNumbers : Place → List ℕ → List ℕ
+placeNumbers q rest = q .start ∷ q .len ∷ rest
+
+abbrev pub numbers : Result → List ℕ
+numbers r =
+    r .number
+    ∷ r .form
+    ∷ r .recipients
+    ∷ r .mode
+    ∷ placeNumbers (r .components .protected)
+      (placeNumbers (r .components .key)
+      (placeNumbers (r .components .iv)
+      (placeNumbers (r .components .aad)
+      (placeNumbers (r .components .ciphertext) (placeNumbers (r .components .tag) (r .header ∷ r .parameters ∷ []))))))
+
+-- A message judged by an order: refused by its first failing test, or accepted with the numbers of its outcome, the decoded
+-- header at the start of the text buffer and the entries at the start of the table.
+abbrev pub Judges : List ℕ → List Test → Outcome → Judged → List ℕ → List ℕ → List ℕ → List ℕ → Type 0
+Judges message order x (Accepted r) text₀ text table₀ table =
+    (first order ≡ 0)
+    × (numbers r ≡ accepted message x)
+    × (text ≡ written 0 (x .header) text₀)
+    × (table ≡ written 0 (flat (x .entries)) table₀)
+Judges message order x (Refused n) text₀ text table₀ table =
+    (first order ≡ n)
+    × (0 < n)
+    × (length text ≡ length text₀)
+    × (length table ≡ length table₀)

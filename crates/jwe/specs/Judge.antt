@@ -1,0 +1,116 @@
+-- The judgement: the refusal of what was lent, and where there is none what is handed out (document 01, 'What the reader
+-- hands out').
+use mathlib.Core.List.{List, [], _∷_, _++_}
+use mathlib.Core.Bool.{Bool, not, _||_, cond}
+use Prim.Native.Nat.{ℕ, zero, suc}
+use lib.ListN.{length}
+use lib.Dec.{eqb, ltb}
+use Rattle.prelude.specs.Buffer.{written}
+use Rattle.names.specs.Names.{names, sound}
+use Rattle.json.specs.Places.{Place}
+use Rattle.json.specs.Reader.{opensObject}
+use Rattle.rows.specs.Rows.{Entry, present}
+use Rattle.rows.specs.Tables.{listed}
+use Rattle.jose.specs.Refusals.{Test, _if_, first}
+use Rattle.jose.specs.HeaderRules.{modeIn}
+use Rattle.headers.specs.Limits.{longest, headerRoom, listRoom}
+use Rattle.headers.specs.Components.{Components}
+use Rattle.headers.specs.Headers.{headerText, protectedEntries}
+use Rattle.shape.specs.Shape.{recipients, Recipient, recipientOf}
+use Rattle.shape.specs.Recipients.{topEntries, recipientsIn, componentsIn}
+use Rattle.jwe.specs.Compact.{compactComponents, compactOrder}
+use Rattle.jwe.specs.General.{parameters, jsonOrder}
+
+-- All refusals in order, of a message, a list of known names, a recipient number and the lengths of the lent outputs.
+unfoldable pub order : List ℕ → List ℕ → ℕ → ℕ → ℕ → List Test
+order message known recipient headerLent listLent =
+    1 if (ltb headerLent headerRoom || ltb listLent listRoom)
+    ∷ 2 if ltb longest (length message)
+    ∷ 3 if not (sound known)
+    ∷ cond (opensObject message)
+      (jsonOrder message (names known) recipient)
+      (compactOrder message (names known) recipient)
+
+unfoldable pub refusal : List ℕ → List ℕ → ℕ → ℕ → ℕ → ℕ
+refusal message known recipient headerLent listLent = first (order message known recipient headerLent listLent)
+
+-- What an accepted message hands out for a recipient.
+pub record Outcome : Type 0 where
+  pub form : ℕ
+  pub recipients : ℕ
+  pub components : Components
+  pub header : List ℕ
+  pub entries : List Entry
+
+unfoldable pub compactOutcome : List ℕ → Outcome
+compactOutcome message =
+    let q = compactComponents message in
+    let header = headerText message (q .protected) in
+    record { form = 0; recipients = 1; components = q; header = header; entries = protectedEntries header }
+
+-- The n-th recipient, counted from 0; the flattened form's, or one without header and key, where there is none.
+unfoldable pub asked : List Recipient → ℕ → Recipient
+asked [] n = recipientOf []
+asked (r ∷ rs) zero = r
+asked (r ∷ rs) (suc n) = asked rs n
+
+unfoldable pub jsonOutcome : List ℕ → ℕ → Outcome
+jsonOutcome message recipient =
+    let es = topEntries message in
+    let rs = recipientsIn message es in
+    let r = asked rs recipient in
+    let q = componentsIn es r in
+    let header = headerText message (q .protected) in
+    record {
+      form = cond (present recipients es) 2 1;
+      recipients = length rs;
+      components = q;
+      header = header;
+      entries = parameters header message es r;
+    }
+
+unfoldable pub outcome : List ℕ → ℕ → Outcome
+outcome message recipient =
+    let j = jsonOutcome message recipient in
+    let c = compactOutcome message in
+    cond (opensObject message) j c
+
+-- The numbers of the result, in document 01's order: number, form, recipient count, mode, the six places, header length,
+-- parameter count. Refused, all but the first are 0.
+abbrev pub place : Place → List ℕ → List ℕ
+place q rest = q .start ∷ q .size ∷ rest
+
+unfoldable pub accepted : List ℕ → Outcome → List ℕ
+accepted message x =
+    0
+    ∷ x .form
+    ∷ x .recipients
+    ∷ modeIn (x .header) message (x .entries)
+    ∷ place (x .components .protected)
+      (place (x .components .key)
+      (place (x .components .iv)
+      (place (x .components .aad)
+      (place (x .components .ciphertext)
+      (place (x .components .tag) (length (x .header) ∷ length (x .entries) ∷ []))))))
+
+unfoldable pub refused : ℕ → List ℕ
+refused n = n ∷ 0 ∷ 0 ∷ 0 ∷ 0 ∷ 0 ∷ 0 ∷ 0 ∷ 0 ∷ 0 ∷ 0 ∷ 0 ∷ 0 ∷ 0 ∷ 0 ∷ 0 ∷ 0 ∷ 0 ∷ []
+
+-- The result, and what the lent header buffer and list hold afterwards.
+
+unfoldable pub result : List ℕ → List ℕ → ℕ → ℕ → ℕ → List ℕ
+result message known recipient headerLent listLent =
+    let n = refusal message known recipient headerLent listLent in
+    cond (eqb n 0) (accepted message (outcome message recipient)) (refused n)
+
+unfoldable pub headerAfter : List ℕ → List ℕ → ℕ → List ℕ → List ℕ → List ℕ
+headerAfter message known recipient buffer list =
+    cond (eqb (refusal message known recipient (length buffer) (length list)) 0)
+    (written 0 (outcome message recipient .header) buffer)
+    buffer
+
+unfoldable pub listAfter : List ℕ → List ℕ → ℕ → List ℕ → List ℕ → List ℕ
+listAfter message known recipient buffer list =
+    cond (eqb (refusal message known recipient (length buffer) (length list)) 0)
+    (written 0 (listed (outcome message recipient .entries)) list)
+    list

@@ -1,0 +1,4 @@
+pub mod Compact
+pub mod General
+pub mod Judge
+pub mod Answers

@@ -1,0 +1,64 @@
+// The compact serialization (RFC 7516, section 7.1).
+ghost use mathlib.Core.Path.{_≡_};
+ghost use mathlib.Core.Bool.{true};
+ghost use Prim.Native.Nat.{_+_, _≤_};
+ghost use lib.ListN.{length};
+ghost use Rattle.names.specs.Names.{names, filled};
+ghost use Rattle.rows.specs.Any.{any};
+ghost use Rattle.headers.specs.Components.{misspelled, places};
+ghost use Rattle.jwe.specs.Compact.{between, compactOrder};
+ghost use Rattle.jwe.specs.Judge.{compactOutcome};
+ghost use Rattle.jwe.specs.Answers.{codePlace, componentsOf, splitOf, Judges};
+use crate::Components;
+use crate::Result;
+use crate::judged::Judged;
+use headers::Stage;
+use json::Position;
+use json::member::Place;
+
+// The components between full stops, or that there are not exactly four full stops.
+pub enum Split {
+    Four(Components),
+    Other,
+}
+
+// What stands between two full stops.
+fn between(a: usize, b: usize) -> Place
+    requires { ⌜ a + 1 ≤ b ⌝ }
+    ensures { λ r. ⌜ r ≡ codePlace (between a b) ⌝ }
+{
+    Place {
+        start: a + 1,
+        len: b - (a + 1),
+    }
+}
+
+// The components of a message.
+pub fn split(message: &[u8]) -> Split
+    requires { ⌜ length (now message) ≤ 16777216 ⌝ }
+    ensures { λ r. ⌜ r ≡ splitOf (now (message .entry)) ⌝ }
+{
+    let n = message.len();
+    let first = parts::seek(message, 0, 46);
+    let second = parts::seek(message, first + 1, 46);
+    let third = parts::seek(message, second + 1, 46);
+    let fourth = parts::seek(message, third + 1, 46);
+    let last = parts::seek(message, fourth + 1, 46);
+    if n <= fourth {
+        return Split::Other;
+    }
+    if last != n {
+        return Split::Other;
+    }
+    Split::Four(Components {
+        protected: Place {
+            start: 0,
+            len: first,
+        },
+        key: between(first, second),
+        iv: between(second, third),
+        aad: Place { start: 0, len: 0 },
+        ciphertext: between(third, fourth),
+        tag: between(fourth, n),
+    })
+}

@@ -1,0 +1,63 @@
+// The reader: from octets to an answer, by document 01's rules in document 01's order.
+ghost use mathlib.Core.Path.{_≡_};
+ghost use lib.ListN.{length};
+ghost use Rattle.jwe.specs.Judge.{result, headerAfter, listAfter};
+ghost use Rattle.jwe.specs.Answers.{numbers};
+use judged::Judged;
+use json::member::Place;
+
+mod compact;
+mod general;
+mod judged;
+
+// The encoded components by their places in the message; 0, 0 where one is absent.
+pub struct Components {
+    pub protected: Place,
+    pub key: Place,
+    pub iv: Place,
+    pub aad: Place,
+    pub ciphertext: Place,
+    pub tag: Place,
+}
+
+// What the reader answers (document 01, 'What the reader hands out').
+pub struct Result {
+    pub number: u32,
+    pub form: u32,
+    pub recipients: usize,
+    pub mode: u32,
+    pub components: Components,
+    pub header: usize,
+    pub parameters: usize,
+}
+
+// Reads a message for a recipient. `known` lists the extension names that the caller knows. Accepted, the header buffer begins
+// with the decoded protected header and the list with six numbers a parameter; both go on as they were. Refused, the
+// result is the refusal's number with zeros, and both are as they were.
+pub fn read(message: &[u8], known: &[u8], recipient: u32, header: &mut [u8], list: &mut [u32]) -> Result
+    ensures { λ r. ⌜ numbers r ≡ result (now (message .entry)) (now (known .entry)) recipient (length (now (header .entry))) (length (now (list .entry))) ⌝ }
+    ensures { λ _. ⌜ now (header .exit) ≡ headerAfter (now (message .entry)) (now (known .entry)) recipient (now (header .entry)) (now (list .entry)) ⌝ }
+    ensures { λ _. ⌜ now (list .exit) ≡ listAfter (now (message .entry)) (now (known .entry)) recipient (now (header .entry)) (now (list .entry)) ⌝ }
+{
+    if header.len() < 4096 {
+        return refused(1);
+    }
+    if list.len() < 576 {
+        return refused(1);
+    }
+    if 16777216 < message.len() {
+        return refused(2);
+    }
+    if !names::sound(known) {
+        return refused(3);
+    }
+    let mut text = [0u8; 4096];
+    let mut table = [0u32; 768];
+    let judged = judge(message, known, recipient, &mut text, &mut table);
+    let Judged::Accepted(result) = judged else {
+        return refusal(judged);
+    };
+    rows::copy::copy_octets(&text[..result.header], header, 0);
+    rows::copy::lay(&table, result.parameters, list);
+    result
+}

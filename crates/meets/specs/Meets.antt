@@ -1,0 +1,180 @@
+-- What a message has to meet (demand 2): the rules of RFC 7516 as document 01 fixes them, over the grammar's trees and leaves
+-- and the encoding. Nothing is searched.
+use mathlib.Core.Path.{_≡_}
+use mathlib.Core.Logic.{_⊎_}
+use mathlib.Core.List.{List, [], _∷_, _++_, map}
+use Prim.Native.Nat.{ℕ, _≤_, _<_}
+use lib.ListN.{length}
+use Rattle.prelude.specs.Ascii.{ascii}
+use Rattle.prelude.specs.Buffer.{AllBelow}
+use Rattle.base64url.specs.Base64url.{encoded}
+use Rattle.names.specs.Names.{listOf, Limited}
+use Rattle.json.specs.Grammar.{Char, Str, leavesChars, Value, string}
+use Rattle.json.specs.Grammar as grammar
+use Rattle.json.specs.Places.{kind}
+use Rattle.json.specs.Bounds.{Every}
+use Rattle.json.specs.Readings.{Reading}
+use Rattle.meets.specs.Members.{Member, membersOf, elementsOf, namesOf, IsString, Distinct, Named, Absent}
+use Rattle.meets.specs.Rules.{EveryNamed, Present, Rules}
+
+-- Octets.
+abbrev pub Octets : List ℕ → Type 0
+Octets = AllBelow 256
+
+-- An object whose names are compared: at most 32 members, no name twice.
+pub record Object (ms : List Member) : Type 0 where
+  pub few : length ms ≤ 32
+  pub distinct : Distinct (namesOf ms)
+
+-- A decoded protected header: at most 4,096 octets, read as an object within 12 levels.
+pub record Protected (header : List ℕ) : Type 0 where
+  pub short : length header ≤ 4096
+  pub reading : Reading 12 header
+
+abbrev pub membersRead : {header : List ℕ} → Protected header → List Member
+membersRead p = membersOf (p .reading .text .value)
+
+-- Compact (RFC 7516, section 7.1): BASE64URL(UTF8(JWE Protected Header)) || '.' || BASE64URL(JWE Encrypted Key) || '.' ||
+-- BASE64URL(JWE Initialization Vector) || '.' || BASE64URL(JWE Ciphertext) || '.' || BASE64URL(JWE Authentication Tag)
+
+abbrev pub dotted : List ℕ → List ℕ → List ℕ → List ℕ → List ℕ → List ℕ
+dotted header key iv ciphertext tag =
+    encoded header ++ (46 ∷ (encoded key ++ (46 ∷ (encoded iv ++ (46 ∷ (encoded ciphertext ++ (46 ∷ encoded tag)))))))
+
+pub record Compact (known : List (List ℕ)) (message : List ℕ) : Type 0 where
+  pub header : List ℕ
+  pub key : List ℕ
+  pub iv : List ℕ
+  pub ciphertext : List ℕ
+  pub tag : List ℕ
+  pub octets : Octets header × Octets key × Octets iv × Octets ciphertext × Octets tag
+  pub spelled : dotted header key iv ciphertext tag ≡ message
+  pub protected : Protected header
+  pub object : Object (membersRead protected)
+  pub rules : Rules known (record { protected = membersRead protected; shared = []; own = [] }) key
+
+-- JSON (RFC 7516, section 7.2)
+
+-- A character without a backslash.
+abbrev pub Unescaped : Char → Type 0
+Unescaped (grammar.unescaped o) = Unit {0}
+Unescaped (grammar.escape o) = ⊥
+Unescaped (grammar.unicode a b c d) = ⊥
+
+-- A component: a string of such characters.
+abbrev pub Plain : Value → Type 0
+Plain = IsString (λ x. Every Unescaped (x .chars))
+
+-- A string with a character.
+abbrev pub Filled : Value → Type 0
+Filled = IsString (λ x. x .chars ≡ [] → ⊥)
+
+-- A header: an object with a member.
+abbrev pub Header : Value → Type 0
+Header v = (kind v ≡ 0) × (membersOf v ≡ [] → ⊥)
+
+-- `recipients`: an array with an element, all of them objects.
+abbrev pub Recipients : Value → Type 0
+Recipients v = (kind v ≡ 1) × (elementsOf v ≡ [] → ⊥) × Every (λ x. kind x ≡ 0) (elementsOf v)
+
+-- What an object that holds a recipient's members has to meet.
+pub record RecipientShape (ms : List Member) : Type 0 where
+  pub key : EveryNamed (ascii "encrypted_key") (λ v. Plain v × Filled v) ms
+  pub header : EveryNamed (ascii "header") Header ms
+
+-- What the top level has to meet: a general message has no `header` and no `encrypted_key` there.
+pub record TopShape (ms : List Member) : Type 0 where
+  pub recipient : RecipientShape ms
+  pub protected : EveryNamed (ascii "protected") (λ v. Plain v × Filled v) ms
+  pub iv : EveryNamed (ascii "iv") (λ v. Plain v × Filled v) ms
+  pub aad : EveryNamed (ascii "aad") (λ v. Plain v × Filled v) ms
+  pub tag : EveryNamed (ascii "tag") (λ v. Plain v × Filled v) ms
+  pub ciphertext : EveryNamed (ascii "ciphertext") Plain ms
+  pub unprotected : EveryNamed (ascii "unprotected") Header ms
+  pub recipients : EveryNamed (ascii "recipients") Recipients ms
+  pub present : Present (ascii "ciphertext") ms
+  pub general : Present (ascii "recipients") ms → Absent (ascii "header") ms × Absent (ascii "encrypted_key") ms
+
+-- The octets of a component; none where it is absent.
+abbrev pub Component : List ℕ → List Member → List ℕ → Type 0
+Component w ms xs =
+    (Absent w ms × (xs ≡ []))
+    ⊎ ((x : Str) × Named w (string x) ms × (leavesChars (x .chars) ≡ encoded xs))
+
+-- The members of a header that stands in the message; none where it is absent.
+abbrev pub HeaderIn : List ℕ → List Member → List Member → Type 0
+HeaderIn w ms hs = (Absent w ms × (hs ≡ [])) ⊎ ((v : Value) × Named w v ms × (hs ≡ membersOf v))
+
+-- The members of the protected header; none where it is absent, one or more where it is there.
+abbrev pub ProtectedIn : List Member → List ℕ → List Member → Type 0
+ProtectedIn ms header hs =
+    (Absent (ascii "protected") ms × (hs ≡ []))
+    ⊎ ((p : Protected header) × (hs ≡ membersRead p) × (hs ≡ [] → ⊥))
+
+-- The objects that hold the recipients' members: the elements of `recipients` (general), else the top level (flattened).
+abbrev pub RecipientsIn : List Member → List (List Member) → Type 0
+RecipientsIn ms rs =
+    (Absent (ascii "recipients") ms × (rs ≡ ms ∷ []))
+    ⊎ ((v : Value) × Named (ascii "recipients") v ms × (rs ≡ map membersOf (elementsOf v)))
+
+-- A recipient: its key and its own header.
+pub record Recipient (known : List (List ℕ)) (protected shared : List Member) (ms : List Member) : Type 0 where
+  pub key : List ℕ
+  pub own : List Member
+  pub octets : Octets key
+  pub shape : RecipientShape ms
+  pub object : Object ms
+  pub spelled : Component (ascii "encrypted_key") ms key
+  pub header : HeaderIn (ascii "header") ms own
+  pub ownObject : Object own
+  pub rules : Rules known (record { protected = protected; shared = shared; own = own }) key
+
+pub record Json (known : List (List ℕ)) (message : List ℕ) : Type 0 where
+  pub reading : Reading 12 message
+  pub object : Object (membersOf (reading .text .value))
+  pub shape : TopShape (membersOf (reading .text .value))
+  pub header : List ℕ
+  pub iv : List ℕ
+  pub aad : List ℕ
+  pub ciphertext : List ℕ
+  pub tag : List ℕ
+  pub octets : Octets header × Octets iv × Octets aad × Octets ciphertext × Octets tag
+  pub protectedSpelled : Component (ascii "protected") (membersOf (reading .text .value)) header
+  pub ivSpelled : Component (ascii "iv") (membersOf (reading .text .value)) iv
+  pub aadSpelled : Component (ascii "aad") (membersOf (reading .text .value)) aad
+  pub ciphertextSpelled : Component (ascii "ciphertext") (membersOf (reading .text .value)) ciphertext
+  pub tagSpelled : Component (ascii "tag") (membersOf (reading .text .value)) tag
+  pub protected : List Member
+  pub protectedRead : ProtectedIn (membersOf (reading .text .value)) header protected
+  pub protectedObject : Object protected
+  pub shared : List Member
+  pub sharedRead : HeaderIn (ascii "unprotected") (membersOf (reading .text .value)) shared
+  pub sharedObject : Object shared
+  pub recipients : List (List Member)
+  pub recipientsRead : RecipientsIn (membersOf (reading .text .value)) recipients
+  pub few : length recipients ≤ 8
+  pub each : Every (Recipient known protected shared) recipients
+
+-- A message in one of the forms, and how many recipients it has.
+pub data Message (known : List (List ℕ)) (message : List ℕ) : Type 0 where
+  compact : Compact known message → Message known message
+  json : Json known message → Message known message
+
+abbrev pub count : {known : List (List ℕ)} {message : List ℕ} → Message known message → ℕ
+count (compact c) = 1
+count (json j) = length (j .recipients)
+
+-- A list of known names that may be lent.
+pub record Known (list : List ℕ) : Type 0 where
+  pub names : List (List ℕ)
+  pub spelled : listOf names ≡ list
+  pub few : length names ≤ 16
+  pub limited : Limited names
+
+-- What is lent is enough, and the message meets the rules and has the recipient.
+pub record Meets (message known : List ℕ) (recipient headerLent listLent : ℕ) : Type 0 where
+  pub room : (4096 ≤ headerLent) × (576 ≤ listLent)
+  pub size : length message ≤ 16777216
+  pub list : Known known
+  pub form : Message (list .names) message
+  pub asked : recipient < count form

@@ -1,0 +1,73 @@
+// The shape of a JSON message: its top level, and its recipients.
+ghost use mathlib.Core.Path.{_≡_};
+ghost use Prim.Native.Nat.{_*_, _≤_};
+ghost use lib.ListN.{length};
+ghost use Rattle.rows.specs.Tables.{flat, entriesOf};
+ghost use Rattle.jose.specs.Refusals.{first};
+ghost use Rattle.headers.specs.Answers.{stageOf, Leaves};
+ghost use Rattle.shape.specs.Recipients.{topEntries, topOrder, elementsOrder, recipientsIn};
+ghost use Rattle.shape.specs.Answers.{flatRecipients};
+use headers::Stage;
+use json::Found;
+use json::Position;
+
+// The known members of a message, contents first.
+pub const MEMBERS: [u8; 77] = [
+    9, 9, 11, 6, 13, 10, 2, 3, 10, 3,
+    112, 114, 111, 116, 101, 99, 116, 101, 100,
+    117, 110, 112, 114, 111, 116, 101, 99, 116, 101, 100,
+    104, 101, 97, 100, 101, 114,
+    101, 110, 99, 114, 121, 112, 116, 101, 100, 95, 107, 101, 121,
+    114, 101, 99, 105, 112, 105, 101, 110, 116, 115,
+    105, 118,
+    97, 97, 100,
+    99, 105, 112, 104, 101, 114, 116, 101, 120, 116,
+    116, 97, 103,
+];
+
+mod element;
+mod member;
+
+// 7, and 8 to 10 on the top level: its members as entries of the table, and how many they are.
+pub fn top(message: &[u8], table: &mut [u32]) -> Stage
+    requires { ⌜ length (now message) ≤ 16777216 ⌝ }
+    requires { ⌜ 256 ≤ length (now table) ⌝ }
+    ensures { λ r. ⌜ r ≡ stageOf (first (topOrder (now (message .entry)))) (length (topEntries (now (message .entry)))) ⌝ }
+    ensures { λ r. ⌜ Leaves (flat (topEntries (now (message .entry)))) (now (table .entry)) (now (table .exit)) r ⌝ }
+{
+    let judged = json::judge(message, 12);
+    let Found::Value(_, _) = judged else {
+        return Stage::Refused(7);
+    };
+    let list = MEMBERS;
+    let at = Position { at: 0 }.skip_space(message).at;
+    let object = headers::object(message, at, 1, &list, table, 0);
+    let Stage::Passed(count) = object else {
+        return object;
+    };
+    if member::wrong_top(message, table, count) {
+        return Stage::Refused(10);
+    }
+    object
+}
+
+// 10 on `recipients`, 11, and 8 to 10 on its elements: the recipients as numbers of the table, three each, and how many they
+// are. The entries are those of a top level that has passed.
+pub fn recipients(message: &[u8], table: &[u32], count: usize, into: &mut [usize]) -> Stage
+    requires { ⌜ length (now message) ≤ 16777216 ⌝ }
+    requires { ⌜ count * 8 ≤ length (now table) ⌝ }
+    requires { ⌜ 24 ≤ length (now into) ⌝ }
+    ensures { λ r. ⌜ r ≡ stageOf (first (elementsOrder (now (message .entry)) (entriesOf count (now (table .entry))))) (length (recipientsIn (now (message .entry)) (entriesOf count (now (table .entry))))) ⌝ }
+    ensures { λ r. ⌜ Leaves (flatRecipients (recipientsIn (now (message .entry)) (entriesOf count (now (table .entry))))) (now (into .entry)) (now (into .exit)) r ⌝ }
+{
+    if !rows::ask::present(table, count, 5) {
+        element::put(element::recipient_of(table, count), into, 0);
+        return Stage::Passed(1);
+    }
+    let mut starts = [0usize; 8];
+    let walked = element::walk(message, rows::ask::value_of(table, count, 5).start, &mut starts);
+    let Stage::Passed(elements) = walked else {
+        return walked;
+    };
+    element::elements(message, &starts, elements, into)
+}
