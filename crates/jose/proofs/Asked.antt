@@ -9,12 +9,13 @@ use lib.Seq.{getD-drop}
 use lib.Dec.{eqb, leb}
 use borrow.Author.Tests.{eq-eqb, ne-eqb, le-leb, lt-leb}
 use Rattle.names.specs.Names.{numberIn}
-use Rattle.rows.specs.Rows.{Entry, valueIn}
+use Rattle.rows.specs.Rows.{Entry, spelledValue, valueIn}
 use Rattle.rows.specs.Tables.{firstOf, entriesOf}
 use Rattle.rows.proofs.Entries.{entry-at, entries-done}
 use Rattle.jose.specs.Algorithms.{algs, algNames, encNames, zipNames, nth, modeOf}
 use Rattle.jose.specs.Registered.{alg, enc, zip, crit, jwk, x5c, object, array, string, anyKind, kindAsked}
 use Rattle.jose.specs.HeaderRules.{wrongKind, unlisted, unprotected, modeIn}
+use Rattle.jose.proofs.InTable.{text-header, text-message}
 
 -- What stands at a place of an entry's numbers.
 pub number-at : (t : List ℕ) (i k : ℕ) → getD (drop (i * 8) t) k 0 ≡ getD t (i * 8 + k) 0
@@ -113,6 +114,19 @@ module _ (header message : List ℕ) (e : Entry) where
 
   pub no-value : (e .number ≡ alg → ⊥) → (e .number ≡ enc → ⊥) → (e .number ≡ zip → ⊥) → false ≡ unlisted header message e
   no-value a n z = simp (ne-eqb (e .number) alg a, ne-eqb (e .number) enc n, ne-eqb (e .number) zip z)
+
+-- A value is taken from its own text alone
+
+module _ (header message : List ℕ) (e : Entry) where
+  pub value-header : e .origin ≡ 0 → valueIn header header e ≡ valueIn header message e
+  value-header h =
+      ap (λ (s : List ℕ). spelledValue s (e .member))
+      (text-header header header (e .origin) h ∙ sym (text-header header message (e .origin) h))
+
+  pub value-message : (e .origin ≡ 0 → ⊥) → valueIn message message e ≡ valueIn header message e
+  value-message h =
+      ap (λ (s : List ℕ). spelledValue s (e .member))
+      (text-message message message (e .origin) h ∙ sym (text-message header message (e .origin) h))
 
 -- The mode, turn by turn: what the entries from i on say is the answer
 

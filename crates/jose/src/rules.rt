@@ -1,8 +1,9 @@
 // The rules on a recipient's entries, one function each (document 01's 13 to 16, and the mode for 18).
 ghost use mathlib.Core.Path.{_≡_};
+ghost use mathlib.Core.Bool.{true};
 ghost use Prim.Native.Nat.{_+_, _*_, _≤_};
 ghost use lib.ListN.{length, drop};
-ghost use Rattle.names.specs.Names.{numberIn};
+ghost use Rattle.names.specs.Names.{names, filled, numberIn};
 ghost use Rattle.rows.specs.Any.{any};
 ghost use Rattle.rows.specs.Rows.{valueIn};
 ghost use Rattle.rows.specs.Tables.{firstOf, entriesOf};
@@ -87,28 +88,41 @@ pub fn wrong_kind(table: &[u32], count: usize) -> bool
     false
 }
 
-fn unlisted_at<'a>(header: &'a [u8], message: &'a [u8], table: &[u32], i: usize) -> bool
+// The number of an entry's value in a list of names. The value is taken from one text at a time, as the two may be lent for
+// different lifetimes.
+fn number_in(list: &[u8], header: &[u8], message: &[u8], table: &[u32], i: usize) -> u32
+    requires { ⌜ filled (now list) ≡ true ⌝ }
+    requires { ⌜ i * 8 + 8 ≤ length (now table) ⌝ }
+    ensures { λ r. ⌜ r ≡ numberIn (names (now (list .entry))) (valueIn (now (header .entry)) (now (message .entry)) (firstOf (drop (i * 8) (now (table .entry))))) ⌝ }
+{
+    if table[i * 8] == 0 {
+        return names::find(list, rows::ask::value(header, header, table, i));
+    }
+    names::find(list, rows::ask::value(message, message, table, i))
+}
+
+fn unlisted_at(header: &[u8], message: &[u8], table: &[u32], i: usize) -> bool
     requires { ⌜ i * 8 + 8 ≤ length (now table) ⌝ }
     ensures { λ r. ⌜ r ≡ unlisted (now (header .entry)) (now (message .entry)) (firstOf (drop (i * 8) (now (table .entry)))) ⌝ }
 {
     let number = table[i * 8 + 6];
     if number == ALG {
         let list = crate::lists::ALGS;
-        return names::find(&list, rows::ask::value(header, message, table, i)) == 0;
+        return number_in(&list, header, message, table, i) == 0;
     }
     if number == ENC {
         let list = crate::lists::ENCS;
-        return names::find(&list, rows::ask::value(header, message, table, i)) == 0;
+        return number_in(&list, header, message, table, i) == 0;
     }
     if number == ZIP {
         let list = crate::lists::ZIPS;
-        return names::find(&list, rows::ask::value(header, message, table, i)) == 0;
+        return number_in(&list, header, message, table, i) == 0;
     }
     false
 }
 
 // 15: whether the value of `alg`, `enc` or the compression parameter is not listed.
-pub fn unlisted<'a>(header: &'a [u8], message: &'a [u8], table: &[u32], count: usize) -> bool
+pub fn unlisted(header: &[u8], message: &[u8], table: &[u32], count: usize) -> bool
     requires { ⌜ count * 8 ≤ length (now table) ⌝ }
     ensures { λ r. ⌜ r ≡ any (unlisted (now (header .entry)) (now (message .entry))) (entriesOf count (now (table .entry))) ⌝ }
 {
@@ -152,18 +166,19 @@ pub fn unprotected(table: &[u32], count: usize) -> bool
     false
 }
 
-fn mode_at<'a>(header: &'a [u8], message: &'a [u8], table: &[u32], i: usize) -> u32
+fn mode_at(header: &[u8], message: &[u8], table: &[u32], i: usize) -> u32
     requires { ⌜ i * 8 + 8 ≤ length (now table) ⌝ }
     ensures { λ r. ⌜ r ≡ modeOf (nth algs (numberIn algNames (valueIn (now (header .entry)) (now (message .entry)) (firstOf (drop (i * 8) (now (table .entry))))))) ⌝ }
 {
-    let NamedAlg::Alg(alg) = Alg::named(rows::ask::value(header, message, table, i)) else {
+    let list = crate::lists::ALGS;
+    let NamedAlg::Alg(alg) = Alg::numbered(number_in(&list, header, message, table, i)) else {
         return 0;
     };
     alg.mode()
 }
 
 // The mode of the algorithm that the first `alg` names; 0 where none is named or listed.
-pub fn mode<'a>(header: &'a [u8], message: &'a [u8], table: &[u32], count: usize) -> u32
+pub fn mode(header: &[u8], message: &[u8], table: &[u32], count: usize) -> u32
     requires { ⌜ count * 8 ≤ length (now table) ⌝ }
     ensures { λ r. ⌜ r ≡ modeIn (now (header .entry)) (now (message .entry)) (entriesOf count (now (table .entry))) ⌝ }
 {
