@@ -1,8 +1,7 @@
--- Faults of components.
+-- For callers: what a stage's answer tells.
+pub mod Stages
+-- For the proofs of the functions.
 pub mod Faults
--- A bound that is asked either way.
 pub mod Bounds
--- The text of a protected header.
 pub mod Texts
--- The members of an object as entries.
 pub mod Objects

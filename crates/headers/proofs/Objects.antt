@@ -1,5 +1,4 @@
--- The members of an object collected as entries of a table: the table from the first of them on, and refusals 8 and 9 on
--- them.
+-- The members of an object collected as entries of a table: the table from the first of them on, and refusals 8 and 9.
 use mathlib.Core.Path.{_≡_, refl, ap, ap₂, sym, _∙_}
 use mathlib.Core.Bool.{Bool, true, false, cond}
 use mathlib.Core.List.{List}
@@ -7,7 +6,7 @@ use Prim.Native.Nat.{ℕ, zero, suc, _+_, _-_, _*_, _≤_}
 use native.Mathlib.Omega.{arith}
 use lib.ListN.{length, take, drop, length-drop, length-map}
 use lib.Seq.{take-all}
-use lib.Dec.{leb, ltb}
+use lib.Dec.{ltb}
 use borrow.Author.Tests.{ltb-false, le-leb}
 use Rattle.prelude.specs.Buffer.{written}
 use Rattle.prelude.proofs.Writing.{written-length}
@@ -22,7 +21,6 @@ use Rattle.rows.proofs.Printing.{clashes-repeated, entries-printed}
 use Rattle.jose.specs.Refusals.{first}
 use Rattle.headers.specs.Headers.{objectOrder}
 use Rattle.headers.specs.Answers.{stageOf}
-use Rattle.headers.specs.declared.Stage.{Stage}
 use Rattle.headers.specs.declared.Stage.the-variants.{Passed, Refused}
 use Rattle.headers.proofs.Bounds.{either-way}
 
@@ -99,7 +97,8 @@ module _ (names : List (List ℕ)) (s : List ℕ) (o : ℕ) (ms : List Member) w
       either-way 32 (length ms) (Rows (length ms)) More
       ∙ ap (λ (n : ℕ). cond (ltb 32 n) More (Rows n)) (sym entries-count)
 
-  pub refused-8 : More ≡ collectedOf ms → Refused 8 ≡ stageOf (first (objectOrder s (entriesIn names s o ms))) (length ms)
+  pub refused-8 : More ≡ collectedOf ms →
+      Refused 8 ≡ stageOf (first (objectOrder s (entriesIn names s o ms))) (length ms)
   unfolding stageOf
   refused-8 e =
       let es = entriesIn names s o ms in

@@ -2,14 +2,13 @@
 use mathlib.Core.Path.{_≡_, refl, ap, ap₂, sym, _∙_}
 use mathlib.Core.Bool.{Bool, true, false, cond, true≢false}
 use mathlib.Core.List.{List}
-use Prim.Native.Nat.{ℕ, _+_, _≤_}
+use Prim.Native.Nat.{ℕ, _≤_}
 use native.Mathlib.Omega.{arith}
 use lib.ListN.{length, take}
 use lib.Dec.{leb}
 use borrow.Author.Tests.{ltb-false}
 use Rattle.prelude.specs.Buffer.{written}
 use Rattle.prelude.proofs.Writing.{written-length, begins}
-use Rattle.base64url.specs.Base64url.{decoded}
 use Rattle.base64url.specs.Fault.{Fault, none, at, fault}
 use Rattle.base64url.specs.Answers.{ofFault, decodeAnswer, decodeInto, decodeBuffer}
 use Rattle.base64url.specs.declared.Decoded.{Decoded}
@@ -24,7 +23,6 @@ use Rattle.jose.specs.Refusals.{first}
 use Rattle.headers.specs.Components.{octetsAt, misspelled}
 use Rattle.headers.specs.Headers.{headerText, tooLong, isNothing, unread, textOrder}
 use Rattle.headers.specs.Answers.{stageOf, headerBuffer}
-use Rattle.headers.specs.declared.Stage.{Stage}
 use Rattle.headers.specs.declared.Stage.the-variants.{Passed, Refused}
 use Rattle.headers.proofs.Bounds.{either-way}
 

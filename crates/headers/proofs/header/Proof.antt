@@ -1,4 +1,4 @@
--- `header` answers by what decoding answers of the encoded text, and by the reading of what the buffer then begins with.
+-- `header` answers by what decoding the text answers, and by the reading of what the buffer then begins with.
 use mathlib.Core.Path.{_≡_, refl, ap, sym, _∙_}
 use mathlib.Core.Bool.{false}
 use mathlib.Core.List.{List, [], _∷_}
@@ -13,7 +13,8 @@ use Rattle.base64url.specs.declared.Decoded.{Decoded}
 use Rattle.base64url.specs.declared.Decoded.the-variants.{Octets, Misspelled, Short}
 use Rattle.headers.specs.Headers.{headerText}
 use Rattle.headers.specs.Answers.{placeOf}
-use Rattle.headers.proofs.Texts.{Decoding, Begins, hasOctets, noValue, decoding, begun, refused-6, refused-7, passed}
+use Rattle.headers.proofs.Texts.{Decoding, Begins, hasOctets, noValue, decoding, begun}
+use Rattle.headers.proofs.Texts.{refused-6, refused-7, passed}
 use borrow.Author.Needs.{needs}
 use Rattle.headers.proofs.header.Statement.{statement}
 use Rattle.headers.proofs.header.Tie as tie
@@ -29,17 +30,18 @@ no-octets Short k = refl
 
 -- after the call of `decode`
 decodes : (c : tie.After-decode) →
-    Decoding (header (c .before .before .before .before .before)) (c .before .before .before .before .before .args .buffer .now)
-    (c .decode .last .1 .0) (c .decode .result)
+    let start = c .before .before .before .before .before in
+    Decoding (header start) (start .args .buffer .now) (c .decode .last .1 .0) (c .decode .result)
 decodes c =
     let start = c .before .before .before .before .before in
-    decoding (start .args .message .now) (placeOf (start .args .place)) (start .pre .0)
-    (start .args .buffer .now) (start .pre .1) _ _ _ (c .before .before .part .ensures) (c .decode .ensures .0) (c .decode .ensures .1)
+    decoding (start .args .message .now) (placeOf (start .args .place)) (start .pre .0) (start .args .buffer .now)
+    (start .pre .1) _ _ _ (c .before .before .part .ensures) (c .decode .ensures .0) (c .decode .ensures .1)
 
 -- where it answers octets
 begins : (c : tie.After-known-told) →
-    Begins (header (c .before .before .before .before .before .before .before .before .before .before))
-    (c .before .before .before .before .before .decode .last .1 .0) (c .before .decoded .given .0 .0)
+    let after = c .before .before .before .before .before in
+    Begins (header (after .before .before .before .before .before)) (after .decode .last .1 .0)
+    (c .before .decoded .given .0 .0)
 begins c = begun (decodes (c .before .before .before .before .before)) _ (c .before .decoded .given .1)
 
 part-requires : tie.Need-part-requires

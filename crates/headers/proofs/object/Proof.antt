@@ -1,6 +1,5 @@
 -- `object` answers by how many members are collected, and by whether their entries, read back from the table, clash.
-use Prim.Native.Nat.{ℕ}
-use mathlib.Core.Path.{_≡_, sym, _∙_}
+use mathlib.Core.Path.{sym, _∙_}
 use mathlib.Core.List.{List}
 use Rattle.names.specs.Names.{names}
 use Rattle.json.specs.Places.{Member}
