@@ -10,6 +10,7 @@ mod lent;
 mod random;
 mod reader;
 mod reference;
+mod writer;
 
 use lent::{Lent, MARGIN};
 use random::Random;
