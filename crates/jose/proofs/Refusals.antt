@@ -2,7 +2,7 @@
 use mathlib.Core.Path.{_≡_, refl, ap, sym, _∙_}
 use mathlib.Core.List.{List, [], _∷_, _++_}
 use mathlib.Core.Bool.{Bool, true, false, not, _&&_, _||_, cond, true≢false}
-use Prim.Native.Nat.{ℕ}
+use Prim.Native.Nat.{ℕ, zero, suc}
 use lib.Dec.{eqb}
 use borrow.Author.Tests.{eq-eqb, ne-eqb, eqb-true}
 use Rattle.rows.specs.Any.{any}
@@ -18,6 +18,35 @@ module _ (t : Test) (ts : List Test) where
   pub first-passes : t .fails ≡ false → first (t ∷ ts) ≡ first ts
   unfolding first
   first-passes e = ap (λ (b : Bool). cond b (t .number) (first ts)) e
+
+-- Tests one after the other, as code makes them
+
+-- The first k pass and the next one fails.
+abbrev pub Stops : ℕ → List Test → Type 0
+Stops k [] = ⊥
+Stops zero (t ∷ ts) = t .fails ≡ true
+Stops (suc k) (t ∷ ts) = (t .fails ≡ false) × Stops k ts
+
+-- The number of the test behind the first k.
+abbrev pub numberAt : ℕ → List Test → ℕ
+numberAt k [] = 0
+numberAt zero (t ∷ ts) = t .number
+numberAt (suc k) (t ∷ ts) = numberAt k ts
+
+pub first-stops : (k : ℕ) (ts : List Test) → Stops k ts → first ts ≡ numberAt k ts
+first-stops k [] h = absurd h
+first-stops zero (t ∷ ts) h = first-fails t ts h
+first-stops (suc k) (t ∷ ts) h = first-passes t ts (h .0) ∙ first-stops k ts (h .1)
+
+-- All pass.
+abbrev pub Passed : List Test → Type 0
+Passed [] = Unit {0}
+Passed (t ∷ ts) = (t .fails ≡ false) × Passed ts
+
+pub first-passed : (ts : List Test) → Passed ts → first ts ≡ 0
+unfolding first
+first-passed [] h = refl
+first-passed (t ∷ ts) h = first-passes t ts (h .0) ∙ first-passed ts (h .1)
 
 -- Each test has a number other than 0, so that 0 says that none fails. It computes where the numbers are written out.
 

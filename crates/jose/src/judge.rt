@@ -30,7 +30,14 @@ fn wrong_key(mode: u32, no_key: bool) -> bool
 }
 
 // One recipient, whose key is empty or not: the mode, or the first refusal.
-pub fn judge(header: &[u8], message: &[u8], known: &[u8], table: &[u32], count: usize, no_key: bool) -> Judged
+pub fn judge(
+    header: &[u8],
+    message: &[u8],
+    known: &[u8],
+    table: &[u32],
+    count: usize,
+    no_key: bool,
+) -> Judged
     requires { ⌜ filled (now known) ≡ true ⌝ }
     requires { ⌜ count * 8 ≤ length (now table) ⌝ }
     requires { ⌜ Printed (now header) (now message) (entriesOf count (now table)) ⌝ }

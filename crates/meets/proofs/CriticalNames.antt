@@ -6,13 +6,13 @@ use mathlib.Core.List.{List, [], _∷_, map}
 use Prim.Native.Nat.{ℕ}
 use native.Mathlib.Omega.{arith}
 use lib.ListN.{length}
-use lib.Dec.{T, eqb}
+use lib.Dec.{eqb}
 use borrow.Author.Tests.{eqb-true, not-false}
 use Rattle.prelude.specs.Ascii.{ascii}
-use Rattle.json.specs.Grammar.{Str, leavesChars, Value, string}
+use Rattle.json.specs.Grammar.{Str, Value, string}
 use Rattle.json.specs.Places.{Element, kind}
 use Rattle.json.specs.Strings.{SayAlike, HasOctets}
-use Rattle.json.specs.Spellings.{equal, sayable}
+use Rattle.json.specs.Spellings.{equal}
 use Rattle.json.specs.Reader.{elementsAt}
 use Rattle.json.specs.Bounds.{Every}
 use Rattle.names.specs.Names.{numberIn}
@@ -24,25 +24,23 @@ use Rattle.jose.specs.HeaderRules.{critical}
 use Rattle.meets.specs.Members.{Member, elementsOf, Some, Among, Distinct}
 use Rattle.meets.specs.Rules.{EveryNamed, arrayNames, OfKind, Critical}
 use Rattle.meets.proofs.Zip.{Zip, zip-into, zip-map-left}
-use Rattle.meets.proofs.Standing.{ElementStands, string-stands, kind-string}
+use Rattle.meets.proofs.Standing.{ElementStands, kind-string}
 use Rattle.meets.proofs.Rows.{elements-stand}
+use Rattle.meets.proofs.Saying.{Spells, string-spells, alike-spells}
 use Rattle.meets.proofs.Deciding.{FalseWhere, not-where, not-false-where, where-is, neither, where-asked}
 use Rattle.meets.proofs.Deciding.{or-false, every-both, zip-with, every-where, some-where}
 use Rattle.meets.proofs.Numbering.{number-where, among-of}
-use Rattle.meets.proofs.Entries.{Seen, numbered-where, alike-where, distinct-where}
+use Rattle.meets.proofs.Entries.{Seen, numbered-where, distinct-where}
 use Rattle.meets.proofs.Parameters.{crit-number}
 
 -- A string and the element where it stands.
 record StringStands (s : List ℕ) (x : Str) (y : Element) : Type 0 where
   kinds : y .kind ≡ 2
-  spelled : spelledElement s y ≡ leavesChars (x .chars)
-  sayable : T (sayable x)
+  spells : Spells (spelledElement s y) x
 
 string-element : (s : List ℕ) (x : Str) (y : Element) → ElementStands s (string x) y → StringStands s x y
 unfolding kind
-string-element s x y r =
-    let t = string-stands s x (y .start) (y .size) (r .stands) in
-    record { kinds = r .kinds; spelled = t .0; sayable = t .1 }
+string-element s x y r = record { kinds = r .kinds; spells = string-spells s x (y .start) (y .size) (r .stands) }
 
 strings-stand : (s : List ℕ) (xs : List Str) (ys : List Element) → Zip (ElementStands s) (map string xs) ys →
     Zip (StringStands s) xs ys
@@ -80,25 +78,20 @@ module _ (known : List (List ℕ)) (header message : List ℕ) (ps : List Member
   Placed x = (Among registered x → ⊥) × Some (λ m. SayAlike (m .name) x) ps
 
   module _ (x : Str) (y : Element) (r : StringStands s x y) where
-    listed-where : (ws : List (List ℕ)) → FalseWhere (eqb (numberIn ws (spelledElement s y)) 0) (Among ws x)
-    listed-where ws =
-        where-is (eqb (numberIn ws (spelledElement s y)) 0) (eqb (numberIn ws (leavesChars (x .chars))) 0)
-        (ap (λ (w : List ℕ). eqb (numberIn ws w) 0) (r .spelled)) (number-where x (r .sayable) ws)
-
     known-where : FalseWhere (unknown known s y) (Among known x)
     known-where =
         where-is (unknown known s y) (eqb (numberIn known (spelledElement s y)) 0)
-        (ap (λ (k : ℕ). not (eqb k 2) || eqb (numberIn known (spelledElement s y)) 0) (r .kinds)) (listed-where known)
+        (ap (λ (k : ℕ). not (eqb k 2) || eqb (numberIn known (spelledElement s y)) 0) (r .kinds))
+        (number-where (spelledElement s y) x (r .spells) known)
 
     placed-where : FalseWhere (misplaced header message es s y) (Placed x)
     placed-where =
         let w = spelledElement s y in
         neither (not (eqb (numberIn registered w) 0)) (not (any (nameSays header message w) es))
-        (not-false-where (eqb (numberIn registered w) 0) (listed-where registered))
+        (not-false-where (eqb (numberIn registered w) 0) (number-where w x (r .spells) registered))
         (not-where (any (nameSays header message w) es)
         (some-where (Seen registered header message) (λ m. SayAlike (m .name) x) (nameSays header message w) ps es
-        (λ p e t.
-        alike-where (p .name) x (nameIn header message e) w (t .spelled) (r .spelled) (t .sayable) (r .sayable))
+        (λ p e t. alike-spells (nameIn header message e) (p .name) (t .spells) w x (r .spells))
         z))
 
   -- Elements that are strings
@@ -117,8 +110,7 @@ module _ (known : List (List ℕ)) (header message : List ℕ) (ps : List Member
       (neither a (b || c) (every-where (StringStands s) (Among known) (unknown known s) xs ys known-where u)
       (neither b c
       (distinct-where (StringStands s) (sameElement s)
-      (λ x w y v r t.
-      alike-where x w (spelledElement s y) (spelledElement s v) (r .spelled) (t .spelled) (r .sayable) (t .sayable))
+      (λ x w y v r t. alike-spells (spelledElement s y) x (r .spells) (spelledElement s v) w (t .spells))
       xs ys u)
       (every-where (StringStands s) Placed (misplaced header message es s) xs ys placed-where u)))
 
@@ -175,5 +167,5 @@ critical-decided known header message ps es z arrays =
     (λ h.
     crit-where known header message ps es z s (p .value) (elementsAt 12 s at)
     (elements-stand s (p .value) at (e .member .valueSize) (r .0 .stands)
-    (r .1 (among-of (p .name) (r .0 .sayable) (ascii "crit") arrayNames crit-array h)))))
+    (r .1 (among-of (p .name) (ascii "crit") arrayNames crit-array h)))))
     (zip-with (Seen registered header message) (λ m. Among arrayNames (m .name) → kind (m .value) ≡ 1) ps es z arrays)

@@ -12,6 +12,7 @@ use Rattle.rows.specs.Any.{any, anyPair}
 use Rattle.jose.specs.Refusals.{Test, first}
 use Rattle.meets.specs.Members.{Some}
 use Rattle.meets.proofs.Zip.{Zip, zip-any, zip-all}
+use Rattle.meets.proofs.Saying.{refuted}
 
 -- A test that is true exactly where a sentence holds ..
 abbrev pub TrueWhere : Bool → Type 0 → Type 0
@@ -27,12 +28,8 @@ module _ {P : Type 0} where
   pub not-where : (b : Bool) → TrueWhere b P → FalseWhere (not b) P
   not-where b w = ((λ e. w .0 (not-false b e)), (λ p. ap not (w .1 p)))
 
-  pub none-where : (b : Bool) → TrueWhere b P → FalseWhere b (P → ⊥)
-  none-where true w = ((λ e. absurd (true≢false e)), (λ n. absurd (n (w .0 refl))))
-  none-where false w = ((λ e p. false≢true (w .1 p)), (λ n. refl))
-
   pub not-none-where : (b : Bool) → TrueWhere b P → TrueWhere (not b) (P → ⊥)
-  not-none-where b w = ((λ e. none-where b w .0 (not-true b e)), (λ n. ap not (none-where b w .1 n)))
+  not-none-where b w = ((λ e. refuted b w .0 (not-true b e)), (λ n. ap not (refuted b w .1 n)))
 
   -- The other way round.
   pub not-false-where : (b : Bool) → FalseWhere b P → FalseWhere (not b) (P → ⊥)

@@ -1,27 +1,24 @@
 -- Entries that stand for members: what the tests read of an entry is what the rules say of its member.
-use mathlib.Core.Path.{_≡_, refl, ap, ap₂, sym, subst, _∙_}
+use mathlib.Core.Path.{_≡_, refl, ap, sym, subst}
 use mathlib.Core.Bool.{Bool, false}
 use mathlib.Core.Logic.{inl, inr}
 use mathlib.Core.List.{List, [], _∷_}
 use Prim.Native.Nat.{ℕ}
-use lib.Dec.{T, eqb}
-use Rattle.json.specs.Grammar.{Str, leavesChars, Value}
+use lib.Dec.{eqb}
+use Rattle.json.specs.Grammar.{Str, Value}
 use Rattle.json.specs.Places.{kind}
 use Rattle.json.specs.Places as places
 use Rattle.json.specs.Strings.{SayAlike, HasOctets}
-use Rattle.json.specs.Spellings.{alike, sayable}
 use Rattle.json.specs.Bounds.{Every}
-use Rattle.json.proofs.Theorems.{alike-decides}
-use Rattle.json.proofs.Scan.{T→true}
-use Rattle.json.proofs.Parse.{true→T}
 use Rattle.names.specs.Names.{numberIn}
 use Rattle.rows.specs.Any.{any, anyPair}
-use Rattle.rows.specs.Rows.{Entry, textOf, entryOf, nameIn, valueIn, numbered}
+use Rattle.rows.specs.Rows.{Entry, textOf, entryOf, entriesIn, nameIn, valueIn, numbered}
 use Rattle.meets.specs.Members.{Member, Among, Distinct, Apart}
 use Rattle.meets.specs.Rules.{ValueAmong}
-use Rattle.meets.proofs.Zip.{Zip}
-use Rattle.meets.proofs.Standing.{Stands, MemberStands, string-stands, kind-string}
-use Rattle.meets.proofs.Deciding.{TrueWhere, FalseWhere, none-where, neither, every-where, anyAcross}
+use Rattle.meets.proofs.Zip.{Zip, zip-into, zip-map-right}
+use Rattle.meets.proofs.Standing.{Stands, MemberStands, kind-string}
+use Rattle.meets.proofs.Saying.{Spells, name-spells, string-spells, refuted}
+use Rattle.meets.proofs.Deciding.{TrueWhere, FalseWhere, neither, every-where, anyAcross}
 use Rattle.meets.proofs.Numbering.{number-where, disagrees, numbers-decide}
 
 -- An entry of origin o that is made of a row where the member stands; its number counts `names`.
@@ -32,20 +29,29 @@ pub record EntryStands (names : List (List ℕ)) (header message : List ℕ) (o 
 
 -- What is read of it, whatever its origin.
 pub record Seen (names : List (List ℕ)) (header message : List ℕ) (p : Member) (e : Entry) : Type 0 where
-  pub spelled : nameIn header message e ≡ leavesChars (p .name .chars)
-  pub sayable : T (sayable (p .name))
-  pub number : e .number ≡ numberIn names (leavesChars (p .name .chars))
+  pub spells : Spells (nameIn header message e) (p .name)
+  pub number : e .number ≡ numberIn names (nameIn header message e)
   pub kinds : e .member .kind ≡ kind (p .value)
   pub stands : Stands (textOf header message (e .origin)) (p .value) (e .member .valueStart) (e .member .valueSize)
 
 module _ (names : List (List ℕ)) (header message : List ℕ) where
+  -- The entries of rows where members stand.
+  pub entries-stand : (o : ℕ) (ps : List Member) (ms : List places.Member) →
+      Zip (MemberStands (textOf header message o)) ps ms →
+      Zip (EntryStands names header message o) ps (entriesIn names (textOf header message o) o ms)
+  unfolding entriesIn
+  entries-stand o ps ms z =
+      let s = textOf header message o in
+      zip-map-right (EntryStands names header message o) (entryOf names s o) ps ms .0
+      (zip-into (MemberStands s) (λ p m. EntryStands names header message o p (entryOf names s o m))
+      (λ p m r. record { row = m; made = refl; stands = r }) ps ms z)
+
   pub entry-seen : (o : ℕ) (p : Member) (e : Entry) → EntryStands names header message o p e →
       Seen names header message p e
   entry-seen o p e r =
       subst (Seen names header message p) (sym (r .made)) (record {
-        spelled = r .stands .spelled;
-        sayable = r .stands .sayable;
-        number = ap (numberIn names) (r .stands .spelled);
+        spells = name-spells (textOf header message o) p (r .row) (r .stands);
+        number = refl;
         kinds = r .stands .kinds;
         stands = r .stands .stands;
       })
@@ -62,7 +68,7 @@ module _ (names : List (List ℕ)) (header message : List ℕ) (p : Member) (e :
       TrueWhere (f (e .number)) (Among ws (p .name))
   named-where f ws a =
       subst (λ (n : ℕ). TrueWhere (f n) (Among ws (p .name))) (sym (r .number))
-      (numbers-decide names f ws a (p .name) (r .sayable))
+      (numbers-decide names f ws a (nameIn header message e) (p .name) (r .spells))
 
   -- .. so being numbered n decides whether it has the n-th name.
   pub numbered-where : (n : ℕ) (w : List ℕ) → disagrees names (λ m. eqb m n) (w ∷ []) ≡ false →
@@ -81,21 +87,11 @@ module _ (names : List (List ℕ)) (header message : List ℕ) (p : Member) (e :
       let s = textOf header message (e .origin) in
       let at = e .member .valueStart in
       let size = e .member .valueSize in
-      let t = string-stands s x at size (subst (λ (v : Value). Stands s v at size) i (r .stands)) in
+      let t = string-spells s x at size (subst (λ (v : Value). Stands s v at size) i (r .stands)) in
       subst (λ (v : Value). FalseWhere (eqb (numberIn ws (valueIn header message e)) 0) (ValueAmong ws v)) (sym i)
-      (subst (λ (u : List ℕ). FalseWhere (eqb (numberIn ws u) 0) (Among ws x)) (sym (t .0)) (number-where x (t .1) ws))
+      (number-where (valueIn header message e) x t ws)
 
 -- Strings that say the same
-
--- By their spellings.
-pub alike-where : (x y : Str) (v w : List ℕ) → v ≡ leavesChars (x .chars) → w ≡ leavesChars (y .chars) →
-    T (sayable x) → T (sayable y) → TrueWhere (alike v w) (SayAlike x y)
-alike-where x y v w e f s t =
-    let d = alike-decides x y s t in
-    let g : alike v w ≡ alike (leavesChars (x .chars)) (leavesChars (y .chars)) = ap₂ alike e f in (
-      (λ b. d .0 (true→T (alike (leavesChars (x .chars)) (leavesChars (y .chars))) (sym g ∙ b))),
-      (λ h. g ∙ T→true (alike (leavesChars (x .chars)) (leavesChars (y .chars))) (d .1 h)),
-    )
 
 -- A test on two of a list that asks whether they say the same.
 module _ {B : Type 0} (S U : Str → B → Type 0) (g : B → B → Bool)
@@ -103,7 +99,7 @@ module _ {B : Type 0} (S U : Str → B → Type 0) (g : B → B → Bool)
   others-where : (x : Str) (b : B) → S x b → (ys : List Str) (cs : List B) → Zip U ys cs →
       FalseWhere (any (g b) cs) (Every (λ y. SayAlike x y → ⊥) ys)
   others-where x b r ys cs z =
-      every-where U (λ y. SayAlike x y → ⊥) (g b) ys cs (λ y c q. none-where (g b c) (w x y b c r q)) z
+      every-where U (λ y. SayAlike x y → ⊥) (g b) ys cs (λ y c q. refuted (g b c) (w x y b c r q)) z
 
   -- None of one list with one of another.
   pub apart-where : (xs ys : List Str) (bs cs : List B) → Zip S xs bs → Zip U ys cs →

@@ -26,8 +26,9 @@ use Rattle.jose.specs.HeaderRules.{modeIn, keyless, wrongKey}
 use Rattle.meets.specs.Members.{Member, namesOf, Some, Among, Distinct, Absent}
 use Rattle.meets.specs.Rules.{EveryNamed, Present, ValueAmong, KeyFits}
 use Rattle.meets.proofs.Zip.{Zip}
-use Rattle.meets.proofs.Standing.{Stands, string-stands, is-string}
-use Rattle.meets.proofs.Deciding.{TrueWhere, FalseWhere, none-where, either, eqb-where, every-map}
+use Rattle.meets.proofs.Standing.{Stands, is-string}
+use Rattle.meets.proofs.Saying.{string-spells, refuted}
+use Rattle.meets.proofs.Deciding.{TrueWhere, FalseWhere, either, eqb-where, every-map}
 use Rattle.meets.proofs.Numbering.{octets-undone}
 use Rattle.meets.proofs.Entries.{Seen, numbered-where}
 use Rattle.meets.proofs.Parameters.{alg-number}
@@ -101,7 +102,7 @@ module _ (header message : List ℕ) where
   once x w s p [] es z h = tt
   once x w s p (m ∷ ms) [] z h = absurd z
   once x w s p (m ∷ ms) (e ∷ es) z h = (
-    (λ q. h .0 (same-octets x (m .name) w s (z .0 .sayable) p q)),
+    (λ q. h .0 (same-octets x (m .name) w s (z .0 .spells .sayable) p q)),
     once x w s p ms es (z .1) (h .1),
   )
 
@@ -116,10 +117,10 @@ module _ (header message : List ℕ) where
       let s = textOf header message (e .origin) in
       let at = e .member .valueStart in
       let size = e .member .valueSize in
-      let t = string-stands s x at size (subst (λ (v : Value). Stands s v at size) i (r .stands)) in
+      let t = string-spells s x at size (subst (λ (v : Value). Stands s v at size) i (r .stands)) in
       let has : HasOctets x (algName a) = elim among [ inl q ↦ q | inr n ↦ absurd n ] in
       let u : undo (valueIn header message e) ≡ undo (algName a) =
-      ap undo (t .0) ∙ octets-undone x (t .1) (algName a) has ∙ sym (alg-mode a .0) in
+      octets-undone (valueIn header message e) x t (algName a) has ∙ sym (alg-mode a .0) in
       ap (λ (n : ℕ). modeOf (nth algs n)) (number-alike algNames (valueIn header message e) (algName a) u)
       ∙ alg-mode a .1
 
@@ -146,7 +147,7 @@ module _ (header message : List ℕ) where
             Q (cond b (here e) (modeIn header message es)) ↔ ((a : Alg) → EveryNamed (ascii "alg") (Asked a) (p ∷ ps))
         cases true t later =
             let n = named .0 t in
-            let none = once (p .name) (ascii "alg") (z .0 .sayable) n ps es (z .1) (d .0) in
+            let none = once (p .name) (ascii "alg") (z .0 .spells .sayable) n ps es (z .1) (d .0) in
             let (a, w) = listed-names (p .value) (l .0 n) in (
               (λ q b. (
                 (λ m v. subst Q (mode-here p e (z .0) b v) q),
@@ -156,7 +157,7 @@ module _ (header message : List ℕ) where
               (λ f. subst Q (sym (mode-here p e (z .0) a w)) (f a .0 n w)),
             )
         cases false t later =
-            let none = none-where (numbered alg e) named .0 t in
+            let none = refuted (numbered alg e) named .0 t in
             let j : Present (ascii "alg") ps = elim i [ inl n ↦ absurd (none n) | inr j ↦ j ] in (
               (λ q a. ((λ n. absurd (none n)), later j .0 q a)),
               (λ f. later j .1 (λ a. f a .1)),

@@ -6,11 +6,11 @@ use mathlib.Core.List.{List, _++_}
 use Prim.Native.Nat.{ℕ, _≤_}
 use native.Mathlib.Omega.{arith}
 use lib.ListN.{length}
-use lib.Dec.{T, ltb}
+use lib.Dec.{ltb}
 use borrow.Author.Tests.{eq-eqb, ltb-false, le-ltb}
-use Rattle.json.specs.Grammar.{Str, leavesChars}
+use Rattle.json.specs.Grammar.{Str}
 use Rattle.json.specs.Strings.{SayAlike}
-use Rattle.json.specs.Spellings.{alike, sayable}
+use Rattle.json.specs.Spellings.{alike}
 use Rattle.rows.specs.Any.{any, anyPair}
 use Rattle.rows.specs.Rows.{Entry, nameIn, apart, same, repeated}
 use Rattle.jose.specs.Refusals.{first}
@@ -19,15 +19,15 @@ use Rattle.meets.specs.Members.{Member, namesOf, Distinct, Apart}
 use Rattle.meets.specs.Rules.{Headers, NamesApart}
 use Rattle.meets.specs.Meets.{Object}
 use Rattle.meets.proofs.Zip.{Zip, zip-into, zip-map-left, zip-length}
+use Rattle.meets.proofs.Saying.{Spells, alike-spells}
 use Rattle.meets.proofs.Deciding.{TrueWhere, FalseWhere, pair-append, anyAcross}
 use Rattle.meets.proofs.Deciding.{across-append, no-pair, every-right, first-none}
-use Rattle.meets.proofs.Entries.{EntryStands, entry-seen, entry-origin, alike-where, apart-where, distinct-where}
+use Rattle.meets.proofs.Entries.{EntryStands, entry-seen, entry-origin, apart-where, distinct-where}
 
 -- A name and the entry of origin o that has it.
 record NameStands (header message : List ℕ) (o : ℕ) (x : Str) (e : Entry) : Type 0 where
   origin : e .origin ≡ o
-  spelled : nameIn header message e ≡ leavesChars (x .chars)
-  sayable : T (sayable x)
+  spells : Spells (nameIn header message e) x
 
 module _ (names : List (List ℕ)) (header message : List ℕ) where
   -- The names of members and their entries.
@@ -39,8 +39,7 @@ module _ (names : List (List ℕ)) (header message : List ℕ) where
       (λ p e r.
       let t = entry-seen names header message o p e r in record {
         origin = entry-origin names header message o p e r;
-        spelled = t .spelled;
-        sayable = t .sayable;
+        spells = t .spells;
       })
       ps es z)
 
@@ -49,8 +48,7 @@ module _ (across : Bool) (header message : List ℕ) (o q : ℕ) (a : apart acro
   same-where : (x y : Str) (e f : Entry) → NameStands header message o x e → NameStands header message q y f →
       TrueWhere (same across header message e f) (SayAlike x y)
   same-where x y e f r t =
-      let d = alike-where x y (nameIn header message e) (nameIn header message f) (r .spelled) (t .spelled) (r .sayable)
-      (t .sayable) in
+      let d = alike-spells (nameIn header message e) x (r .spells) (nameIn header message f) y (t .spells) in
       let b : apart across (e .origin) (f .origin) ≡ true = ap₂ (apart across) (r .origin) (t .origin) ∙ a in
       subst (λ (c : Bool). TrueWhere (c && alike (nameIn header message e) (nameIn header message f)) (SayAlike x y))
       (sym b) d

@@ -22,7 +22,8 @@ use Rattle.meets.specs.Members.{Member, Among}
 use Rattle.meets.specs.Rules.{Headers, EveryNamed, Present, stringNames, objectNames, arrayNames, OfKind}
 use Rattle.meets.specs.Rules.{ValueAmong}
 use Rattle.meets.proofs.Zip.{Zip, zip-into, zip-append}
-use Rattle.meets.proofs.Deciding.{TrueWhere, FalseWhere, not-where, none-where, not-none-where, where-true}
+use Rattle.meets.proofs.Saying.{refuted}
+use Rattle.meets.proofs.Deciding.{TrueWhere, FalseWhere, not-where, not-none-where, where-true}
 use Rattle.meets.proofs.Deciding.{neither, where-asked, none-of-three, eqb-where, every-both, every-three}
 use Rattle.meets.proofs.Deciding.{zip-with, every-where, some-where, any-every, every-right, any-append}
 use Rattle.meets.proofs.Numbering.{disagrees, among-of}
@@ -141,7 +142,7 @@ module _ (header message : List ℕ) (p : Member) (e : Entry) (r : Seen register
   listed-where k n w ws a i =
       where-asked (numbered n e) (eqb (numberIn ws (valueIn header message e)) 0)
       (numbered-where registered header message p e r n w a)
-      (λ h. value-where registered header message p e r ws (k (among-of (p .name) (r .sayable) w stringNames i h)))
+      (λ h. value-where registered header message p e r ws (k (among-of (p .name) w stringNames i h)))
 
   -- The names that are asked for protection.
   outside-where : (eqb (e .origin) 0 ≡ false) →
@@ -149,8 +150,8 @@ module _ (header message : List ℕ) (p : Member) (e : Entry) (r : Seen register
   outside-where o =
       where-true (numbered zip e || numbered crit e) (not (eqb (e .origin) 0)) (ap not o)
       (neither (numbered zip e) (numbered crit e)
-      (none-where (numbered zip e) (numbered-where registered header message p e r zip (ascii "zip") zip-number))
-      (none-where (numbered crit e) (numbered-where registered header message p e r crit (ascii "crit") crit-number)))
+      (refuted (numbered zip e) (numbered-where registered header message p e r zip (ascii "zip") zip-number))
+      (refuted (numbered crit e) (numbered-where registered header message p e r crit (ascii "crit") crit-number)))
 
 -- `alg`, `enc` and the compression parameter are strings.
 

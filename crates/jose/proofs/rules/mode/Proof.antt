@@ -58,11 +58,10 @@ loop-again c =
     let args = c .before .before .before .before .before .before .before .args in
     let header = args .header .now in
     let message = args .message .now in
-    let t = args .table .now in
-    (
+    let t = args .table .now in (
       search needs,
       mode-turn header message (modeIn header message (entriesOf (args .count) t)) (args .count) (loop .i) t (loop .inv .1)
-      (c .before .before .loop-test .taken) (λ e. c .if1 .left (sym (number-at t (loop .i) 6) ∙ e)),
+          (c .before .before .loop-test .taken) (λ e. c .if1 .left (sym (number-at t (loop .i) 6) ∙ e)),
     )
 
 returns-2 : tie.Need-returns-2 Inv-loop μ-loop

@@ -41,11 +41,10 @@ loop-again : tie.Need-loop-again Inv-loop μ-loop
 loop-again c =
     let args = c .before .before .before .before .before .before .before .args in
     let loop = c .before .before .before .loop in
-    let f = unlisted (args .header .now) (args .message .now) in
-    (
+    let f = unlisted (args .header .now) (args .message .now) in (
       search needs,
       any-turn f (any f (entriesOf (args .count) (args .table .now))) (args .count) (loop .i) (args .table .now)
-      (loop .inv .1) (c .before .before .loop-test .taken) (sym (c .before .unlisted-at .ensures) ∙ c .if1 .left),
+          (loop .inv .1) (c .before .before .loop-test .taken) (sym (c .before .unlisted-at .ensures) ∙ c .if1 .left),
     )
 
 returns-2 : tie.Need-returns-2 Inv-loop μ-loop

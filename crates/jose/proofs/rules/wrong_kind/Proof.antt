@@ -39,11 +39,10 @@ loop-less c = search needs
 loop-again : tie.Need-loop-again Inv-loop μ-loop
 loop-again c =
     let args = c .before .before .before .before .before .args in
-    let loop = c .before .before .before .loop in
-    (
+    let loop = c .before .before .before .loop in (
       search needs,
       any-turn wrongKind (any wrongKind (entriesOf (args .count) (args .table .now))) (args .count) (loop .i) (args .table .now)
-      (loop .inv .1) (c .before .before .loop-test .taken) (sym (c .before .wrong-kind-at .ensures) ∙ c .if1 .left),
+          (loop .inv .1) (c .before .before .loop-test .taken) (sym (c .before .wrong-kind-at .ensures) ∙ c .if1 .left),
     )
 
 returns-2 : tie.Need-returns-2 Inv-loop μ-loop
