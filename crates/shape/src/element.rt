@@ -10,7 +10,10 @@ ghost use Rattle.jose.specs.Refusals.{first};
 ghost use Rattle.jose.specs.Elements.{elementsFrom};
 ghost use Rattle.headers.specs.Answers.{stageOf, Leaves};
 ghost use Rattle.shape.specs.Shape.{noObject, encryptedKey, component, recipientOf};
-ghost use Rattle.shape.specs.Answers.{three, startsOf, arrayOrder, counted};
+ghost use Rattle.shape.specs.Recipients.{elementEntries, elementOrder};
+ghost use Rattle.shape.specs.Answers.{three, flatRecipients, startsOf, arrayOrder, counted};
+ghost use Rattle.shape.specs.Answers.{startsOrder, recipientsAt, LeavesAt};
+use crate::member;
 use headers::Stage;
 use json::Position;
 use json::member::Member;
@@ -111,4 +114,42 @@ pub(crate) fn walk(message: &[u8], at: usize, starts: &mut [usize]) -> Stage
         left -= 1;
     }
     counted(count)
+}
+
+// 8 to 10 on the element at a position: where it passes, its recipient is written from a position of the table on.
+fn element(message: &[u8], at: usize, into: &mut [usize], to: usize) -> Stage
+    requires { ⌜ length (now message) ≤ 16777216 ⌝ }
+    requires { ⌜ to + 3 ≤ length (now into) ⌝ }
+    ensures { λ r. ⌜ r ≡ stageOf (first (elementOrder (now (message .entry)) at)) (length (elementEntries (now (message .entry)) at)) ⌝ }
+    ensures { λ r. ⌜ LeavesAt to (three (recipientOf (elementEntries (now (message .entry)) at))) (now (into .entry)) (now (into .exit)) r ⌝ }
+{
+    let list = crate::MEMBERS;
+    let mut table = [0u32; 256];
+    let object = headers::object(message, at, 1, &list, &mut table, 0);
+    let Stage::Passed(count) = object else {
+        return object;
+    };
+    if member::wrong_element(message, &table, count) {
+        return Stage::Refused(10);
+    }
+    put(&table, count, into, to);
+    object
+}
+
+// 8 to 10 on the elements at some starts, in turn: their recipients as numbers of the table, and how many they are.
+pub(crate) fn elements(message: &[u8], starts: &[usize], into: &mut [usize]) -> Stage
+    requires { ⌜ length (now message) ≤ 16777216 ⌝ }
+    requires { ⌜ length (now starts) * 3 ≤ length (now into) ⌝ }
+    ensures { λ r. ⌜ r ≡ stageOf (first (startsOrder (now (message .entry)) (now (starts .entry)))) (length (now (starts .entry))) ⌝ }
+    ensures { λ r. ⌜ Leaves (flatRecipients (recipientsAt (now (message .entry)) (now (starts .entry)))) (now (into .entry)) (now (into .exit)) r ⌝ }
+{
+    let mut i: usize = 0;
+    while i < starts.len() {
+        let answer = element(message, starts[i], into, i * 3);
+        let Stage::Passed(_) = answer else {
+            return answer;
+        };
+        i += 1;
+    }
+    Stage::Passed(starts.len())
 }

@@ -61,13 +61,14 @@ pub fn recipients(message: &[u8], table: &[u32], count: usize, into: &mut [usize
     ensures { λ r. ⌜ Leaves (flatRecipients (recipientsIn (now (message .entry)) (entriesOf count (now (table .entry))))) (now (into .entry)) (now (into .exit)) r ⌝ }
 {
     if !rows::ask::present(table, count, 5) {
-        element::put(element::recipient_of(table, count), into, 0);
+        element::put(table, count, into, 0);
         return Stage::Passed(1);
     }
     let mut starts = [0usize; 8];
-    let walked = element::walk(message, rows::ask::value_of(table, count, 5).start, &mut starts);
-    let Stage::Passed(elements) = walked else {
+    let at = rows::ask::value_of(table, count, 5).start;
+    let walked = element::walk(message, at, &mut starts);
+    let Stage::Passed(n) = walked else {
         return walked;
     };
-    element::elements(message, &starts, elements, into)
+    element::elements(message, &starts[..n], into)
 }

@@ -4,7 +4,7 @@ use Prim.Native.Nat.{ℕ, _+_, _-_}
 use Rattle.json.specs.Places.{Place}
 use Rattle.rows.specs.Rows.{valueOf}
 use Rattle.rows.specs.Tables.{entriesOf}
-use Rattle.shape.proofs.Recipients.{inner-none, inner-some}
+use Rattle.shape.proofs.Numbers.{inner-none, inner-some}
 use borrow.Author.Needs.{needs}
 use Rattle.shape.proofs.element.key.Statement.{statement}
 use Rattle.shape.proofs.element.key.Tie as tie
