@@ -1,14 +1,13 @@
 -- The recipients of a flattened message, which is its own, and of a general one: those at the starts of its elements.
 use mathlib.Core.Path.{_≡_, refl, ap, ap₂, sym, subst, _∙_}
-use mathlib.Core.Bool.{Bool, true, false, _||_, cond}
+use mathlib.Core.Bool.{Bool, true, false, cond}
 use mathlib.Core.List.{List, [], _∷_, _++_, map, flatMap}
-use Prim.Native.Nat.{ℕ, _*_, _≤_}
+use Prim.Native.Nat.{ℕ, _≤_}
 use native.Mathlib.Omega.{arith}
 use lib.ListN.{length, take}
 use lib.Dec.{ltb}
 use borrow.Author.Tests.{ltb-false}
-use Rattle.prelude.specs.Buffer.{written}
-use Rattle.prelude.proofs.Writing.{written-length, begins}
+use Rattle.prelude.proofs.Writing.{begins}
 use Rattle.json.specs.Places.{Element}
 use Rattle.json.specs.Reader.{elementsAt}
 use Rattle.rows.specs.Rows.{Entry, present, valueOf}

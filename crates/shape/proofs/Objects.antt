@@ -17,7 +17,7 @@ use Rattle.json.specs.declared.Found.{Found}
 use Rattle.rows.specs.Rows.{Entry, entryOf, entriesIn, repeated}
 use Rattle.rows.specs.Tables.{flat, entriesOf, collectedTable}
 use Rattle.rows.proofs.Entries.{flat-length, entries-written}
-use Rattle.jose.specs.Refusals.{Test, _if_, first}
+use Rattle.jose.specs.Refusals.{_if_, first}
 use Rattle.jose.proofs.Refusals.{first-fails, first-passes}
 use Rattle.headers.specs.Headers.{isNothing, unread, outermost, objectOrder}
 use Rattle.headers.specs.Answers.{stageOf, Leaves}

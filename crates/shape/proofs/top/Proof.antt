@@ -8,7 +8,6 @@ use lib.ListN.{length}
 use Rattle.prelude.specs.Ascii.{ascii}
 use Rattle.names.specs.Names.{listOf, filled, total}
 use Rattle.names.proofs.Laws.{names-of}
-use Rattle.rows.specs.Rows.{Entry}
 use Rattle.rows.specs.Tables.{collectedTable}
 use Rattle.jose.specs.Refusals.{first}
 use Rattle.headers.specs.Headers.{unread, objectOrder}

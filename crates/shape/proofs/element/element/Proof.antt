@@ -2,15 +2,12 @@
 -- of names in the source is that of the definition, by computing.
 use mathlib.Core.Path.{_≡_, refl, ap, sym, _∙_}
 use mathlib.Core.List.{List, flatten}
-use Prim.Native.Nat.{ℕ}
-use native.Mathlib.Omega.{arith}
 use lib.ListN.{length}
 use Rattle.prelude.specs.Ascii.{ascii}
 use Rattle.prelude.specs.Buffer.{written}
 use Rattle.names.specs.Names.{listOf, filled, total}
 use Rattle.names.proofs.Laws.{names-of}
 use Rattle.rows.specs.Rows.{Entry}
-use Rattle.rows.specs.Tables.{collectedTable}
 use Rattle.jose.specs.Refusals.{first}
 use Rattle.headers.specs.Headers.{objectOrder}
 use Rattle.headers.specs.Answers.{stageOf}

@@ -1,6 +1,5 @@
 -- `elements` reads one element after the other: those so far passed, and those from here on decide.
 use Prim.Native.Nat.{_-_}
-use native.Mathlib.Omega.{arith}
 use lib.ListN.{length}
 use Rattle.shape.proofs.Reading.{Reading, reading, room, read-on, read-length, read-refused, read-out}
 use Rattle.shape.proofs.element.elements.Statement.{statement}
@@ -11,7 +10,7 @@ use Rattle.shape.proofs.element.element.Reads as element-reads
 use borrow.Author.Needs.{needs}
 
 abbrev Inv-loop : tie.InvT-loop
-Inv-loop message starts into₀ i₀ into i =  Reading message starts i into₀ into
+Inv-loop message starts into₀ i₀ into i = Reading message starts i into₀ into
 
 abbrev μ-loop : tie.MeasureT-loop
 μ-loop message starts into₀ i₀ into i = length starts - i

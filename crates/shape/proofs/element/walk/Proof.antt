@@ -94,8 +94,7 @@ returns-3 c =
     let left = c .before .before .before .before .before .before .before .before .before .loop-test .taken in
     let told = sym (got .1) ∙ c .before .before .before .before .before .before .before .before .element .ensures in
     let rest = walk-on (of-any noObject) _ s (loop .left) (loop .p .at) (loop .inv .some) left (got .0 .0) (got .0 .1 .0) told
-    (ap not (eq-eqb _ _ (c .before .before .before .if1 .left))) in
-    (
+    (ap not (eq-eqb _ _ (c .before .before .before .if1 .left))) in (
       refused-10 (elementsAt 12 s (args .at)) (sym (c .if3 .taken) ∙ c .before .some-no-object .ensures ∙ rest),
       loop .inv .same,
     )
@@ -113,8 +112,7 @@ returns-4 c =
     let told = sym (got .1) ∙ c .before .before .before .before .before .before .before .before .element .ensures in
     let rest = walk-on (of-any noObject) _ s (loop .left) (loop .p .at) (loop .inv .some) left (got .0 .0) (got .0 .1 .0) told
     (ap not (eq-eqb _ _ (c .before .before .before .if1 .left))) in
-    let more = elements-more s (loop .left) (loop .p .at) left (got .0 .0) (got .0 .1 .0) told in
-    (
+    let more = elements-more s (loop .left) (loop .p .at) left (got .0 .0) (got .0 .1 .0) told in (
       refused-11 (elementsAt 12 s (args .at)) (sym (c .if3 .left) ∙ c .before .some-no-object .ensures ∙ rest)
           (over (loop .inv) _ _ more (c .before .before .if2 .taken)),
       loop .inv .same,
