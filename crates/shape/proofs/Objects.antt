@@ -1,5 +1,5 @@
--- An object of the message, its members collected as entries of a table: refusals 8 and 9 on it, and then 10, as the top
--- level and an element of `recipients` ask it.
+-- An object of the message, its members collected as entries of a table: refusals 8 and 9 on it, and then 10, as the
+-- top level and an element of `recipients` ask it.
 use mathlib.Core.Path.{_≡_, refl, ap, ap₂, sym, subst, _∙_}
 use mathlib.Core.Bool.{Bool, true, false, cond}
 use mathlib.Core.List.{List, [], _∷_, _++_}
@@ -30,7 +30,8 @@ use Rattle.shape.specs.Recipients.{topEntries, topOrder, elementEntries,
 use Rattle.shape.specs.Answers.{LeavesAt}
 use Rattle.shape.proofs.Orders.{handed-up, gone-on, one-fails, one-passes}
 
-entries-count : (names : List (List ℕ)) (s : List ℕ) (o : ℕ) (ms : List Member) → length (entriesIn names s o ms) ≡ length ms
+entries-count : (names : List (List ℕ)) (s : List ℕ) (o : ℕ) (ms : List Member) →
+    length (entriesIn names s o ms) ≡ length ms
 unfolding entriesIn
 entries-count names s o ms = length-map ms (entryOf names s o)
 
@@ -123,7 +124,8 @@ module _ (message : List ℕ) (es : List Entry) (answer : Stage)
       pub object-passed : wrong ≡ false →
           answer ≡ stageOf (first (objectOrder message es ++ (10 if wrong ∷ []))) (length es)
       object-passed w =
-          e ∙ ap Passed (passed-is count (first (objectOrder message es)) (length es) (sym e ∙ a) .1) ∙ one-passes wrong (length es) w ∙ sym behind
+          e ∙ ap Passed (passed-is count (first (objectOrder message es)) (length es) (sym e ∙ a) .1)
+          ∙ one-passes wrong (length es) w ∙ sym behind
 
 -- An element
 

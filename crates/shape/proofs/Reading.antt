@@ -1,5 +1,5 @@
--- The elements at some starts, read in turn: those so far pass and their recipients are written, the order of those from
--- here on decides.
+-- The elements at some starts, read in turn: those so far pass and their recipients are written, the order of those
+-- from here on decides.
 use mathlib.Core.Path.{_≡_, refl, ap, sym, subst, _∙_}
 use mathlib.Core.Bool.{true}
 use mathlib.Core.List.{List, [], _∷_, _++_}
@@ -43,7 +43,8 @@ pub record Reading (message starts : List ℕ) (i : ℕ) (before now : List ℕ)
   pub order : first (startsOrder message (drop i starts)) ≡ first (startsOrder message starts)
   pub wrote : Writing 0 (numbersAt message starts) before (numbersAt message (drop i starts)) (i * 3) now
 
-pub reading : (message starts before : List ℕ) → length starts * 3 ≤ length before → Reading message starts 0 before before
+pub reading : (message starts before : List ℕ) → length starts * 3 ≤ length before →
+    Reading message starts 0 before before
 reading message starts before h = record {
   order = refl;
   wrote = begin 0 (numbersAt message starts) before (omega (arith, numbers-length message starts));
@@ -97,8 +98,8 @@ module _ {message starts before now : List ℕ} {i : ℕ} (r : Reading message s
           × Leaves (numbersAt message starts) before after answer
       read-refused m k e =
           let x = getD starts i 0 in (
-            e ∙ handed-up (elementOrder message x) (startsOrder message (drop (i + 1) starts)) (element-nonzero message x)
-                m n k (sym e ∙ a)
+            e ∙ handed-up (elementOrder message x) (startsOrder message (drop (i + 1) starts))
+                (element-nonzero message x) m n k (sym e ∙ a)
                 ∙ ap (λ (j : ℕ). stageOf j k) here,
             subst (λ (y : Stage). Leaves (numbersAt message starts) before after y) (sym e)
                 (read-length m e),

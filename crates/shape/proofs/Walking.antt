@@ -1,5 +1,5 @@
--- The elements of `recipients`, walked along: so many are objects and their starts are written, the rest is still to come.
--- What is written matters only where there are no more than 8.
+-- The elements of `recipients`, walked along: so many are objects and their starts are written, the rest is still to
+-- come. What is written matters only where there are no more than 8.
 use mathlib.Core.Path.{_≡_, refl, ap, ap₂, sym, subst, _∙_}
 use mathlib.Core.Bool.{Bool, true, false, _||_, cond}
 use mathlib.Core.List.{List, [], _∷_}
@@ -34,7 +34,8 @@ unfolding startsOf
 starts-length [] = refl
 starts-length (x ∷ xs) = omega (arith, starts-length xs)
 
-pub walking : (xs rest : List Element) (before : List ℕ) → rest ≡ xs → 8 ≤ length before → Walking xs rest 0 before before
+pub walking : (xs rest : List Element) (before : List ℕ) → rest ≡ xs → 8 ≤ length before →
+    Walking xs rest 0 before before
 walking xs rest before e h =
     subst (λ (l : List Element). Walking xs l 0 before before) (sym e) (record {
       few = omega arith;
@@ -91,8 +92,8 @@ passed-8 xs n r a e h s =
     cases false t = ap (λ (z : Bool). cond z (Refused 10) (Passed (length xs))) t
 
 -- What any answer leaves, where all is written.
-leaves-both : (numbers before now : List ℕ) → now ≡ written 0 numbers before → length now ≡ length before → (r : Stage) →
-    Leaves numbers before now r
+leaves-both : (numbers before now : List ℕ) → now ≡ written 0 numbers before → length now ≡ length before →
+    (r : Stage) → Leaves numbers before now r
 leaves-both numbers before now w s (Passed n) = w
 leaves-both numbers before now w s (Refused n) = s
 

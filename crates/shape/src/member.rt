@@ -1,4 +1,6 @@
-// 10 on the members of an object of the message, by their entries. What each function answers stands in specs/Shape.
+// 10 on the members of an object of the message, by their entries. What each function answers stands in specs/Shape. Of
+// an entry's numbers, 3 and 4 are the value's place, 5 its kind (0 object, 1 array, 2 string), and 6 which of the known
+// members it is (2 `unprotected`, 3 `header`, 4 `encrypted_key`, 5 `recipients`, 8 `ciphertext`).
 ghost use mathlib.Core.Path.{_≡_};
 ghost use Prim.Native.Nat.{_+_, _*_, _≤_};
 ghost use lib.ListN.{length, drop};

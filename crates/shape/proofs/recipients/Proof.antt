@@ -1,5 +1,5 @@
--- `recipients` asks for the form: the top level is the one recipient of a flattened message; the elements of a general one
--- are walked along, and then read by their starts.
+-- `recipients` asks for the form: the top level is the one recipient of a flattened message; the elements of a general
+-- one are walked along, and then read by their starts.
 use mathlib.Core.Path.{_≡_, refl, ap, sym, _∙_}
 use mathlib.Core.Bool.{true}
 use mathlib.Core.List.{List}
@@ -49,7 +49,8 @@ few : (k : tie.After-known-told) → k .before .walked .given .0 .0 ≤ 8
 few k =
     let c = walked k in
     let value = c .before .before .value-of in
-    eight (message (start c)) (entries (start c)) (is-general c) (value .result .start) (value .ensures .0) (c .walk .result)
+    eight (message (start c)) (entries (start c)) (is-general c) (value .result .start) (value .ensures .0)
+    (c .walk .result)
     (c .walk .ensures .0) (k .before .walked .given .0 .0) (k .before .walked .given .1)
 
 starts : (k : tie.After-known-told) →
@@ -84,10 +85,12 @@ same-length c = search needs
 returns : tie.Need-returns
 returns c =
     let given = c .before .before .before .before .before .before .before .before .before in
-    let absent = sym (c .before .before .before .before .before .present .ensures) ∙ not-true _ (c .before .before .before .before .if1 .taken) in (
+    let absent = sym (c .before .before .before .before .before .present .ensures)
+    ∙ not-true _ (c .before .before .before .before .if1 .taken) in (
       flattened (message given) (entries given) absent,
       c .before .before .put .ensures
-          ∙ ap (λ (l : List ℕ). written 0 l (given .args .into .now)) (flattened-numbers (message given) (entries given) absent),
+          ∙ ap (λ (l : List ℕ). written 0 l (given .args .into .now))
+          (flattened-numbers (message given) (entries given) absent),
     )
 
 value-of-requires : tie.Need-value-of-requires
@@ -116,7 +119,8 @@ returns-2 c =
     )
 
 array-share-prefix-starts : tie.Need-array-share-prefix-starts
-array-share-prefix-starts c = omega (arith, count c, length-take (c .before .walked .given .0 .0) (walked c .walk .last .1 .1 .0))
+array-share-prefix-starts c =
+    omega (arith, count c, length-take (c .before .walked .given .0 .0) (walked c .walk .last .1 .1 .0))
 
 slice-aggregate-elements : tie.Need-slice-aggregate-elements
 slice-aggregate-elements c = count (c .before)
@@ -136,7 +140,8 @@ returns-3 c =
     let told = k .before .walked .given in
     let value = after .before .before .value-of in
     let call = c .before .before .elements in (
-      general (message (start after)) (entries (start after)) (is-general after) (value .result .start) (value .ensures .0)
+      general (message (start after)) (entries (start after)) (is-general after) (value .result .start)
+          (value .ensures .0)
           (after .walk .result) (after .walk .ensures .0) (told .0 .0) (told .1) _ (starts k) _ (call .ensures .0),
       general-leaves (message (start after)) (entries (start after)) (is-general after) (value .result .start)
           (value .ensures .0) (after .walk .result) (after .walk .ensures .0) (told .0 .0) (told .1) _ (starts k)

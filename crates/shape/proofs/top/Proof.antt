@@ -15,7 +15,8 @@ use Rattle.headers.specs.Answers.{stageOf}
 use Rattle.headers.proofs.Texts.{noValue}
 use Rattle.shape.specs.Shape.{memberNames, wrongTop}
 use Rattle.shape.specs.Recipients.{topEntries}
-use Rattle.shape.proofs.Objects.{Entered, object-answer, object-table, entered, entered-table, as-long, object-refused, object-wrong, object-passed}
+use Rattle.shape.proofs.Objects.{Entered, object-answer, object-table, entered, entered-table, as-long}
+use Rattle.shape.proofs.Objects.{object-refused, object-wrong, object-passed}
 use Rattle.shape.proofs.Objects.{top-entries, unread-is, top-unread, top-order, stage-refused}
 use borrow.Author.Needs.{needs}
 use Rattle.shape.proofs.top.Statement.{statement}
@@ -36,7 +37,8 @@ abbrev start : tie.After-object → tie.Start
 start c = c .before .before .before .before .before .before .before .before .before
 
 answer : (c : tie.After-object) → c .object .result
-    ≡ stageOf (first (objectOrder (message (start c)) (topEntries (message (start c))))) (length (topEntries (message (start c))))
+    ≡ stageOf (first (objectOrder (message (start c)) (topEntries (message (start c)))))
+    (length (topEntries (message (start c))))
 unfolding listOf memberNames ascii flatten
 answer c =
     let skipped = c .before .before .before .skip-space in
@@ -82,7 +84,8 @@ returns : tie.Need-returns
 returns c =
     let args = c .before .before .before .before .before .args in
     let judged = c .before .before .judge in
-    let none = unread-is (args .message .now) (judged .result) (judged .ensures) ∙ ap noValue (c .enum-told2 .given .1) in
+    let none = unread-is (args .message .now) (judged .result) (judged .ensures)
+    ∙ ap noValue (c .enum-told2 .given .1) in
     (top-unread (args .message .now) _ none, refl)
 
 skip-space-requires : tie.Need-skip-space-requires
@@ -109,7 +112,8 @@ returns-2 c =
     let after = c .before .before .before .before in
     let told = c .enum-told3 .given in
     let s = message (start after) in (
-      object-refused _ _ _ (answer after) (wrongTop s (topEntries s)) (told .0 .0) (told .1) ∙ top-order s _ (is-read after),
+      object-refused _ _ _ (answer after) (wrongTop s (topEntries s)) (told .0 .0) (told .1)
+          ∙ top-order s _ (is-read after),
       stage-refused _ _ _ _ (told .0 .0) (told .1) (as-long _ _ _ (left after) (start after .pre .1)),
     )
 
@@ -124,7 +128,8 @@ returns-3 c =
     let after = c .before .before .before .before .before .before .before .before in
     let told = c .before .before .before .before .object2 .given in
     let s = message (start after) in
-    let wrong = sym (ap (wrongTop s) (holds (c .before .before .before) .entries)) ∙ sym (c .before .wrong-top .ensures) ∙ c .if1 .taken in (
+    let wrong = sym (ap (wrongTop s) (holds (c .before .before .before) .entries))
+    ∙ sym (c .before .wrong-top .ensures) ∙ c .if1 .taken in (
       object-wrong _ _ _ (answer after) _ (told .0 .0) (told .1) wrong ∙ top-order s _ (is-read after),
       as-long _ _ _ (left after) (start after .pre .1),
     )
@@ -137,7 +142,8 @@ returns-4 c =
     let after = c .before .before .before .before .before .before .before .before in
     let told = c .before .before .before .before .object2 .given in
     let s = message (start after) in
-    let right = sym (ap (wrongTop s) (holds (c .before .before .before) .entries)) ∙ sym (c .before .wrong-top .ensures) ∙ c .if1 .left in (
+    let right = sym (ap (wrongTop s) (holds (c .before .before .before) .entries))
+    ∙ sym (c .before .wrong-top .ensures) ∙ c .if1 .left in (
       sym (told .1) ∙ object-passed _ _ _ (answer after) _ (told .0 .0) (told .1) right ∙ top-order s _ (is-read after),
       entered-table _ _ _ (left after) (start after .pre .1) _ _ (answer after) (told .0 .0) (told .1),
     )

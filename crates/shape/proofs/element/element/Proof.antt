@@ -1,5 +1,5 @@
--- `element` collects the entries of the element, asks the definition's questions of them, and writes the recipient. The list
--- of names in the source is that of the definition, by computing.
+-- `element` collects the entries of the element, asks the definition's questions of them, and writes the recipient. The
+-- list of names in the source is that of the definition, by computing.
 use mathlib.Core.Path.{_≡_, refl, ap, sym, _∙_}
 use mathlib.Core.List.{List, flatten}
 use lib.ListN.{length}
@@ -14,8 +14,8 @@ use Rattle.headers.specs.Answers.{stageOf}
 use Rattle.shape.specs.Shape.{memberNames, wrongElement, recipientOf}
 use Rattle.shape.specs.Recipients.{elementEntries}
 use Rattle.shape.specs.Answers.{three}
-use Rattle.shape.proofs.Objects.{Entered, object-answer, object-table, entered, object-refused, object-wrong, object-passed}
-use Rattle.shape.proofs.Objects.{element-entries, element-order, leaves-refused}
+use Rattle.shape.proofs.Objects.{Entered, object-answer, object-table, entered}
+use Rattle.shape.proofs.Objects.{object-refused, object-wrong, object-passed, element-entries, element-order, leaves-refused}
 use borrow.Author.Needs.{needs}
 use Rattle.shape.proofs.element.element.Statement.{statement}
 use Rattle.shape.proofs.element.element.Tie as tie
@@ -31,7 +31,8 @@ entries s = elementEntries (s .args .message .now) (s .args .at)
 -- after the call of `object`
 answer : (c : tie.After-object) →
     let start = c .before .before .before .before .before in
-    c .object .result ≡ stageOf (first (objectOrder (start .args .message .now) (entries start))) (length (entries start))
+    c .object .result ≡ stageOf (first (objectOrder (start .args .message .now) (entries start)))
+    (length (entries start))
 unfolding listOf memberNames ascii flatten
 answer c =
     let args = c .before .before .before .before .before .args in
@@ -41,7 +42,8 @@ answer c =
 -- where it passes
 holds : (c : tie.After-known-told) →
     let start = c .before .before .before .before .before .before .before .before .before in
-    Entered (entries start) (c .before .before .before .before .object .last .1 .1 .1 .1 .0) (c .before .object2 .given .0 .0)
+    Entered (entries start) (c .before .before .before .before .object .last .1 .1 .1 .1 .0)
+    (c .before .object2 .given .0 .0)
 unfolding listOf memberNames ascii flatten
 holds c =
     let after = c .before .before .before .before in
@@ -71,7 +73,8 @@ returns : tie.Need-returns
 returns c =
     let args = c .before .before .before .before .before .before .before .before .args in
     let told = c .enum-told .given in (
-      object-refused _ _ _ (answer (c .before .before .before)) (wrongElement (args .message .now) (entries (c .before .before .before .before .before .before .before .before))) (told .0 .0) (told .1)
+      object-refused _ _ _ (answer (c .before .before .before))
+          (wrongElement (args .message .now) (entries (c .before .before .before .before .before .before .before .before))) (told .0 .0) (told .1)
           ∙ element-order (args .message .now) (args .at) _,
       leaves-refused (args .to) _ (args .into .now) _ (told .0 .0) (told .1),
     )
@@ -86,9 +89,11 @@ returns-2 : tie.Need-returns-2
 returns-2 c =
     let args = c .before .before .before .before .before .before .before .before .before .before .before .before .args in
     let told = c .before .before .before .before .object2 .given in
-    let wrong = sym (ap (wrongElement (args .message .now)) (holds (c .before .before .before) .entries)) ∙ sym (c .before .wrong-element .ensures)
+    let wrong = sym (ap (wrongElement (args .message .now)) (holds (c .before .before .before) .entries))
+    ∙ sym (c .before .wrong-element .ensures)
     ∙ c .if1 .taken in (
-      object-wrong _ _ _ (answer (c .before .before .before .before .before .before .before)) _ (told .0 .0) (told .1) wrong ∙ element-order (args .message .now) (args .at) _,
+      object-wrong _ _ _ (answer (c .before .before .before .before .before .before .before)) _ (told .0 .0)
+          (told .1) wrong ∙ element-order (args .message .now) (args .at) _,
       refl,
     )
 
@@ -96,7 +101,8 @@ slice-aggregate-put : tie.Need-slice-aggregate-put
 slice-aggregate-put c = search needs
 
 put-requires : tie.Need-put-requires
-put-requires c κs = (holds (c .before .before .before .before .before) .fits, c .before .before .before .before .before .before .before .before .before .before .before .before .before .before .pre .1)
+put-requires c κs =
+    (holds (c .before .before .before .before .before) .fits, c .before .before .before .before .before .before .before .before .before .before .before .before .before .before .pre .1)
 
 same-length : tie.Need-same-length
 same-length c = search needs
@@ -106,9 +112,12 @@ returns-3 c =
     let args = c .before .before .before .before .before .before .before .before .before .before .before .before .before .before .before .before .before .args in
     let told = c .before .before .before .before .before .before .before .before .before .object2 .given in
     let es = holds (c .before .before .before .before .before .before .before .before) .entries in
-    let right = sym (ap (wrongElement (args .message .now)) es) ∙ sym (c .before .before .before .before .before .before .wrong-element .ensures)
+    let right = sym (ap (wrongElement (args .message .now)) es)
+    ∙ sym (c .before .before .before .before .before .before .wrong-element .ensures)
     ∙ c .before .before .before .before .before .if1 .left in (
-      sym (told .1) ∙ object-passed _ _ _ (answer (c .before .before .before .before .before .before .before .before .before .before .before .before)) _ (told .0 .0) (told .1) right ∙ element-order (args .message .now) (args .at) _,
+      sym (told .1)
+          ∙ object-passed _ _ _
+          (answer (c .before .before .before .before .before .before .before .before .before .before .before .before)) _ (told .0 .0) (told .1) right ∙ element-order (args .message .now) (args .at) _,
       c .before .before .put .ensures
           ∙ ap (λ (fs : List Entry). written (args .to) (three (recipientOf fs)) (args .into .now)) es,
     )

@@ -30,7 +30,8 @@ mul-element-2 : tie.Need-mul-element-2 Inv-loop μ-loop
 mul-element-2 c = search needs
 
 element-requires : tie.Need-element-requires Inv-loop μ-loop
-element-requires c κs = (c .before .before .before .before .before .before .before .pre .0, room (c .before .before .before .loop .inv) (c .before .before .loop-test .taken))
+element-requires c κs =
+    (c .before .before .before .before .before .before .before .pre .0, room (c .before .before .before .loop .inv) (c .before .before .loop-test .taken))
 
 enum-told : tie.Need-enum-told Inv-loop μ-loop
 enum-told c = search needs
@@ -43,14 +44,16 @@ same-length c =
     let loop = c .before .before .before .before .before .before .before .before .loop in
     let call = c .before .before .before .before .element in
     let told = c .enum-told2 .given in
-    read-length (loop .inv) (c .before .before .before .before .before .before .before .loop-test .taken) _ _ (call .ensures .0) _ (call .ensures .1) (told .0 .0) (told .1)
+    read-length (loop .inv) (c .before .before .before .before .before .before .before .loop-test .taken) _ _
+    (call .ensures .0) _ (call .ensures .1) (told .0 .0) (told .1)
 
 returns : tie.Need-returns Inv-loop μ-loop
 returns c =
     let loop = c .before .before .before .before .before .before .before .before .loop in
     let call = c .before .before .before .before .element in
     let told = c .enum-told2 .given in
-    read-refused (loop .inv) (c .before .before .before .before .before .before .before .loop-test .taken) _ _ (call .ensures .0) _ (call .ensures .1) (told .0 .0) _ (told .1)
+    read-refused (loop .inv) (c .before .before .before .before .before .before .before .loop-test .taken) _ _
+    (call .ensures .0) _ (call .ensures .1) (told .0 .0) _ (told .1)
 
 add-i : tie.Need-add-i Inv-loop μ-loop
 add-i c = search needs
@@ -63,7 +66,8 @@ loop-again c =
     let loop = c .before .before .before .before .before .before .before .before .loop in
     let call = c .before .before .before .before .element in
     let told = c .enum-told .given in
-    read-on (loop .inv) (c .before .before .before .before .before .before .before .loop-test .taken) _ _ (call .ensures .0) _ (call .ensures .1) (told .0 .0) (told .1)
+    read-on (loop .inv) (c .before .before .before .before .before .before .before .loop-test .taken) _ _
+    (call .ensures .0) _ (call .ensures .1) (told .0 .0) (told .1)
 
 same-length-2 : tie.Need-same-length-2 Inv-loop μ-loop
 same-length-2 c = c .before .loop .inv .wrote .same

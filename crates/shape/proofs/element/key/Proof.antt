@@ -20,7 +20,8 @@ returns : tie.Need-returns
 returns c =
     let args = c .before .before .before .before .args in
     let value = c .before .before .value-of .ensures in
-    let none = inner-none (valueOf 4 (entriesOf (args .count) (args .table .now))) (sym (value .1 .0) ∙ c .if1 .taken) in
+    let none = inner-none (valueOf 4 (entriesOf (args .count) (args .table .now)))
+    (sym (value .1 .0) ∙ c .if1 .taken) in
     (sym (ap (λ (q : Place). q .start) none), sym (ap (λ (q : Place). q .size) none))
 
 add-t5 : tie.Need-add-t5
@@ -33,7 +34,8 @@ returns-2 : tie.Need-returns-2
 returns-2 c =
     let args = c .before .before .before .before .before .before .args in
     let value = c .before .before .before .before .value-of .ensures in
-    let some = inner-some (valueOf 4 (entriesOf (args .count) (args .table .now))) (λ e. c .before .before .if1 .left (value .1 .0 ∙ e)) in (
+    let some = inner-some (valueOf 4 (entriesOf (args .count) (args .table .now)))
+    (λ e. c .before .before .if1 .left (value .1 .0 ∙ e)) in (
       ap (λ (n : ℕ). n + 1) (value .0) ∙ sym (ap (λ (q : Place). q .start) some),
       c .minus .ensures ∙ ap (λ (n : ℕ). n - 2) (value .1 .0) ∙ sym (ap (λ (q : Place). q .size) some),
     )

@@ -43,7 +43,8 @@ returns-2 : tie.Need-returns-2 Inv-loop μ-loop
 returns-2 c =
     let loop = c .before .before .before .before .before .before .before .loop in
     let got = c .before .before .before .found .given in
-    walk-found (of-any _) _ _ (loop .left) (loop .p .at) (loop .inv) (c .before .before .before .before .before .before .loop-test .taken) (got .0 .0) (got .0 .1 .0)
+    walk-found (of-any _) _ _ (loop .left) (loop .p .at) (loop .inv)
+    (c .before .before .before .before .before .before .loop-test .taken) (got .0 .0) (got .0 .1 .0)
     (sym (got .1) ∙ c .before .before .before .before .before .element .ensures) (ap not (ne-eqb _ _ (c .if1 .taken)))
 
 sub-left : tie.Need-sub-left Inv-loop μ-loop
@@ -56,7 +57,8 @@ loop-again : tie.Need-loop-again Inv-loop μ-loop
 loop-again c =
     let loop = c .before .before .before .before .before .before .before .loop in
     let got = c .before .before .before .found .given in
-    walk-on (of-any _) _ _ (loop .left) (loop .p .at) (loop .inv) (c .before .before .before .before .before .before .loop-test .taken) (got .0 .0) (got .0 .1 .0)
+    walk-on (of-any _) _ _ (loop .left) (loop .p .at) (loop .inv)
+    (c .before .before .before .before .before .before .loop-test .taken) (got .0 .0) (got .0 .1 .0)
     (sym (got .1) ∙ c .before .before .before .before .before .element .ensures) (ap not (eq-eqb _ _ (c .if1 .left)))
 
 returns-3 : tie.Need-returns-3 Inv-loop μ-loop

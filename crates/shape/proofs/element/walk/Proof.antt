@@ -1,5 +1,5 @@
--- `walk` goes along the elements: so many are objects, and their starts are written; after the eighth, the rest is asked
--- for one that is no object.
+-- `walk` goes along the elements: so many are objects, and their starts are written; after the eighth, the rest is
+-- asked for one that is no object.
 use Prim.Native.Nat.{_-_}
 use mathlib.Core.Path.{ap, sym, _∙_}
 use mathlib.Core.Bool.{not}
@@ -35,7 +35,8 @@ loop-holds : tie.Need-loop-holds Inv-loop μ-loop
 loop-holds c =
     let start = c .before .before .before in
     walking _ _ (start .args .starts .now)
-    (elements-all (start .args .message .now) (start .args .at) (c .inside .result .at) (c .inside .ensures)) (start .pre)
+    (elements-all (start .args .message .now) (start .args .at) (c .inside .result .at) (c .inside .ensures))
+    (start .pre)
 
 element-requires : tie.Need-element-requires Inv-loop μ-loop
 element-requires c κs = search needs
@@ -58,7 +59,8 @@ returns c =
     let loop = c .before .before .before .before .before .loop in
     let left = c .before .before .before .before .loop-test .taken in
     let told = sym (c .before .enum-told .given .1) ∙ c .before .before .before .element .ensures in
-    walked-out (loop .inv) (elements-none s (loop .left) (loop .p .at) left told) (c .counted .result) (c .counted .ensures)
+    walked-out (loop .inv) (elements-none s (loop .left) (loop .p .at) left told) (c .counted .result)
+    (c .counted .ensures)
     (walk-end (of-any noObject) _ s (loop .left) (loop .p .at) (loop .inv .some) left told)
 
 same-length-2 : tie.Need-same-length-2 Inv-loop μ-loop
@@ -72,7 +74,8 @@ returns-2 c =
     let got = c .before .before .before .found .given in
     let left = c .before .before .before .before .before .before .loop-test .taken in
     let told = sym (got .1) ∙ c .before .before .before .before .before .element .ensures in
-    let one = walk-found (of-any noObject) _ s (loop .left) (loop .p .at) (loop .inv .some) left (got .0 .0) (got .0 .1 .0) told
+    let one = walk-found (of-any noObject) _ s (loop .left) (loop .p .at) (loop .inv .some) left (got .0 .0)
+    (got .0 .1 .0) told
     (ap not (ne-eqb _ _ (c .if1 .taken))) in
     (refused-10 (elementsAt 12 s (args .at)) one, loop .inv .same)
 
@@ -93,7 +96,8 @@ returns-3 c =
     let got = c .before .before .before .before .before .before .found .given in
     let left = c .before .before .before .before .before .before .before .before .before .loop-test .taken in
     let told = sym (got .1) ∙ c .before .before .before .before .before .before .before .before .element .ensures in
-    let rest = walk-on (of-any noObject) _ s (loop .left) (loop .p .at) (loop .inv .some) left (got .0 .0) (got .0 .1 .0) told
+    let rest = walk-on (of-any noObject) _ s (loop .left) (loop .p .at) (loop .inv .some) left (got .0 .0)
+    (got .0 .1 .0) told
     (ap not (eq-eqb _ _ (c .before .before .before .if1 .left))) in (
       refused-10 (elementsAt 12 s (args .at)) (sym (c .if3 .taken) ∙ c .before .some-no-object .ensures ∙ rest),
       loop .inv .same,
@@ -110,7 +114,8 @@ returns-4 c =
     let got = c .before .before .before .before .before .before .found .given in
     let left = c .before .before .before .before .before .before .before .before .before .loop-test .taken in
     let told = sym (got .1) ∙ c .before .before .before .before .before .before .before .before .element .ensures in
-    let rest = walk-on (of-any noObject) _ s (loop .left) (loop .p .at) (loop .inv .some) left (got .0 .0) (got .0 .1 .0) told
+    let rest = walk-on (of-any noObject) _ s (loop .left) (loop .p .at) (loop .inv .some) left (got .0 .0)
+    (got .0 .1 .0) told
     (ap not (eq-eqb _ _ (c .before .before .before .if1 .left))) in
     let more = elements-more s (loop .left) (loop .p .at) left (got .0 .0) (got .0 .1 .0) told in (
       refused-11 (elementsAt 12 s (args .at)) (sym (c .if3 .left) ∙ c .before .some-no-object .ensures ∙ rest)
@@ -145,7 +150,8 @@ loop-again c =
     let left = c .before .before .before .before .before .before .before .loop-test .taken in
     let told = sym (got .1) ∙ c .before .before .before .before .before .before .element .ensures in
     let more = elements-more s (loop .left) (loop .p .at) left (got .0 .0) (got .0 .1 .0) told in
-    walked-on (loop .inv) (elementOf (got .0 .0)) (elementsFrom s (loop .left - 1) (got .0 .1 .0 .at)) more (c .if2 .left)
+    walked-on (loop .inv) (elementOf (got .0 .0)) (elementsFrom s (loop .left - 1) (got .0 .1 .0 .at)) more
+    (c .if2 .left)
     (walk-on (of-any noObject) _ s (loop .left) (loop .p .at) (loop .inv .some) left (got .0 .0) (got .0 .1 .0) told
     (ap not (eq-eqb _ _ (c .before .if1 .left))))
 
@@ -159,7 +165,8 @@ returns-5 : tie.Need-returns-5 Inv-loop μ-loop
 returns-5 c =
     let s = c .before .before .before .before .before .before .args .message .now in
     let loop = c .before .before .loop in
-    walked-out (loop .inv) (elements-spent s (loop .left) (loop .p .at) (omega arith)) (c .counted2 .result) (c .counted2 .ensures)
+    walked-out (loop .inv) (elements-spent s (loop .left) (loop .p .at) (omega arith)) (c .counted2 .result)
+    (c .counted2 .ensures)
     (walk-spent (of-any noObject) _ s (loop .left) (loop .p .at) (loop .inv .some) (omega arith))
 
 pub walk-spec : {M : Type 1} → statement M

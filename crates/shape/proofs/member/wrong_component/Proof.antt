@@ -22,7 +22,8 @@ returns : tie.Need-returns
 returns c =
     let args = c .before .before .before .before .args in
     let e = entry (args .table .now) (args .i) in
-    component-is (args .message .now) e false _ _ _ (isnt-eqb (c .before .field .ensures .0) (c .if1 .taken)) refl refl refl
+    component-is (args .message .now) e false _ _ _
+    (isnt-eqb (c .before .field .ensures .0) (c .if1 .taken)) refl refl refl
 
 value-requires : tie.Need-value-requires
 value-requires c κs = search needs
@@ -34,9 +35,11 @@ returns-2 : tie.Need-returns-2
 returns-2 c =
     let args = c .before .before .before .before .before .before .before .args in
     let e = entry (args .table .now) (args .i) in
-    let text = spelled-is (args .message .now) e (c .before .before .value .result .now) (c .before .before .value .ensures) in
+    let text = spelled-is (args .message .now) e (c .before .before .value .result .now)
+    (c .before .before .value .ensures) in
     let held = sym (ap (holds 92) text) ∙ sym (c .before .holds .ensures) ∙ c .if2 .taken in
-    component-is (args .message .now) e true true _ _ (is-eqb (c .before .before .before .before .field .ensures .0) (c .before .before .before .if1 .left)) held refl refl
+    component-is (args .message .now) e true true _ _
+    (is-eqb (c .before .before .before .before .field .ensures .0) (c .before .before .before .if1 .left)) held refl refl
 
 field-requires-2 : tie.Need-field-requires-2
 field-requires-2 c κs = search needs
@@ -45,9 +48,12 @@ returns-3 : tie.Need-returns-3
 returns-3 c =
     let args = c .before .before .before .before .before .before .before .before .before .args in
     let e = entry (args .table .now) (args .i) in
-    let text = spelled-is (args .message .now) e (c .before .before .before .before .value .result .now) (c .before .before .before .before .value .ensures) in
-    let held = sym (ap (holds 92) text) ∙ sym (c .before .before .before .holds .ensures) ∙ c .before .before .if2 .left in
-    component-is (args .message .now) e true false true _ (is-eqb (c .before .before .before .before .before .before .field .ensures .0) (c .before .before .before .before .before .if1 .left)) held
+    let text = spelled-is (args .message .now) e (c .before .before .before .before .value .result .now)
+    (c .before .before .before .before .value .ensures) in
+    let held = sym (ap (holds 92) text) ∙ sym (c .before .before .before .holds .ensures)
+    ∙ c .before .before .if2 .left in
+    component-is (args .message .now) e true false true _
+    (is-eqb (c .before .before .before .before .before .before .field .ensures .0) (c .before .before .before .before .before .if1 .left)) held
     (is-eqb (c .before .field2 .ensures .0) (c .if3 .taken)) refl
 
 field-requires-3 : tie.Need-field-requires-3
@@ -57,10 +63,13 @@ returns-4 : tie.Need-returns-4
 returns-4 c =
     let args = c .before .before .before .before .before .before .before .before .before .before .args in
     let e = entry (args .table .now) (args .i) in
-    let text = spelled-is (args .message .now) e (c .before .before .before .before .before .value .result .now) (c .before .before .before .before .before .value .ensures) in
-    let held = sym (ap (holds 92) text) ∙ sym (c .before .before .before .before .holds .ensures) ∙ c .before .before .before .if2 .left in
+    let text = spelled-is (args .message .now) e (c .before .before .before .before .before .value .result .now)
+    (c .before .before .before .before .before .value .ensures) in
+    let held = sym (ap (holds 92) text) ∙ sym (c .before .before .before .before .holds .ensures)
+    ∙ c .before .before .before .if2 .left in
     ap (λ (n : ℕ). eqb n 2) (c .field3 .ensures .0)
-    ∙ component-is (args .message .now) e true false false _ (is-eqb (c .before .before .before .before .before .before .before .field .ensures .0) (c .before .before .before .before .before .before .if1 .left)) held
+    ∙ component-is (args .message .now) e true false false _
+    (is-eqb (c .before .before .before .before .before .before .before .field .ensures .0) (c .before .before .before .before .before .before .if1 .left)) held
     (isnt-eqb (c .before .before .field2 .ensures .0) (c .before .if3 .left)) refl
 
 pub wrong-component-spec : {M : Type 1} → statement M

@@ -34,7 +34,8 @@ returns-2 c =
     let args = c .before .before .before .before .before .before .args in
     let e = entry (args .table .now) (args .i) in
     c .hollow .ensures ∙ ap (λ (at : ℕ). hollow curly (args .message .now) at) (c .before .field2 .ensures .0)
-    ∙ header-is (args .message .now) e true _ (is-eqb (c .before .before .before .field .ensures .0) (c .before .before .if1 .left)) refl
+    ∙ header-is (args .message .now) e true _
+    (is-eqb (c .before .before .before .field .ensures .0) (c .before .before .if1 .left)) refl
 
 pub wrong-header-spec : {M : Type 1} → statement M
 wrong-header-spec =

@@ -21,7 +21,9 @@ returns : tie.Need-returns
 returns c =
     let args = c .before .before .before .before .before .args in
     let e = entry (args .table .now) (args .i) in
-    c .wrong-member .ensures ∙ in-element-is (args .message .now) e true _ (is-eqb (c .before .before .field .ensures .0) (c .before .if1 .taken)) refl
+    c .wrong-member .ensures
+    ∙ in-element-is (args .message .now) e true _
+    (is-eqb (c .before .before .field .ensures .0) (c .before .if1 .taken)) refl
 
 wrong-member-requires-2 : tie.Need-wrong-member-requires-2
 wrong-member-requires-2 c κs = search needs
@@ -31,7 +33,9 @@ returns-2 c =
     let args = c .before .before .before .before .before .before .args in
     let e = entry (args .table .now) (args .i) in
     let is = c .before .before .before .field .ensures .0 in
-    c .wrong-member2 .ensures ∙ in-element-is (args .message .now) e false true (isnt-eqb is (c .before .before .if1 .left)) (is-eqb is (c .before .if2 .taken))
+    c .wrong-member2 .ensures
+    ∙ in-element-is (args .message .now) e false true (isnt-eqb is (c .before .before .if1 .left))
+    (is-eqb is (c .before .if2 .taken))
 
 returns-3 : tie.Need-returns-3
 returns-3 c =

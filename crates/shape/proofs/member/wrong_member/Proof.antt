@@ -32,7 +32,8 @@ returns-2 c =
     let e = entry (args .table .now) (args .i) in
     let is = c .before .before .before .field .ensures .0 in
     c .wrong-header .ensures
-    ∙ member-is (args .message .now) e false true _ _ (isnt-eqb is (c .before .before .if1 .left)) (is-eqb is (c .before .if2 .taken)) refl refl
+    ∙ member-is (args .message .now) e false true _ _ (isnt-eqb is (c .before .before .if1 .left))
+    (is-eqb is (c .before .if2 .taken)) refl refl
 
 wrong-header-requires-2 : tie.Need-wrong-header-requires-2
 wrong-header-requires-2 c κs = search needs
@@ -43,7 +44,8 @@ returns-3 c =
     let e = entry (args .table .now) (args .i) in
     let is = c .before .before .before .before .field .ensures .0 in
     c .wrong-header2 .ensures
-    ∙ member-is (args .message .now) e false false true _ (isnt-eqb is (c .before .before .before .if1 .left)) (isnt-eqb is (c .before .before .if2 .left))
+    ∙ member-is (args .message .now) e false false true _ (isnt-eqb is (c .before .before .before .if1 .left))
+    (isnt-eqb is (c .before .before .if2 .left))
     (is-eqb is (c .before .if3 .taken)) refl
 
 field-requires-2 : tie.Need-field-requires-2
@@ -55,7 +57,8 @@ returns-4 c =
     let e = entry (args .table .now) (args .i) in
     let is = c .before .before .before .before .before .field .ensures .0 in
     ap (λ (n : ℕ). not (eqb n 1)) (c .field2 .ensures .0)
-    ∙ member-is (args .message .now) e false false false true (isnt-eqb is (c .before .before .before .before .if1 .left)) (isnt-eqb is (c .before .before .before .if2 .left))
+    ∙ member-is (args .message .now) e false false false true
+    (isnt-eqb is (c .before .before .before .before .if1 .left)) (isnt-eqb is (c .before .before .before .if2 .left))
     (isnt-eqb is (c .before .before .if3 .left)) (is-eqb is (c .before .if4 .taken))
 
 wrong-component-requires : tie.Need-wrong-component-requires
@@ -67,7 +70,8 @@ returns-5 c =
     let e = entry (args .table .now) (args .i) in
     let is = c .before .before .before .before .before .field .ensures .0 in
     c .wrong-component .ensures
-    ∙ member-is (args .message .now) e false false false false (isnt-eqb is (c .before .before .before .before .if1 .left)) (isnt-eqb is (c .before .before .before .if2 .left))
+    ∙ member-is (args .message .now) e false false false false
+    (isnt-eqb is (c .before .before .before .before .if1 .left)) (isnt-eqb is (c .before .before .before .if2 .left))
     (isnt-eqb is (c .before .before .if3 .left)) (isnt-eqb is (c .before .if4 .left))
 
 pub wrong-member-spec : {M : Type 1} → statement M
