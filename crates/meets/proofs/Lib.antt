@@ -18,3 +18,14 @@ pub mod Parameters
 pub mod CriticalNames
 pub mod KeyFits
 pub mod RulesDecided
+-- Tests in order.
+pub mod InOrder
+-- The compact form: its parts, their spelling, its header, and all of it.
+pub mod FiveParts
+pub mod SpelledDecided
+pub mod CompactHeader
+pub mod CompactDecided
+-- The forms, the whole order, and what a refusal leaves.
+pub mod FormsApart
+pub mod AcceptedGiven
+pub mod Refused
