@@ -25,7 +25,20 @@ pub mod FiveParts
 pub mod SpelledDecided
 pub mod CompactHeader
 pub mod CompactDecided
+-- A JSON message: its shape, its components, its recipients, and all of its refusals.
+pub mod ShapeValues
+pub mod MemberEntries
+pub mod Shapes
+pub mod Lookups
+pub mod ShapeDecided
+pub mod ComponentsDecided
+pub mod Orders
+pub mod RecipientsDecided
+pub mod ProtectedDecided
+pub mod EachRecipient
+pub mod JsonTests
+pub mod JsonDecided
 -- The forms, the whole order, and what a refusal leaves.
 pub mod FormsApart
-pub mod AcceptedGiven
+pub mod Accepted
 pub mod Refused

@@ -1,5 +1,5 @@
 -- The order decides what has to be met: no test refuses exactly where what is lent is enough and the message keeps
--- the rules of one of the forms and has the recipient. That the tests on a JSON message decide its form is taken here.
+-- the rules of one of the forms and has the recipient.
 use mathlib.Core.Path.{_≡_, refl, ap, sym, subst, _∙_}
 use mathlib.Core.Bool.{Bool, true, false, not, _||_, cond, true≢false}
 use mathlib.Core.Logic.{_↔_}
@@ -8,7 +8,6 @@ use Prim.Native.Nat.{ℕ, _≤_, _<_}
 use lib.ListN.{length}
 use lib.Dec.{ltb}
 use borrow.Author.Tests.{ltb-false, le-ltb}
-use Rattle.prelude.specs.Buffer.{AllBelow}
 use Rattle.names.specs.Names.{names, sound}
 use Rattle.names.proofs.Laws.{sound-exactly, names-of}
 use Rattle.json.specs.Reader.{opensObject}
@@ -19,18 +18,12 @@ use Rattle.jose.specs.Refusals.{Test, _if_, first}
 use Rattle.jwe.specs.Compact.{compactOrder}
 use Rattle.jwe.specs.General.{jsonOrder}
 use Rattle.jwe.specs.Judge.{order, refusal}
-use Rattle.meets.specs.Meets.{Json, Message, compact, json, count, Known, Meets}
+use Rattle.meets.specs.Meets.{Message, compact, json, count, Known, Meets}
 use Rattle.meets.proofs.Deciding.{FalseWhere, not-where, neither, first-none}
 use Rattle.meets.proofs.InOrder.{first-append}
 use Rattle.meets.proofs.CompactDecided.{compact-decided}
 use Rattle.meets.proofs.FormsApart.{forms-apart}
-
--- The tests on a JSON message decide what it has to meet.
-abbrev pub JsonDecided : Type 0
-JsonDecided =
-    (known : List (List ℕ)) (message : List ℕ) (recipient : ℕ) → AllBelow 256 message →
-    (first (jsonOrder message known recipient) ≡ 0)
-    ↔ ((j : Json known message) × (recipient < length (j .recipients)))
+use Rattle.meets.proofs.JsonDecided.{json-decided}
 
 -- 3: the list of known names.
 
@@ -62,15 +55,14 @@ Asked known message recipient = (f : Message known message) × (recipient < coun
 abbrev formOrder : List ℕ → ℕ → Bool → List (List ℕ) → List Test
 formOrder message recipient b known = cond b (jsonOrder message known recipient) (compactOrder message known recipient)
 
-module _ (json-decided : JsonDecided) (known : List (List ℕ)) (message : List ℕ) (recipient : ℕ)
-    (octets : AllBelow 256 message) where
+module _ (known : List (List ℕ)) (message : List ℕ) (recipient : ℕ) where
   form-decided : (first (formOrder message recipient (opensObject message) known) ≡ 0) ↔ Asked known message recipient
   form-decided = cases (opensObject message) refl
     where
       asJson : opensObject message ≡ true → Asked known message recipient →
           first (jsonOrder message known recipient) ≡ 0
       asJson e (compact c, r) = absurd (true≢false (sym e ∙ forms-apart known message .0 c))
-      asJson e (json j, r) = json-decided known message recipient octets .1 (j, r)
+      asJson e (json j, r) = json-decided known message recipient .1 (j, r)
 
       asCompact : opensObject message ≡ false → Asked known message recipient →
           first (compactOrder message known recipient) ≡ 0
@@ -80,7 +72,7 @@ module _ (json-decided : JsonDecided) (known : List (List ℕ)) (message : List 
       cases : (b : Bool) → opensObject message ≡ b →
           (first (formOrder message recipient b known) ≡ 0) ↔ Asked known message recipient
       cases true e = (
-        (λ f. let w = json-decided known message recipient octets .0 f in (json (w .0), w .1)),
+        (λ f. let w = json-decided known message recipient .0 f in (json (w .0), w .1)),
         asJson e,
       )
       cases false e = (
@@ -112,8 +104,7 @@ module _ (message known : List ℕ) (headerLent listLent : ℕ) where
         (λ w. t .1 (room .1 (w .0), (size .1 (w .1), (list .1 (w .2), tt)))),
       )
 
-module _ (json-decided : JsonDecided) (message known : List ℕ) (recipient headerLent listLent : ℕ)
-    (octets : AllBelow 256 message) where
+module _ (message known : List ℕ) (recipient headerLent listLent : ℕ) where
   names-decided : (k : Known known) →
       (first (formOrder message recipient (opensObject message) (names known)) ≡ 0)
       ↔ Asked (k .names) message recipient
@@ -121,12 +112,12 @@ module _ (json-decided : JsonDecided) (message known : List ℕ) (recipient head
       subst (λ (ns : List (List ℕ)).
       (first (formOrder message recipient (opensObject message) ns) ≡ 0)
       ↔ Asked (k .names) message recipient)
-      (sym (list-names known k)) (form-decided json-decided (k .names) message recipient octets)
+      (sym (list-names known k)) (form-decided (k .names) message recipient)
 
-  pub accepted-given : (refusal message known recipient headerLent listLent ≡ 0)
+  pub accepted-exactly : (refusal message known recipient headerLent listLent ≡ 0)
       ↔ Meets message known recipient headerLent listLent
   unfolding refusal order any
-  accepted-given =
+  accepted-exactly =
       let lent = lent-decided message known headerLent listLent in
       let t = first-append (lentOrder message known headerLent listLent)
       (formOrder message recipient (opensObject message) (names known)) refl in (
