@@ -1,2 +1,6 @@
 -- Document 01's samples.
 pub mod Samples
+-- The full stops of a compact message.
+pub mod Splitting
+-- The first refusal of a compact message, stage by stage.
+pub mod CompactOrder

@@ -1,23 +1,29 @@
 // The compact serialization (RFC 7516, section 7.1).
 ghost use mathlib.Core.Path.{_≡_};
-ghost use mathlib.Core.Bool.{true};
+ghost use mathlib.Core.Bool.{true, false};
 ghost use Prim.Native.Nat.{_+_, _≤_};
 ghost use lib.ListN.{length};
 ghost use Rattle.names.specs.Names.{names, filled};
 ghost use Rattle.rows.specs.Any.{any};
+ghost use Rattle.rows.specs.Tables.{collectedTable};
+ghost use Rattle.jose.specs.Refusals.{first};
 ghost use Rattle.headers.specs.Components.{misspelled, places};
-ghost use Rattle.jwe.specs.Compact.{between, compactOrder};
+ghost use Rattle.headers.specs.Headers.{protectedEntries, objectOrder};
+ghost use Rattle.headers.specs.Answers.{stageOf};
+ghost use Rattle.jwe.specs.Compact.{between, fourStops, compactComponents, compactOrder};
 ghost use Rattle.jwe.specs.Judge.{compactOutcome};
-ghost use Rattle.jwe.specs.Answers.{codePlace, componentsOf, splitOf, Judges};
+ghost use Rattle.jwe.specs.Answers.{codePlace, codeComponents, componentsOf, splitOf, Judges};
 use crate::Components;
 use crate::Result;
 use crate::judged::Judged;
+use crate::judged::handed;
+use crate::judged::ruled_out;
 use headers::Stage;
 use json::Position;
 use json::member::Place;
 
 // The components between full stops, or that there are not exactly four full stops.
-pub enum Split {
+pub enum FullStops {
     Four(Components),
     Other,
 }
@@ -34,7 +40,7 @@ fn between(a: usize, b: usize) -> Place
 }
 
 // The components of a message.
-pub fn split(message: &[u8]) -> Split
+pub fn split(message: &[u8]) -> FullStops
     requires { ⌜ length (now message) ≤ 16777216 ⌝ }
     ensures { λ r. ⌜ r ≡ splitOf (now (message .entry)) ⌝ }
 {
@@ -45,12 +51,12 @@ pub fn split(message: &[u8]) -> Split
     let fourth = parts::seek(message, third + 1, 46);
     let last = parts::seek(message, fourth + 1, 46);
     if n <= fourth {
-        return Split::Other;
+        return FullStops::Other;
     }
     if last != n {
-        return Split::Other;
+        return FullStops::Other;
     }
-    Split::Four(Components {
+    FullStops::Four(Components {
         protected: Place {
             start: 0,
             len: first,
@@ -61,4 +67,26 @@ pub fn split(message: &[u8]) -> Split
         ciphertext: between(third, fourth),
         tag: between(fourth, n),
     })
+}
+
+// 5: whether a component is not base64url.
+pub fn misspelled(message: &[u8], q: Components) -> bool
+    ensures { λ r. ⌜ r ≡ any (misspelled (now (message .entry))) (places (componentsOf q)) ⌝ }
+{
+    if headers::misspelled(message, q.protected) {
+        return true;
+    }
+    if headers::misspelled(message, q.key) {
+        return true;
+    }
+    if headers::misspelled(message, q.iv) {
+        return true;
+    }
+    if headers::misspelled(message, q.aad) {
+        return true;
+    }
+    if headers::misspelled(message, q.ciphertext) {
+        return true;
+    }
+    headers::misspelled(message, q.tag)
 }

@@ -1,8 +1,8 @@
 // The reader: from octets to an answer, by document 01's rules in document 01's order.
 ghost use mathlib.Core.Path.{_≡_};
 ghost use lib.ListN.{length};
-ghost use Rattle.jwe.specs.Judge.{result, headerAfter, listAfter};
-ghost use Rattle.jwe.specs.Answers.{numbers};
+ghost use Rattle.jwe.specs.Judge.{result, refused, headerAfter, listAfter};
+ghost use Rattle.jwe.specs.Answers.{numbers, refusedBy};
 use judged::Judged;
 use json::member::Place;
 
@@ -29,6 +29,39 @@ pub struct Result {
     pub components: Components,
     pub header: usize,
     pub parameters: usize,
+}
+
+// A refusal: its number with zeros.
+fn refused(n: u32) -> Result
+    ensures { λ r. ⌜ numbers r ≡ refused n ⌝ }
+{
+    let none = Place { start: 0, len: 0 };
+    Result {
+        number: n,
+        form: 0,
+        recipients: 0,
+        mode: 0,
+        components: Components {
+            protected: none,
+            key: none,
+            iv: none,
+            aad: none,
+            ciphertext: none,
+            tag: none,
+        },
+        header: 0,
+        parameters: 0,
+    }
+}
+
+// The refusal of a message, likewise.
+fn refusal(judged: Judged) -> Result
+    ensures { λ r. ⌜ numbers r ≡ refused (refusedBy judged) ⌝ }
+{
+    let Judged::Refused(n) = judged else {
+        return refused(0);
+    };
+    refused(n)
 }
 
 // Reads a message for a recipient. `known` lists the extension names that the caller knows. Accepted, the header buffer begins

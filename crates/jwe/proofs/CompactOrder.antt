@@ -1,0 +1,94 @@
+-- The first refusal of a compact message, stage by stage: that of the first stage that refuses.
+use mathlib.Core.Path.{_≡_, refl, ap, _∙_}
+use mathlib.Core.Bool.{Bool, true, false, not}
+use mathlib.Core.List.{List, [], _∷_, _++_}
+use Prim.Native.Nat.{ℕ, _≤_, _<_}
+use lib.Dec.{eqb, leb}
+use borrow.Author.Tests.{le-leb, lt-leb}
+use Rattle.rows.specs.Any.{any}
+use Rattle.rows.specs.Rows.{Entry}
+use Rattle.jose.specs.Refusals.{Test, _if_, first}
+use Rattle.jose.specs.HeaderRules.{recipientOrder}
+use Rattle.jose.proofs.Refusals.{nonzero, first-fails, first-passes, first-skip, first-stop}
+use Rattle.headers.specs.Components.{places, misspelled}
+use Rattle.headers.specs.Headers.{headerText, textOrder, protectedEntries, objectOrder}
+use Rattle.headers.proofs.Stages.{text-nonzero, object-nonzero}
+use Rattle.jwe.specs.Compact.{fourStops, compactComponents, compactOrder}
+
+-- No rule has the number 0.
+pub rules-nonzero : (known : List (List ℕ)) (header message : List ℕ) (es : List Entry) (noKey : Bool) →
+    nonzero (recipientOrder known header message es noKey) ≡ true
+unfolding recipientOrder
+rules-nonzero known header message es noKey = refl
+
+module _ (message : List ℕ) (known : List (List ℕ)) (recipient : ℕ) where
+  -- The decoded protected header, its parameters, and the rules on them.
+
+  abbrev pub header : List ℕ
+  header = headerText message (compactComponents message .protected)
+
+  abbrev pub entries : List Entry
+  entries = protectedEntries header
+
+  abbrev pub rules : List Test
+  rules = recipientOrder known header message entries (eqb (compactComponents message .key .size) 0)
+
+  abbrev last : List Test
+  last = 19 if leb 1 recipient ∷ []
+
+  pub first-4 : fourStops message ≡ false → first (compactOrder message known recipient) ≡ 4
+  unfolding compactOrder
+  first-4 e = first-fails (4 if not (fourStops message)) _ (ap not e)
+
+  module _ (four : fourStops message ≡ true) where
+    pub first-5 : any (misspelled message) (places (compactComponents message)) ≡ true →
+        first (compactOrder message known recipient) ≡ 5
+    unfolding compactOrder
+    first-5 e =
+        first-passes (4 if not (fourStops message)) _ (ap not four)
+        ∙ first-fails (5 if any (misspelled message) (places (compactComponents message))) _ e
+
+    module _ (spelled : any (misspelled message) (places (compactComponents message)) ≡ false) where
+      behind-5 : first (compactOrder message known recipient)
+          ≡ first (textOrder header ++ (objectOrder header entries ++ (rules ++ last)))
+      unfolding compactOrder
+      behind-5 =
+          first-passes (4 if not (fourStops message)) _ (ap not four)
+          ∙ first-passes (5 if any (misspelled message) (places (compactComponents message))) _ spelled
+
+      pub first-text : (first (textOrder header) ≡ 0 → ⊥) →
+          first (compactOrder message known recipient) ≡ first (textOrder header)
+      first-text f =
+          behind-5
+          ∙ first-stop (textOrder header) (objectOrder header entries ++ (rules ++ last)) (text-nonzero header) f
+
+      module _ (read : first (textOrder header) ≡ 0) where
+        behind-7 : first (compactOrder message known recipient)
+            ≡ first (objectOrder header entries ++ (rules ++ last))
+        behind-7 =
+            behind-5
+            ∙ first-skip (textOrder header) (objectOrder header entries ++ (rules ++ last)) (text-nonzero header) read
+
+        pub first-object : (first (objectOrder header entries) ≡ 0 → ⊥) →
+            first (compactOrder message known recipient) ≡ first (objectOrder header entries)
+        first-object f =
+            behind-7 ∙ first-stop (objectOrder header entries) (rules ++ last) (object-nonzero header entries) f
+
+        module _ (few : first (objectOrder header entries) ≡ 0) where
+          behind-9 : first (compactOrder message known recipient) ≡ first (rules ++ last)
+          behind-9 =
+              behind-7 ∙ first-skip (objectOrder header entries) (rules ++ last) (object-nonzero header entries) few
+
+          pub first-rule : (first rules ≡ 0 → ⊥) → first (compactOrder message known recipient) ≡ first rules
+          first-rule f = behind-9 ∙ first-stop rules last (rules-nonzero known header message entries _) f
+
+          module _ (ruled : first rules ≡ 0) where
+            behind-18 : first (compactOrder message known recipient) ≡ first last
+            behind-18 = behind-9 ∙ first-skip rules last (rules-nonzero known header message entries _) ruled
+
+            pub first-19 : 1 ≤ recipient → first (compactOrder message known recipient) ≡ 19
+            first-19 h = behind-18 ∙ first-fails (19 if leb 1 recipient) [] (le-leb 1 recipient h)
+
+            pub first-none : recipient < 1 → first (compactOrder message known recipient) ≡ 0
+            unfolding first
+            first-none h = behind-18 ∙ first-passes (19 if leb 1 recipient) [] (lt-leb 1 recipient h)
