@@ -3,6 +3,7 @@ use mathlib.Core.Path.{_≡_, refl, ap, _∙_}
 use mathlib.Core.Bool.{Bool, true, false, not}
 use mathlib.Core.List.{List, [], _∷_, _++_}
 use Prim.Native.Nat.{ℕ, _≤_, _<_}
+use native.Mathlib.Omega.{arith}
 use lib.Dec.{eqb, leb}
 use borrow.Author.Tests.{le-leb, lt-leb}
 use Rattle.rows.specs.Any.{any}
@@ -21,17 +22,22 @@ pub rules-nonzero : (known : List (List ℕ)) (header message : List ℕ) (es : 
 unfolding recipientOrder
 rules-nonzero known header message es noKey = refl
 
+-- A list of tests that refuses, and whatever tests behind it.
+stopped : (xs ys : List Test) → nonzero xs ≡ true → (n : ℕ) → first xs ≡ n → 0 < n → first (xs ++ ys) ≡ n
+stopped xs ys p n e h = first-stop xs ys p (λ z. omega (arith, z, e, h)) ∙ e
+
+-- The decoded protected header, and its parameters.
+
+abbrev pub header : List ℕ → List ℕ
+header message = headerText message (compactComponents message .protected)
+
+abbrev pub entries : List ℕ → List Entry
+entries message = protectedEntries (header message)
+
 module _ (message : List ℕ) (known : List (List ℕ)) (recipient : ℕ) where
-  -- The decoded protected header, its parameters, and the rules on them.
-
-  abbrev pub header : List ℕ
-  header = headerText message (compactComponents message .protected)
-
-  abbrev pub entries : List Entry
-  entries = protectedEntries header
-
+  -- The rules on the parameters.
   abbrev pub rules : List Test
-  rules = recipientOrder known header message entries (eqb (compactComponents message .key .size) 0)
+  rules = recipientOrder known (header message) message (entries message) (eqb (compactComponents message .key .size) 0)
 
   abbrev last : List Test
   last = 19 if leb 1 recipient ∷ []
@@ -50,41 +56,41 @@ module _ (message : List ℕ) (known : List (List ℕ)) (recipient : ℕ) where
 
     module _ (spelled : any (misspelled message) (places (compactComponents message)) ≡ false) where
       behind-5 : first (compactOrder message known recipient)
-          ≡ first (textOrder header ++ (objectOrder header entries ++ (rules ++ last)))
+          ≡ first (textOrder (header message) ++ (objectOrder (header message) (entries message) ++ (rules ++ last)))
       unfolding compactOrder
       behind-5 =
           first-passes (4 if not (fourStops message)) _ (ap not four)
           ∙ first-passes (5 if any (misspelled message) (places (compactComponents message))) _ spelled
 
-      pub first-text : (first (textOrder header) ≡ 0 → ⊥) →
-          first (compactOrder message known recipient) ≡ first (textOrder header)
-      first-text f =
+      pub first-text : (n : ℕ) → first (textOrder (header message)) ≡ n → 0 < n →
+          first (compactOrder message known recipient) ≡ n
+      first-text n e h =
           behind-5
-          ∙ first-stop (textOrder header) (objectOrder header entries ++ (rules ++ last)) (text-nonzero header) f
+          ∙ stopped (textOrder (header message)) (objectOrder (header message) (entries message) ++ (rules ++ last)) (text-nonzero (header message)) n e h
 
-      module _ (read : first (textOrder header) ≡ 0) where
+      module _ (read : first (textOrder (header message)) ≡ 0) where
         behind-7 : first (compactOrder message known recipient)
-            ≡ first (objectOrder header entries ++ (rules ++ last))
+            ≡ first (objectOrder (header message) (entries message) ++ (rules ++ last))
         behind-7 =
             behind-5
-            ∙ first-skip (textOrder header) (objectOrder header entries ++ (rules ++ last)) (text-nonzero header) read
+            ∙ first-skip (textOrder (header message)) (objectOrder (header message) (entries message) ++ (rules ++ last)) (text-nonzero (header message)) read
 
-        pub first-object : (first (objectOrder header entries) ≡ 0 → ⊥) →
-            first (compactOrder message known recipient) ≡ first (objectOrder header entries)
-        first-object f =
-            behind-7 ∙ first-stop (objectOrder header entries) (rules ++ last) (object-nonzero header entries) f
+        pub first-object : (n : ℕ) → first (objectOrder (header message) (entries message)) ≡ n → 0 < n →
+            first (compactOrder message known recipient) ≡ n
+        first-object n e h =
+            behind-7 ∙ stopped (objectOrder (header message) (entries message)) (rules ++ last) (object-nonzero (header message) (entries message)) n e h
 
-        module _ (few : first (objectOrder header entries) ≡ 0) where
+        module _ (few : first (objectOrder (header message) (entries message)) ≡ 0) where
           behind-9 : first (compactOrder message known recipient) ≡ first (rules ++ last)
           behind-9 =
-              behind-7 ∙ first-skip (objectOrder header entries) (rules ++ last) (object-nonzero header entries) few
+              behind-7 ∙ first-skip (objectOrder (header message) (entries message)) (rules ++ last) (object-nonzero (header message) (entries message)) few
 
-          pub first-rule : (first rules ≡ 0 → ⊥) → first (compactOrder message known recipient) ≡ first rules
-          first-rule f = behind-9 ∙ first-stop rules last (rules-nonzero known header message entries _) f
+          pub first-rule : (n : ℕ) → first rules ≡ n → 0 < n → first (compactOrder message known recipient) ≡ n
+          first-rule n e h = behind-9 ∙ stopped rules last (rules-nonzero known (header message) message (entries message) _) n e h
 
           module _ (ruled : first rules ≡ 0) where
             behind-18 : first (compactOrder message known recipient) ≡ first last
-            behind-18 = behind-9 ∙ first-skip rules last (rules-nonzero known header message entries _) ruled
+            behind-18 = behind-9 ∙ first-skip rules last (rules-nonzero known (header message) message (entries message) _) ruled
 
             pub first-19 : 1 ≤ recipient → first (compactOrder message known recipient) ≡ 19
             first-19 h = behind-18 ∙ first-fails (19 if leb 1 recipient) [] (le-leb 1 recipient h)

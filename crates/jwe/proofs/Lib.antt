@@ -4,3 +4,5 @@ pub mod Samples
 pub mod Splitting
 -- The first refusal of a compact message, stage by stage.
 pub mod CompactOrder
+-- What is known where a stage passed, or refused.
+pub mod Stages

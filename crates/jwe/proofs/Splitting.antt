@@ -3,6 +3,7 @@ use mathlib.Core.Path.{_≡_, refl, ap, ap₂, sym, _∙_}
 use mathlib.Core.Bool.{Bool, true, false, _&&_, _||_, cond}
 use mathlib.Core.List.{List, [], _∷_}
 use Prim.Native.Nat.{ℕ, _+_, _≤_, _<_}
+use native.Mathlib.Omega.{arith}
 use lib.ListN.{length}
 use lib.Dec.{eqb, ltb}
 use borrow.Author.Tests.{lt-ltb, le-ltb, eq-eqb, ne-eqb}
@@ -11,7 +12,8 @@ use Rattle.json.specs.declared.member.Place.{Place}
 use Rattle.rows.specs.Any.{any}
 use Rattle.headers.specs.Components as headers
 use Rattle.jwe.specs.Compact.{fullStop, after, Stops, stops, fourStops, between, compactComponents}
-use Rattle.jwe.specs.Answers.{codePlace, codeComponents, splitOf}
+use Rattle.jwe.specs.Answers.{codePlace, codeComponents, componentsOf, splitOf}
+use Rattle.jwe.specs.declared.Components.{Components}
 use Rattle.jwe.specs.declared.compact.FullStops.{FullStops}
 use Rattle.jwe.specs.declared.compact.FullStops.the-variants.{Four, Other}
 
@@ -25,6 +27,15 @@ module _ {A : Type 0} (f : A → Bool) (x : A) (xs : List A) where
   pub any-behind : f x ≡ false → any f (x ∷ xs) ≡ any f xs
   unfolding any
   any-behind e = ap (λ (b : Bool). b || any f xs) e
+
+-- None of a list: not the first of it.
+pub none-first : {A : Type 0} (f : A → Bool) (x : A) (xs : List A) → any f (x ∷ xs) ≡ false → f x ≡ false
+unfolding any
+none-first f x xs e = cases (f x) e
+  where
+    cases : (b : Bool) → (b || any f xs) ≡ false → b ≡ false
+    cases true e = e
+    cases false e = refl
 
 pub any-last : {A : Type 0} (f : A → Bool) (x : A) → any f (x ∷ []) ≡ f x
 unfolding any
@@ -119,3 +130,29 @@ module _ (message : List ℕ) (a b c d e : ℕ)
       })) x t
       ∙ ap (λ (q : headers.Components). Four (codeComponents q)) (sym components-are)
       ∙ sym (split-is true (four-are ∙ ap₂ _&&_ (lt-ltb d (length message) h) (eq-eqb e (length message) l)))
+
+-- What the answer tells
+
+module _ (message : List ℕ) where
+  pub four-told : (q : Components) → Four q ≡ splitOf message →
+      (fourStops message ≡ true) × (q ≡ codeComponents (compactComponents message))
+  unfolding splitOf
+  four-told q e = cases (fourStops message) e
+    where
+      cases : (b : Bool) → Four q ≡ cond b (Four (codeComponents (compactComponents message))) Other →
+          (b ≡ true) × (q ≡ codeComponents (compactComponents message))
+      cases true e = (refl, cc)
+      cases false e = let z : _≡_ {A = ℕ} 0 1 = cc in absurd (omega arith)
+
+  pub other-told : Other ≡ splitOf message → fourStops message ≡ false
+  unfolding splitOf
+  other-told e = cases (fourStops message) e
+    where
+      cases : (b : Bool) → Other ≡ cond b (Four (codeComponents (compactComponents message))) Other → b ≡ false
+      cases true e = let z : _≡_ {A = ℕ} 0 1 = cc in absurd (omega arith)
+      cases false e = refl
+
+  module _ (q : Components) (e : q ≡ codeComponents (compactComponents message)) where
+    pub asked-are : any (headers.misspelled message) (headers.places (componentsOf q))
+        ≡ any (headers.misspelled message) (headers.places (compactComponents message))
+    asked-are = ap (λ (x : Components). any (headers.misspelled message) (headers.places (componentsOf x))) e

@@ -65,10 +65,10 @@ numbers r =
     ∷ r .recipients
     ∷ r .mode
     ∷ placeNumbers (r .components .protected)
-      (placeNumbers (r .components .key)
-      (placeNumbers (r .components .iv)
-      (placeNumbers (r .components .aad)
-      (placeNumbers (r .components .ciphertext) (placeNumbers (r .components .tag) (r .header ∷ r .parameters ∷ []))))))
+    (placeNumbers (r .components .key)
+    (placeNumbers (r .components .iv)
+    (placeNumbers (r .components .aad)
+    (placeNumbers (r .components .ciphertext) (placeNumbers (r .components .tag) (r .header ∷ r .parameters ∷ []))))))
 
 -- A message judged by an order: refused by its first failing test, or accepted with the numbers of its outcome, the decoded
 -- header at the start of the text buffer and the entries at the start of the table.

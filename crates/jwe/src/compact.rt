@@ -90,3 +90,83 @@ pub fn misspelled(message: &[u8], q: Components) -> bool
     }
     headers::misspelled(message, q.tag)
 }
+
+// 8 and 9 on the decoded protected header: its parameters as entries at the start of the table, and how many they are.
+pub fn protected_entries(header: &[u8], table: &mut [u32]) -> Stage
+    requires { ⌜ length (now header) ≤ 16777216 ⌝ }
+    requires { ⌜ 256 ≤ length (now table) ⌝ }
+    ensures { λ r. ⌜ r ≡ stageOf (first (objectOrder (now (header .entry)) (protectedEntries (now (header .entry))))) (length (protectedEntries (now (header .entry)))) ⌝ }
+    ensures { λ _. ⌜ now (table .exit) ≡ collectedTable 0 (protectedEntries (now (header .entry))) (now (table .entry)) ⌝ }
+{
+    let list = jose::lists::REGISTERED;
+    let start = Position { at: 0 }.skip_space(header);
+    headers::object(header, start.at, 0, &list, table, 0)
+}
+
+// 6 to 19, on components that have passed 4 and 5.
+fn judge_header(
+    message: &[u8],
+    q: Components,
+    known: &[u8],
+    recipient: u32,
+    text: &mut [u8],
+    table: &mut [u32],
+) -> Judged
+    requires { ⌜ fourStops (now message) ≡ true ⌝ }
+    requires { ⌜ q ≡ codeComponents (compactComponents (now message)) ⌝ }
+    requires { ⌜ any (misspelled (now message)) (places (componentsOf q)) ≡ false ⌝ }
+    requires { ⌜ filled (now known) ≡ true ⌝ }
+    requires { ⌜ length (now text) ≡ 4096 ⌝ }
+    requires { ⌜ length (now table) ≡ 768 ⌝ }
+    ensures { λ r. ⌜ Judges (now (message .entry)) (compactOrder (now (message .entry)) (names (now (known .entry))) recipient) (compactOutcome (now (message .entry))) r (now (text .entry)) (now (text .exit)) (now (table .entry)) (now (table .exit)) ⌝ }
+{
+    let decoded = headers::header(message, q.protected, text);
+    let Stage::Passed(n) = decoded else {
+        return handed(decoded);
+    };
+    let collected = protected_entries(&text[..n], table);
+    let Stage::Passed(count) = collected else {
+        return handed(collected);
+    };
+    let judged = jose::judge::judge(&text[..n], message, known, table, count, q.key.len == 0);
+    let jose::judge::Judged::Mode(mode) = judged else {
+        return ruled_out(judged);
+    };
+    if 1 <= recipient {
+        return Judged::Refused(19);
+    }
+    Judged::Accepted(Result {
+        number: 0,
+        form: 0,
+        recipients: 1,
+        mode,
+        components: q,
+        header: n,
+        parameters: count,
+    })
+}
+
+// A compact message judged in document 01's order, from 4 on; `text` and `table` are room for the decoded header and for its
+// entries.
+pub fn judge(
+    message: &[u8],
+    known: &[u8],
+    recipient: u32,
+    text: &mut [u8],
+    table: &mut [u32],
+) -> Judged
+    requires { ⌜ length (now message) ≤ 16777216 ⌝ }
+    requires { ⌜ filled (now known) ≡ true ⌝ }
+    requires { ⌜ length (now text) ≡ 4096 ⌝ }
+    requires { ⌜ length (now table) ≡ 768 ⌝ }
+    ensures { λ r. ⌜ Judges (now (message .entry)) (compactOrder (now (message .entry)) (names (now (known .entry))) recipient) (compactOutcome (now (message .entry))) r (now (text .entry)) (now (text .exit)) (now (table .entry)) (now (table .exit)) ⌝ }
+{
+    let found = split(message);
+    let FullStops::Four(q) = found else {
+        return Judged::Refused(4);
+    };
+    if misspelled(message, q) {
+        return Judged::Refused(5);
+    }
+    judge_header(message, q, known, recipient, text, table)
+}

@@ -3,8 +3,8 @@ ghost use mathlib.Core.Path.{_≡_};
 ghost use lib.ListN.{length};
 ghost use Rattle.jwe.specs.Judge.{result, refused, headerAfter, listAfter};
 ghost use Rattle.jwe.specs.Answers.{numbers, refusedBy};
-use judged::Judged;
 use json::member::Place;
+use judged::Judged;
 
 mod compact;
 mod general;
@@ -67,7 +67,13 @@ fn refusal(judged: Judged) -> Result
 // Reads a message for a recipient. `known` lists the extension names that the caller knows. Accepted, the header buffer begins
 // with the decoded protected header and the list with six numbers a parameter; both go on as they were. Refused, the
 // result is the refusal's number with zeros, and both are as they were.
-pub fn read(message: &[u8], known: &[u8], recipient: u32, header: &mut [u8], list: &mut [u32]) -> Result
+pub fn read(
+    message: &[u8],
+    known: &[u8],
+    recipient: u32,
+    header: &mut [u8],
+    list: &mut [u32],
+) -> Result
     ensures { λ r. ⌜ numbers r ≡ result (now (message .entry)) (now (known .entry)) recipient (length (now (header .entry))) (length (now (list .entry))) ⌝ }
     ensures { λ _. ⌜ now (header .exit) ≡ headerAfter (now (message .entry)) (now (known .entry)) recipient (now (header .entry)) (now (list .entry)) ⌝ }
     ensures { λ _. ⌜ now (list .exit) ≡ listAfter (now (message .entry)) (now (known .entry)) recipient (now (header .entry)) (now (list .entry)) ⌝ }
