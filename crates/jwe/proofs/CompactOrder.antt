@@ -35,9 +35,19 @@ abbrev pub entries : List ℕ → List Entry
 entries message = protectedEntries (header message)
 
 module _ (message : List ℕ) (known : List (List ℕ)) (recipient : ℕ) where
-  -- The rules on the parameters.
+  -- Its stages.
+  abbrev texts : List Test
+  texts = textOrder (header message)
+
+  abbrev objects : List Test
+  objects = objectOrder (header message) (entries message)
+
   abbrev pub rules : List Test
   rules = recipientOrder known (header message) message (entries message) (eqb (compactComponents message .key .size) 0)
+
+  rules-numbers : nonzero rules ≡ true
+  rules-numbers =
+      rules-nonzero known (header message) message (entries message) (eqb (compactComponents message .key .size) 0)
 
   abbrev last : List Test
   last = 19 if leb 1 recipient ∷ []
@@ -56,41 +66,43 @@ module _ (message : List ℕ) (known : List (List ℕ)) (recipient : ℕ) where
 
     module _ (spelled : any (misspelled message) (places (compactComponents message)) ≡ false) where
       behind-5 : first (compactOrder message known recipient)
-          ≡ first (textOrder (header message) ++ (objectOrder (header message) (entries message) ++ (rules ++ last)))
+          ≡ first (texts ++ (objects ++ (rules ++ last)))
       unfolding compactOrder
       behind-5 =
           first-passes (4 if not (fourStops message)) _ (ap not four)
           ∙ first-passes (5 if any (misspelled message) (places (compactComponents message))) _ spelled
 
-      pub first-text : (n : ℕ) → first (textOrder (header message)) ≡ n → 0 < n →
+      pub first-text : (n : ℕ) → first texts ≡ n → 0 < n →
           first (compactOrder message known recipient) ≡ n
       first-text n e h =
           behind-5
-          ∙ stopped (textOrder (header message)) (objectOrder (header message) (entries message) ++ (rules ++ last)) (text-nonzero (header message)) n e h
+          ∙ stopped texts (objects ++ (rules ++ last)) (text-nonzero (header message)) n e h
 
-      module _ (read : first (textOrder (header message)) ≡ 0) where
+      module _ (read : first texts ≡ 0) where
         behind-7 : first (compactOrder message known recipient)
-            ≡ first (objectOrder (header message) (entries message) ++ (rules ++ last))
+            ≡ first (objects ++ (rules ++ last))
         behind-7 =
             behind-5
-            ∙ first-skip (textOrder (header message)) (objectOrder (header message) (entries message) ++ (rules ++ last)) (text-nonzero (header message)) read
+            ∙ first-skip texts (objects ++ (rules ++ last)) (text-nonzero (header message)) read
 
-        pub first-object : (n : ℕ) → first (objectOrder (header message) (entries message)) ≡ n → 0 < n →
+        pub first-object : (n : ℕ) → first objects ≡ n → 0 < n →
             first (compactOrder message known recipient) ≡ n
         first-object n e h =
-            behind-7 ∙ stopped (objectOrder (header message) (entries message)) (rules ++ last) (object-nonzero (header message) (entries message)) n e h
+            behind-7 ∙ stopped objects (rules ++ last) (object-nonzero (header message) (entries message)) n e h
 
-        module _ (few : first (objectOrder (header message) (entries message)) ≡ 0) where
+        module _ (few : first objects ≡ 0) where
           behind-9 : first (compactOrder message known recipient) ≡ first (rules ++ last)
           behind-9 =
-              behind-7 ∙ first-skip (objectOrder (header message) (entries message)) (rules ++ last) (object-nonzero (header message) (entries message)) few
+              behind-7 ∙ first-skip objects (rules ++ last) (object-nonzero (header message) (entries message)) few
 
           pub first-rule : (n : ℕ) → first rules ≡ n → 0 < n → first (compactOrder message known recipient) ≡ n
-          first-rule n e h = behind-9 ∙ stopped rules last (rules-nonzero known (header message) message (entries message) _) n e h
+          first-rule n e h =
+              behind-9 ∙ stopped rules last rules-numbers n e h
 
           module _ (ruled : first rules ≡ 0) where
             behind-18 : first (compactOrder message known recipient) ≡ first last
-            behind-18 = behind-9 ∙ first-skip rules last (rules-nonzero known (header message) message (entries message) _) ruled
+            behind-18 =
+                behind-9 ∙ first-skip rules last rules-numbers ruled
 
             pub first-19 : 1 ≤ recipient → first (compactOrder message known recipient) ≡ 19
             first-19 h = behind-18 ∙ first-fails (19 if leb 1 recipient) [] (le-leb 1 recipient h)

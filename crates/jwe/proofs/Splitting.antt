@@ -60,9 +60,6 @@ module _ (message : List ℕ) (a b c d e : ℕ)
     (first : a ≡ seek fullStop message 0) (second : b ≡ seek fullStop message (a + 1))
     (third : c ≡ seek fullStop message (b + 1)) (fourth : d ≡ seek fullStop message (c + 1))
     (fifth : e ≡ seek fullStop message (d + 1)) where
-  found : Stops
-  found = record { first = a; second = b; third = c; fourth = d }
-
   next : (x y z : ℕ) → y ≡ x → z ≡ seek fullStop message (x + 1) → after message y ≡ z
   next x y z p q = ap (λ (k : ℕ). seek fullStop message (k + 1)) p ∙ sym q
 
@@ -71,10 +68,16 @@ module _ (message : List ℕ) (a b c d e : ℕ)
   stops-are =
       let p = sym first in
       let q = next a (seek fullStop message 0) b p second in
-      let r = next b _ c q third in
-      let s = next c _ d r fourth in
-      ap₂ (λ (x y : ℕ). record { first = x; second = y; third = after message y; fourth = after message (after message y) }) p q
-      ∙ ap₂ (λ (x y : ℕ). record { first = a; second = b; third = x; fourth = y }) (sym third) (next c _ d (sym third) fourth)
+      let r = next b b c refl third in
+      ap₂
+      (λ (x y : ℕ). record {
+        first = x;
+        second = y;
+        third = after message y;
+        fourth = after message (after message y);
+      })
+      p q
+      ∙ ap₂ (λ (x y : ℕ). record { first = a; second = b; third = x; fourth = y }) r (next c _ d r fourth)
 
   four-are : fourStops message ≡ (ltb d (length message) && eqb e (length message))
   unfolding fourStops
@@ -82,7 +85,8 @@ module _ (message : List ℕ) (a b c d e : ℕ)
       ap (λ (s : Stops). ltb (s .fourth) (length message) && eqb (after message (s .fourth)) (length message)) stops-are
       ∙ ap (λ (x : ℕ). ltb d (length message) && eqb x (length message)) (sym fifth)
 
-  components-are : compactComponents message ≡ components message (record { first = a; second = b; third = c; fourth = d })
+  components-are : compactComponents message
+      ≡ components message (record { first = a; second = b; third = c; fourth = d })
   unfolding compactComponents
   components-are = ap (components message) stops-are
 

@@ -1,4 +1,4 @@
--- What is known where a stage passed, or refused: of the decoded protected header, of its entries, and of the rules on them.
+-- What is known where a stage passed, or refused: the decoded protected header, its entries, and the rules on them.
 use mathlib.Core.Path.{_≡_, refl, ap, ap₂, sym, subst, _∙_}
 use mathlib.Core.Bool.{Bool, true, false, cond}
 use mathlib.Core.List.{List, [], _∷_}
@@ -116,7 +116,8 @@ not-many : (s : List ℕ) (es : List Entry) → first (objectOrder s es) ≡ 0 �
 unfolding first objectOrder
 not-many s es e = cases (ltb mostMembers (length es)) refl (repeated false s s es) e
   where
-    cases : (b : Bool) → ltb mostMembers (length es) ≡ b → (c : Bool) → _≡_ {A = ℕ} (cond b 8 (cond c 9 0)) 0 → length es ≤ 32
+    cases : (b : Bool) → ltb mostMembers (length es) ≡ b → (c : Bool) →
+        _≡_ {A = ℕ} (cond b 8 (cond c 9 0)) 0 → length es ≤ 32
     cases true t c e = absurd (omega arith)
     cases false t c e = ltb-false 32 (length es) t
 

@@ -146,8 +146,8 @@ fn judge_header(
     })
 }
 
-// A compact message judged in document 01's order, from 4 on; `text` and `table` are room for the decoded header and for its
-// entries.
+// A compact message judged in document 01's order, from 4 on; `text` and `table` are room for the decoded header and for
+// its entries.
 pub fn judge(
     message: &[u8],
     known: &[u8],

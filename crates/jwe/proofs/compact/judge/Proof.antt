@@ -29,19 +29,22 @@ misspelled-requires c κs = search needs
 
 returns-2 : tie.Need-returns-2
 returns-2 c =
-    let given = c .before .before .before .before .before .before .before .before .before .before .args in
+    let split = c .before .before .before .before .before in
+    let given = split .before .before .before .before .before .args in
     let message = given .message .now in
     let found = c .before .before .before .found .given in
-    let four = four-told message (found .0 .0) (sym (found .1) ∙ c .before .before .before .before .before .split .ensures) in
-    let some = sym (asked-are message (found .0 .0) (four .1)) ∙ sym (c .before .misspelled .ensures) ∙ c .if1 .taken in
+    let four = four-told message (found .0 .0) (sym (found .1) ∙ split .split .ensures) in
+    let some =
+    sym (asked-are message (found .0 .0) (four .1)) ∙ sym (c .before .misspelled .ensures) ∙ c .if1 .taken in
     (first-5 message (names (given .known .now)) (given .recipient) (four .0) some, omega arith, refl, refl)
 
 judge-header-requires : tie.Need-judge-header-requires
 judge-header-requires c κs =
-    let start = c .before .before .before .before .before .before .before .before .before .before .before .before in
+    let split = c .before .before .before .before .before .before .before in
+    let start = split .before .before .before .before .before in
     let message = start .args .message .now in
     let found = c .before .before .before .before .before .found .given in
-    let four = four-told message (found .0 .0) (sym (found .1) ∙ c .before .before .before .before .before .before .before .split .ensures) in (
+    let four = four-told message (found .0 .0) (sym (found .1) ∙ split .split .ensures) in (
       four .0,
       (four .1, (sym (c .before .before .before .misspelled .ensures) ∙ c .before .before .if1 .left, start .pre .1)),
     )

@@ -25,15 +25,27 @@ use Rattle.jwe.specs.Judge.{compactOutcome}
 use Rattle.jwe.specs.Answers.{handed, ruledOut}
 use Rattle.jwe.specs.declared.Components.{Components}
 use Rattle.jwe.proofs.Splitting.{none-first, asked-are}
-use Rattle.jwe.proofs.CompactOrder.{header, entries, rules, first-text, first-object, first-rule, first-19, first-none}
-use Rattle.jwe.proofs.Stages.{Read, read-passed, buffer-length, Kept, kept-passed, table-length, refuses, accepted-are}
-use Rattle.jwe.proofs.Stages.{ruled-mode, ruled-refused, printed-as}
+use Rattle.jwe.proofs.CompactOrder.{header, entries, rules}
+use Rattle.jwe.proofs.CompactOrder.{first-text, first-object, first-rule, first-19, first-none}
+use Rattle.jwe.proofs.Stages.{Read, read-passed, buffer-length, Kept, kept-passed, table-length}
+use Rattle.jwe.proofs.Stages.{ruled-mode, ruled-refused, refuses, printed-as, accepted-are}
 use borrow.Author.Needs.{needs}
 use Rattle.jwe.proofs.compact.judge_header.Statement.{statement}
 use Rattle.jwe.proofs.compact.judge_header.Tie as tie
 
 abbrev message : tie.Start → List ℕ
 message s = s .args .message .now
+
+-- Back to the start, from behind `header` and from where it passed; and from where `protected_entries` passed.
+
+abbrev begin : tie.After-header → tie.Start
+begin c = c .before .before .before .before .before .before
+
+abbrev start-of : tie.After-known-told → tie.Start
+start-of c = begin (c .before .before .before .before .before)
+
+abbrev told-of : tie.After-known-told2 → tie.After-known-told
+told-of c = c .before .before .before .before .before .before .before .before
 
 -- 5 has passed
 spelled : (s : tie.Start) → any (misspelled (message s)) (places (compactComponents (message s))) ≡ false
@@ -44,65 +56,69 @@ header-is : (s : tie.Start) → headerText (message s) (placeOf (s .args .q .pro
 header-is s = ap (λ (q : Components). headerText (message s) (placeOf (q .protected))) (s .pre .1 .0)
 
 -- what `header` answers and leaves
-text-answer : (c : tie.After-header) → c .header .result
-    ≡ stageOf (first (textOrder (header (message (c .before .before .before .before .before .before))))) (length (header (message (c .before .before .before .before .before .before))))
+text-answer : (c : tie.After-header) →
+    let h = header (message (begin c)) in c .header .result ≡ stageOf (first (textOrder h)) (length h)
 text-answer c =
     c .header .ensures .0
-    ∙ ap (λ (h : List ℕ). stageOf (first (textOrder h)) (length h)) (header-is (c .before .before .before .before .before .before))
+    ∙ ap (λ (h : List ℕ). stageOf (first (textOrder h)) (length h)) (header-is (begin c))
 
-text-left : (c : tie.After-header) → c .header .last .1 .1 .0
-    ≡ headerBuffer (header (message (c .before .before .before .before .before .before))) (c .before .before .before .before .before .before .args .text .now)
+text-left : (c : tie.After-header) →
+    c .header .last .1 .1 .0 ≡ headerBuffer (header (message (begin c))) (begin c .args .text .now)
 text-left c =
     c .header .ensures .1
-    ∙ ap (λ (h : List ℕ). headerBuffer h (c .before .before .before .before .before .before .args .text .now)) (header-is (c .before .before .before .before .before .before))
+    ∙ ap (λ (h : List ℕ). headerBuffer h (begin c .args .text .now)) (header-is (begin c))
 
 -- where it passed
 read : (c : tie.After-known-told) →
-    Read (header (message (c .before .before .before .before .before .before .before .before .before .before .before))) (c .before .before .before .before .before .before .before .before .before .before .before .args .text .now) (c .before .before .before .before .before .header .last .1 .1 .0) (c .before .decoded .given .0 .0)
+    Read (header (message (start-of c))) (start-of c .args .text .now) (c .before .before .before .before .before .header .last .1 .1 .0)
+    (c .before .decoded .given .0 .0)
 read c =
-    let start = c .before .before .before .before .before .before .before .before .before .before .before in
+    let start = start-of c in
     read-passed (header (message start)) (start .args .text .now) _ _ (start .pre .1 .1 .1 .1 .0)
     (sym (c .before .decoded .given .1) ∙ text-answer (c .before .before .before .before .before)) (text-left (c .before .before .before .before .before))
 
 -- what `protected_entries` answers and leaves
-entries-answer : (c : tie.After-protected-entries) → c .protected-entries .result
-    ≡ stageOf (first (objectOrder (header (message (c .before .before .before .before .before .before .before .before .before .before .before .before .before .before))) (entries (message (c .before .before .before .before .before .before .before .before .before .before .before .before .before .before)))))
-    (length (entries (message (c .before .before .before .before .before .before .before .before .before .before .before .before .before .before))))
+entries-answer : (c : tie.After-protected-entries) →
+    let m = message (start-of (c .before .before .before)) in
+    c .protected-entries .result ≡ stageOf (first (objectOrder (header m) (entries m))) (length (entries m))
 entries-answer c =
     c .protected-entries .ensures .0
     ∙ ap (λ (h : List ℕ). stageOf (first (objectOrder h (protectedEntries h))) (length (protectedEntries h)))
     (read (c .before .before .before) .front)
 
-entries-left : (c : tie.After-protected-entries) → c .protected-entries .last .1 .0
-    ≡ collectedTable 0 (entries (message (c .before .before .before .before .before .before .before .before .before .before .before .before .before .before))) (c .before .before .before .before .before .before .before .before .before .before .before .before .before .before .args .table .now)
+entries-left : (c : tie.After-protected-entries) →
+    let start = start-of (c .before .before .before) in
+    c .protected-entries .last .1 .0 ≡ collectedTable 0 (entries (message start)) (start .args .table .now)
 entries-left c =
     c .protected-entries .ensures .1
-    ∙ ap (λ (h : List ℕ). collectedTable 0 (protectedEntries h) (c .before .before .before .before .before .before .before .before .before .before .before .before .before .before .args .table .now)) (read (c .before .before .before) .front)
+    ∙ ap (λ (h : List ℕ). collectedTable 0 (protectedEntries h) (start-of (c .before .before .before) .args .table .now))
+    (read (c .before .before .before) .front)
 
 -- where it passed
 kept : (c : tie.After-known-told2) →
-    Kept (header (message (c .before .before .before .before .before .before .before .before .before .before .before .before .before .before .before .before .before .before .before))) (entries (message (c .before .before .before .before .before .before .before .before .before .before .before .before .before .before .before .before .before .before .before))) (c .before .before .before .before .before .before .before .before .before .before .before .before .before .before .before .before .before .before .before .args .table .now)
+    let start = start-of (told-of c) in
+    Kept (header (message start)) (entries (message start)) (start .args .table .now)
     (c .before .before .before .before .before .protected-entries .last .1 .0) (c .before .collected .given .0 .0)
 kept c =
-    let start = c .before .before .before .before .before .before .before .before .before .before .before .before .before .before .before .before .before .before .before in
+    let start = start-of (told-of c) in
     kept-passed (header (message start)) (entries (message start)) (start .args .table .now) _ _
     (omega (arith, start .pre .1 .1 .1 .1 .1))
     (sym (c .before .collected .given .1) ∙ entries-answer (c .before .before .before .before .before)) (entries-left (c .before .before .before .before .before))
 
 -- what the rules answer
 rules-answer : (c : tie.After-judge) →
-    let start = c .before .before .before .before .before .before .before .before .before .before .before .before .before .before .before .before .before .before .before .before .before .before .before in
+    let start = start-of (told-of (c .before .before .before .before)) in
     c .judge .result
     ≡ judgedOf (first (rules (message start) (names (start .args .known .now)) (start .args .recipient)))
     (modeIn (header (message start)) (message start) (entries (message start)))
 rules-answer c =
-    let start = c .before .before .before .before .before .before .before .before .before .before .before .before .before .before .before .before .before .before .before .before .before .before .before in
+    let start = start-of (told-of (c .before .before .before .before)) in
     let known = names (start .args .known .now) in
     let m = message start in
     c .judge .ensures
     ∙ ap₂ (λ (h : List ℕ) (es : List Entry).
     judgedOf (first (recipientOrder known h m es (eqb (start .args .q .key .len) 0))) (modeIn h m es))
-    (read (c .before .before .before .before .before .before .before .before .before .before .before .before) .front) (kept (c .before .before .before .before) .entries)
+    (read (told-of (c .before .before .before .before)) .front) (kept (c .before .before .before .before) .entries)
     ∙ ap (λ (q : Components).
     judgedOf (first (recipientOrder known (header m) m (entries m) (eqb (q .key .len) 0)))
     (modeIn (header m) m (entries m)))
@@ -127,9 +143,9 @@ same-length c = search needs
 
 returns : tie.Need-returns
 returns c =
-    let start = c .before .before .before .before .before .before .before .before .before .before .before in
-    let told = c .before .enum-told .given in
     let after = c .before .before .before .before .before in
+    let start = begin after in
+    let told = c .before .enum-told .given in
     let r = refused-is (told .0 .0) _ _ (sym (told .1) ∙ text-answer after) in
     refuses _ _ _ _ _ _ _ (told .0 .0)
     (first-text (message start) _ _ (start .pre .0) (spelled start) (told .0 .0) (r .0) (r .1)) (r .1)
@@ -145,7 +161,7 @@ slice-aggregate-protected-entries c = let r = read (c .before) in r .size ∙ sy
 protected-entries-requires : tie.Need-protected-entries-requires
 protected-entries-requires c κs =
     let r = read (c .before .before) in
-    let start = c .before .before .before .before .before .before .before .before .before .before .before .before .before in
+    let start = start-of (c .before .before) in
     (omega (arith, ap length (r .front), r .within), omega (arith, start .pre .1 .1 .1 .1 .1))
 
 enum-known-collected : tie.Need-enum-known-collected
@@ -165,7 +181,7 @@ same-length-3 c = search needs
 
 returns-2 : tie.Need-returns-2
 returns-2 c =
-    let start = c .before .before .before .before .before .before .before .before .before .before .before .before .before .before .before .before .before .before .before in
+    let start = start-of (c .before .before .before .before .before .before .before .before) in
     let told = c .before .enum-told2 .given in
     let after = c .before .before .before .before .before in
     let text = read (c .before .before .before .before .before .before .before .before) in
@@ -176,19 +192,21 @@ returns-2 c =
     (c .handed2 .result) (c .handed2 .ensures ∙ ap handed (told .1))
 
 slice-reshare-prefix-judge : tie.Need-slice-reshare-prefix-judge
-slice-reshare-prefix-judge c = read (c .before .before .before .before .before .before .before .before) .fits
+slice-reshare-prefix-judge c = read (told-of c) .fits
 
 slice-aggregate-judge : tie.Need-slice-aggregate-judge
-slice-aggregate-judge c = let r = read (c .before .before .before .before .before .before .before .before .before) in r .size ∙ sym (ap length (r .front))
+slice-aggregate-judge c = let r = read (told-of (c .before)) in r .size ∙ sym (ap length (r .front))
 
 judge-requires : tie.Need-judge-requires
 unfolding protectedEntries
 judge-requires c κs =
-    let start = c .before .before .before .before .before .before .before .before .before .before .before .before .before .before .before .before .before .before .before .before .before .before in
+    let told = told-of (c .before .before .before) in
+    let start = start-of told in
     let m = message start in
-    let text = read (c .before .before .before .before .before .before .before .before .before .before .before) in
+    let text = read told in
     let table = kept (c .before .before .before) in
-    let printed : Printed (header m) m (entries m) = entries-printed registered (header m) m (header m) 0 (outermost (header m)) refl in (
+    let printed : Printed (header m) m (entries m) =
+    entries-printed registered (header m) m (header m) 0 (outermost (header m)) refl in (
       start .pre .1 .1 .1 .0,
       (
         table .fits,
@@ -206,43 +224,47 @@ ruled-out-requires : tie.Need-ruled-out-requires
 ruled-out-requires c κs = search needs
 
 same-length-4 : tie.Need-same-length-4
-same-length-4 c = read (c .before .before .before .before .before .before .before .before .before .before .before .before .before .before .before) .same
+same-length-4 c = read (told-of (c .before .before .before .before .before .before .before)) .same
 
 same-length-5 : tie.Need-same-length-5
 same-length-5 c = search needs
 
 returns-3 : tie.Need-returns-3
 returns-3 c =
-    let start = c .before .before .before .before .before .before .before .before .before .before .before .before .before .before .before .before .before .before .before .before .before .before .before .before .before .before in
+    let known = c .before .before .before .before .before .before .before in
+    let start = start-of (told-of known) in
     let told = c .before .enum-told3 .given in
-    let text = read (c .before .before .before .before .before .before .before .before .before .before .before .before .before .before .before) in
-    let table = kept (c .before .before .before .before .before .before .before) in
+    let text = read (told-of known) in
+    let table = kept known in
     let r = ruled-refused (told .0 .0) _ _ (sym (told .1) ∙ rules-answer (c .before .before .before)) in
     refuses _ _ _ _ _ _ _ (told .0 .0)
-    (first-rule (message start) _ _ (start .pre .0) (spelled start) (text .passes) (table .passes) (told .0 .0) (r .0) (r .1))
+    (first-rule (message start) _ _ (start .pre .0) (spelled start) (text .passes) (table .passes) (told .0 .0) (r .0)
+    (r .1))
     (r .1) (text .same) (table .same) (c .ruled-out .result) (c .ruled-out .ensures ∙ ap ruledOut (told .1))
 
 same-length-6 : tie.Need-same-length-6
-same-length-6 c = read (c .before .before .before .before .before .before .before .before .before .before .before .before .before .before .before .before) .same
+same-length-6 c = read (told-of (c .before .before .before .before .before .before .before .before)) .same
 
 same-length-7 : tie.Need-same-length-7
 same-length-7 c = search needs
 
 returns-4 : tie.Need-returns-4
 returns-4 c =
-    let start = c .before .before .before .before .before .before .before .before .before .before .before .before .before .before .before .before .before .before .before .before .before .before .before .before .before .before .before in
-    let text = read (c .before .before .before .before .before .before .before .before .before .before .before .before .before .before .before .before) in
-    let table = kept (c .before .before .before .before .before .before .before .before) in
+    let known = c .before .before .before .before .before .before .before .before in
+    let start = start-of (told-of known) in
+    let text = read (told-of known) in
+    let table = kept known in
     let mode = c .before .before .judged .given in
     let r = ruled-mode (mode .0 .0) _ _ (sym (mode .1) ∙ rules-answer (c .before .before .before .before)) in (
-      first-19 (message start) _ _ (start .pre .0) (spelled start) (text .passes) (table .passes) (r .0) (c .if1 .taken),
+      first-19 (message start) _ _ (start .pre .0) (spelled start) (text .passes) (table .passes) (r .0)
+          (c .if1 .taken),
       omega arith,
       text .same,
       table .same,
     )
 
 same-length-8 : tie.Need-same-length-8
-same-length-8 c = read (c .before .before .before .before .before .before .before .before .before .before .before .before .before .before .before .before) .same
+same-length-8 c = read (told-of (c .before .before .before .before .before .before .before .before)) .same
 
 same-length-9 : tie.Need-same-length-9
 same-length-9 c = search needs
@@ -250,12 +272,14 @@ same-length-9 c = search needs
 returns-5 : tie.Need-returns-5
 unfolding compactOutcome
 returns-5 c =
-    let start = c .before .before .before .before .before .before .before .before .before .before .before .before .before .before .before .before .before .before .before .before .before .before .before .before .before .before .before in
-    let text = read (c .before .before .before .before .before .before .before .before .before .before .before .before .before .before .before .before) in
-    let table = kept (c .before .before .before .before .before .before .before .before) in
+    let known = c .before .before .before .before .before .before .before .before in
+    let start = start-of (told-of known) in
+    let text = read (told-of known) in
+    let table = kept known in
     let mode = c .before .before .judged .given in
     let r = ruled-mode (mode .0 .0) _ _ (sym (mode .1) ∙ rules-answer (c .before .before .before .before)) in (
-      first-none (message start) _ _ (start .pre .0) (spelled start) (text .passes) (table .passes) (r .0) (c .if1 .left),
+      first-none (message start) _ _ (start .pre .0) (spelled start) (text .passes) (table .passes) (r .0)
+          (c .if1 .left),
       accepted-are (message start) _ _ _ _ (start .pre .1 .0) (r .1) (text .size) (table .size),
       text .left,
       table .left,

@@ -36,15 +36,21 @@ seek-requires-5 c κs = search needs
 
 returns : tie.Need-returns
 returns c =
-    let message = c .before .before .before .before .before .before .before .args .message .now in
-    split-few message _ _ _ _ _ (c .before .before .before .before .before .seek .ensures .0) (c .before .before .before .before .seek2 .ensures .0) (c .before .before .before .seek3 .ensures .0)
-    (c .before .before .seek4 .ensures .0) (c .before .seek5 .ensures .0) (c .if1 .taken)
+    let far = c .before .before .before .before .before .before in
+    let message = far .before .args .message .now in
+    split-few message _ _ _ _ _ (c .before .before .before .before .before .seek .ensures .0)
+    (c .before .before .before .before .seek2 .ensures .0) (c .before .before .before .seek3 .ensures .0)
+    (c .before .before .seek4 .ensures .0) (c .before .seek5 .ensures .0)
+    (c .if1 .taken)
 
 returns-2 : tie.Need-returns-2
 returns-2 c =
-    let message = c .before .before .before .before .before .before .before .before .args .message .now in
-    split-many message _ _ _ _ _ (c .before .before .before .before .before .before .seek .ensures .0) (c .before .before .before .before .before .seek2 .ensures .0) (c .before .before .before .before .seek3 .ensures .0)
-    (c .before .before .before .seek4 .ensures .0) (c .before .before .seek5 .ensures .0) (c .before .if1 .left) (c .if2 .taken)
+    let far = c .before .before .before .before .before .before in
+    let message = far .before .before .args .message .now in
+    split-many message _ _ _ _ _ (c .before .before .before .before .before .before .seek .ensures .0)
+    (c .before .before .before .before .before .seek2 .ensures .0) (c .before .before .before .before .seek3 .ensures .0)
+    (c .before .before .before .seek4 .ensures .0) (c .before .before .seek5 .ensures .0)
+    (c .before .if1 .left) (c .if2 .taken)
 
 between-requires : tie.Need-between-requires
 between-requires c κs = search needs
@@ -60,10 +66,14 @@ between-requires-4 c κs = search needs
 
 returns-3 : tie.Need-returns-3
 returns-3 c =
-    let message = c .before .before .before .before .before .before .before .before .before .before .before .before .args .message .now in
-    split-four message _ _ _ _ _ (c .before .before .before .before .before .before .before .before .before .before .seek .ensures .0) (c .before .before .before .before .before .before .before .before .before .seek2 .ensures .0) (c .before .before .before .before .before .before .before .before .seek3 .ensures .0)
-    (c .before .before .before .before .before .before .before .seek4 .ensures .0) (c .before .before .before .before .before .before .seek5 .ensures .0) (c .before .before .before .before .before .if1 .left) (c .before .before .before .before .if2 .left)
-    _ _ _ _ (c .before .before .before .between .ensures) (c .before .before .between2 .ensures) (c .before .between3 .ensures) (c .between4 .ensures)
+    let far = c .before .before .before .before .before .before in
+    let message = far .before .before .before .before .before .before .args .message .now in
+    split-four message _ _ _ _ _ (far .before .before .before .before .seek .ensures .0)
+    (far .before .before .before .seek2 .ensures .0) (far .before .before .seek3 .ensures .0)
+    (far .before .seek4 .ensures .0) (c .before .before .before .before .before .before .seek5 .ensures .0)
+    (c .before .before .before .before .before .if1 .left) (c .before .before .before .before .if2 .left) _ _ _ _
+    (c .before .before .before .between .ensures) (c .before .before .between2 .ensures) (c .before .between3 .ensures)
+    (c .between4 .ensures)
 
 pub split-spec : {M : Type 1} → statement M
 split-spec =
