@@ -6,3 +6,5 @@ pub mod Splitting
 pub mod CompactOrder
 -- What is known where a stage passed, or refused.
 pub mod Stages
+-- For `read`: 1 to 3, and what the lent outputs hold afterwards.
+pub mod Reading
