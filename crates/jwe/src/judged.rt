@@ -1,7 +1,30 @@
 // What judging a message answers.
+ghost use mathlib.Core.Path.{_≡_};
+ghost use Rattle.jwe.specs.Answers.{handed, ruledOut};
 use crate::Result;
+use headers::Stage;
 
 pub enum Judged {
     Accepted(Result),
     Refused(u32),
+}
+
+// The refusal of a stage, handed up unchanged.
+pub fn handed(stage: Stage) -> Judged
+    ensures { λ r. ⌜ r ≡ handed stage ⌝ }
+{
+    let Stage::Refused(n) = stage else {
+        return Judged::Refused(0);
+    };
+    Judged::Refused(n)
+}
+
+// That of the rules on a recipient, likewise.
+pub fn ruled_out(judged: jose::judge::Judged) -> Judged
+    ensures { λ r. ⌜ r ≡ ruledOut judged ⌝ }
+{
+    let jose::judge::Judged::Refused(n) = judged else {
+        return Judged::Refused(0);
+    };
+    Judged::Refused(n)
 }
