@@ -8,3 +8,7 @@ pub mod CompactOrder
 pub mod Stages
 -- For `read`: 1 to 3, and what the lent outputs hold afterwards.
 pub mod Reading
+-- Every number of a result fits 32 bits.
+pub mod SmallRefusals
+pub mod SmallOutcomes
+pub mod Small

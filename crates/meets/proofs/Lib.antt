@@ -42,3 +42,16 @@ pub mod JsonDecided
 pub mod FormsApart
 pub mod Accepted
 pub mod Refused
+-- What is handed out.
+pub mod HandedOut
+pub mod PlacedNames
+pub mod MemberPlaced
+pub mod JsonPassed
+pub mod JsonHeaders
+pub mod JsonApplies
+pub mod HandedFits
+pub mod HandedExactly
+-- And what applies is one.
+pub mod HeaderOctets
+pub mod MemberOnce
+pub mod AppliesOnce

@@ -1,0 +1,136 @@
+-- The number of a refusal is at most 19: the first failing test of an order has one of the order's numbers, and no test
+-- of any order has a number beyond.
+use mathlib.Core.Path.{_≡_, refl}
+use mathlib.Core.Bool.{Bool, true, false, _||_, cond, true≢false}
+use mathlib.Core.List.{List, [], _∷_, _++_, flatMap}
+use Prim.Native.Nat.{ℕ, _≤_, zero-le}
+use lib.Dec.{ltb}
+use borrow.Author.Tests.{ltb-false}
+use Rattle.json.specs.Reader.{opensObject}
+use Rattle.json.specs.Places.{Element}
+use Rattle.names.specs.Names.{names}
+use Rattle.rows.specs.Any.{any}
+use Rattle.rows.specs.Rows.{Entry, present}
+use Rattle.jose.specs.Refusals.{Test, first}
+use Rattle.jose.specs.HeaderRules.{recipientOrder}
+use Rattle.headers.specs.Headers.{textOrder, objectOrder}
+use Rattle.shape.specs.Shape.{Recipient, protected, recipients}
+use Rattle.shape.specs.Recipients.{topEntries, topOrder, elementOrder, elementsIn, elementsOrder, recipientsIn}
+use Rattle.jwe.specs.Compact.{compactOrder}
+use Rattle.jwe.specs.General.{ownEntries, protectedOrder, headersOrder, recipientsOrder, jsonOrder}
+use Rattle.jwe.specs.Judge.{order, refusal}
+
+-- A test whose number is not in document 01's table.
+abbrev beyond : Test → Bool
+beyond t = ltb 19 (t .number)
+
+first-low : (ts : List Test) → any beyond ts ≡ false → first ts ≤ 19
+unfolding any first
+first-low [] h = zero-le
+first-low (t ∷ ts) h =
+    let m = parts (beyond t) (any beyond ts) h in
+    cases (t .fails) (ltb-false 19 (t .number) (m .0)) (first-low ts (m .1))
+  where
+    parts : (a b : Bool) → a || b ≡ false → (a ≡ false) × (b ≡ false)
+    parts true b h = absurd (true≢false h)
+    parts false b h = (refl, h)
+
+    cases : (b : Bool) → t .number ≤ 19 → first ts ≤ 19 → cond b (t .number) (first ts) ≤ 19
+    cases true here rest = here
+    cases false here rest = rest
+
+-- Orders made of orders
+
+both-low : (ts us : List Test) → any beyond ts ≡ false → any beyond us ≡ false → any beyond (ts ++ us) ≡ false
+unfolding any
+both-low [] us h i = i
+both-low (t ∷ ts) us h i = cases (beyond t) h (λ k. both-low ts us k i)
+  where
+    cases : (b : Bool) → b || any beyond ts ≡ false → (any beyond ts ≡ false → any beyond (ts ++ us) ≡ false) →
+        b || any beyond (ts ++ us) ≡ false
+    cases true h f = absurd (true≢false h)
+    cases false h f = f h
+
+each-low : {A : Type 0} (f : A → List Test) → ((x : A) → any beyond (f x) ≡ false) → (xs : List A) →
+    any beyond (flatMap f xs) ≡ false
+unfolding flatMap any
+each-low f h [] = refl
+each-low f h (x ∷ xs) = both-low (f x) (flatMap f xs) (h x) (each-low f h xs)
+
+if-low : (b : Bool) (ts : List Test) → any beyond ts ≡ false → any beyond (cond b ts []) ≡ false
+unfolding any
+if-low true ts h = h
+if-low false ts h = refl
+
+-- Each order
+
+object-low : (s : List ℕ) (es : List Entry) → any beyond (objectOrder s es) ≡ false
+unfolding any objectOrder
+object-low s es = refl
+
+recipient-low : (known : List (List ℕ)) (header message : List ℕ) (es : List Entry) (noKey : Bool) →
+    any beyond (recipientOrder known header message es noKey) ≡ false
+unfolding any recipientOrder
+recipient-low known header message es noKey = refl
+
+compact-low : (message : List ℕ) (known : List (List ℕ)) (recipient : ℕ) →
+    any beyond (compactOrder message known recipient) ≡ false
+unfolding any compactOrder textOrder objectOrder recipientOrder
+compact-low message known recipient = refl
+
+top-low : (message : List ℕ) → any beyond (topOrder message) ≡ false
+unfolding any topOrder objectOrder
+top-low message = refl
+
+element-low : (message : List ℕ) (start : ℕ) → any beyond (elementOrder message start) ≡ false
+unfolding any elementOrder objectOrder
+element-low message start = refl
+
+elements-low : (message : List ℕ) (es : List Entry) → any beyond (elementsOrder message es) ≡ false
+unfolding any elementsOrder
+elements-low message es =
+    if-low (present recipients es) _
+    (each-low (λ (x : Element). elementOrder message (x .start)) (λ x. element-low message (x .start))
+    (elementsIn message es))
+
+protected-low : (es : List Entry) (header : List ℕ) → any beyond (protectedOrder es header) ≡ false
+unfolding any protectedOrder textOrder
+protected-low es header = if-low (present protected es) _ refl
+
+headers-low : (header message : List ℕ) (es : List Entry) (rs : List Recipient) →
+    any beyond (headersOrder header message es rs) ≡ false
+unfolding any headersOrder objectOrder
+headers-low header message es rs =
+    each-low (λ r. objectOrder message (ownEntries message r)) (λ r. object-low message (ownEntries message r)) rs
+
+recipients-low : (known : List (List ℕ)) (header message : List ℕ) (es : List Entry) (rs : List Recipient) →
+    any beyond (recipientsOrder known header message es rs) ≡ false
+unfolding recipientsOrder
+recipients-low known header message es rs = each-low _ (λ r. recipient-low known header message _ _) rs
+
+json-low : (message : List ℕ) (known : List (List ℕ)) (recipient : ℕ) →
+    any beyond (jsonOrder message known recipient) ≡ false
+unfolding any jsonOrder
+json-low message known recipient =
+    let es = topEntries message in
+    let rs = recipientsIn message es in
+    both-low (topOrder message) _ (top-low message)
+    (both-low (elementsOrder message es) _ (elements-low message es)
+    (both-low (protectedOrder es _) _ (protected-low es _)
+    (both-low (headersOrder _ message es rs) _ (headers-low _ message es rs)
+    (both-low (recipientsOrder known _ message es rs) _ (recipients-low known _ message es rs) refl))))
+
+module _ (message known : List ℕ) (recipient headerLent listLent : ℕ) where
+  order-low : any beyond (order message known recipient headerLent listLent) ≡ false
+  unfolding any order
+  order-low = cases (opensObject message)
+    where
+      cases : (b : Bool) →
+          any beyond
+          (cond b (jsonOrder message (names known) recipient) (compactOrder message (names known) recipient)) ≡ false
+      cases true = json-low message (names known) recipient
+      cases false = compact-low message (names known) recipient
+
+  pub refusal-low : refusal message known recipient headerLent listLent ≤ 19
+  unfolding refusal
+  refusal-low = first-low (order message known recipient headerLent listLent) order-low
