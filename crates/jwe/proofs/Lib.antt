@@ -1,5 +1,3 @@
--- Document 01's samples.
-pub mod Samples
 -- The full stops of a compact message.
 pub mod Splitting
 -- The first refusal of a compact message, stage by stage.

@@ -2,4 +2,3 @@ pub mod Compact
 pub mod General
 pub mod Judge
 pub mod Answers
-pub mod Samples
