@@ -10,7 +10,6 @@ use Rattle.rows.specs.Rows.{Entry, present}
 use Rattle.rows.specs.Tables.{flat, entriesOf}
 use Rattle.jose.specs.Refusals.{Test, _if_, first}
 use Rattle.jose.specs.HeaderRules.{recipientOrder}
-use Rattle.headers.specs.Components as headers
 use Rattle.headers.specs.Headers.{headerText, textOrder, outermost, protectedEntries, objectOrder}
 use Rattle.headers.specs.declared.Stage.{Stage}
 use Rattle.headers.specs.declared.Stage.the-variants.{Passed, Refused}
@@ -18,10 +17,11 @@ use Rattle.shape.specs.Shape.{protected, recipients, component, Recipient}
 use Rattle.shape.specs.Recipients.{componentsIn}
 use Rattle.jwe.specs.General.{ownEntries, parameters, isHollow, protectedOrder, headersOrder, recipientsOrder}
 use Rattle.jwe.specs.Judge.{Outcome, accepted, asked}
-use Rattle.jwe.specs.Answers.{codeComponents, numbers}
-use Rattle.jwe.specs.declared.Result.{Result}
-use Rattle.jwe.specs.declared.judged.Judged as judged
-use Rattle.jwe.specs.declared.judged.Judged.the-variants as judged
+use Rattle.jwe.specs.Answers.{numbers}
+use Rattle.jose.specs.declared.judge.Judged as jose
+use Rattle.jose.specs.declared.judge.Judged.the-variants as recipient
+use Rattle.jwe.specs.declared.judged.Judged.{Judged}
+use Rattle.jwe.specs.declared.judged.Judged.the-variants as message
 
 -- The recipients of a table
 
@@ -109,21 +109,20 @@ shapedOutcome message es rs recipient =
       entries = parameters header message es r;
     }
 
--- A result of the code.
-abbrev pub resultOf : ℕ → ℕ → ℕ → headers.Components → ℕ → ℕ → Result
-resultOf form recipients mode q header parameters = record {
-  number = 0;
-  form = form;
-  recipients = recipients;
-  mode = mode;
-  components = codeComponents q;
-  header = header;
-  parameters = parameters;
-}
 
 -- As Answers' Judges, the header having been decoded before.
-abbrev pub Heads : List ℕ → List Test → Outcome → judged.Judged → List ℕ → List ℕ → Type 0
-Heads message order x (judged.Accepted r) table₀ table =
-    (first order ≡ 0) × (numbers r ≡ accepted message x) × (table ≡ written 0 (flat (x .entries)) table₀)
-Heads message order x (judged.Refused n) table₀ table =
+abbrev pub Heads : List ℕ → List Test → Outcome → Judged → List ℕ → List ℕ → Type 0
+Heads text order x (message.Accepted r) table₀ table =
+    (first order ≡ 0) × (numbers r ≡ accepted text x) × (table ≡ written 0 (flat (x .entries)) table₀)
+Heads text order x (message.Refused n) table₀ table =
     (first order ≡ n) × (0 < n) × (length table ≡ length table₀)
+
+-- Refusals handed up
+
+abbrev pub handedOf : Stage → Judged
+handedOf (Passed n) = message.Refused 0
+handedOf (Refused n) = message.Refused n
+
+abbrev pub refusedOf : jose.Judged → Stage
+refusedOf (recipient.Mode m) = Refused 0
+refusedOf (recipient.Refused n) = Refused n

@@ -25,7 +25,7 @@ ghost use Rattle.jwe.specs.General.{allPlaces, jsonOrder};
 ghost use Rattle.jwe.specs.Judge.{jsonOutcome};
 ghost use Rattle.jwe.specs.Answers.{componentsOf, Judges};
 ghost use Rattle.jwe.specs.Stages.{recipientAt, recipientsOf, Owned, LeavesOwn, textTests, protectedTests, ownTests, ruleTests};
-ghost use Rattle.jwe.specs.Stages.{headedOrder, shapedOrder, headedOutcome, shapedOutcome, resultOf, Heads};
+ghost use Rattle.jwe.specs.Stages.{headedOrder, shapedOrder, headedOutcome, shapedOutcome, Heads, refusedOf};
 use crate::Components;
 use crate::Result;
 use crate::judged::Judged;
@@ -238,11 +238,13 @@ fn rules(
 }
 
 // The refusal of a recipient, handed up.
-fn refused(judged: jose::judge::Judged) -> Stage {
-    match judged {
-        jose::judge::Judged::Mode(_) => Stage::Passed(0),
-        jose::judge::Judged::Refused(n) => Stage::Refused(n),
-    }
+fn refused(judged: jose::judge::Judged) -> Stage
+    ensures { λ r. ⌜ r ≡ refusedOf judged ⌝ }
+{
+    let jose::judge::Judged::Refused(n) = judged else {
+        return Stage::Refused(0);
+    };
+    Stage::Refused(n)
 }
 
 // 1 flattened, 2 general.

@@ -1,4 +1,6 @@
 // What judging a message answers.
+ghost use mathlib.Core.Path.{_≡_};
+ghost use Rattle.jwe.specs.Stages.{handedOf};
 use crate::Result;
 use headers::Stage;
 
@@ -8,9 +10,11 @@ pub enum Judged {
 }
 
 // A stage's refusal, handed up.
-pub(crate) fn handed(stage: Stage) -> Judged {
-    match stage {
-        Stage::Passed(_) => Judged::Refused(0),
-        Stage::Refused(n) => Judged::Refused(n),
-    }
+pub fn handed(stage: Stage) -> Judged
+    ensures { λ r. ⌜ r ≡ handedOf stage ⌝ }
+{
+    let Stage::Refused(n) = stage else {
+        return Judged::Refused(0);
+    };
+    Judged::Refused(n)
 }

@@ -1,0 +1,8 @@
+-- The refusals of a JSON message, stage by stage.
+pub mod JsonOrder
+-- Recipients as numbers of a table, and loops over them.
+pub mod RecipientRows
+-- Own headers collected one beside the other.
+pub mod OwnHeaders
+-- The headers of a JSON message.
+pub mod JsonHeaders
