@@ -2,6 +2,8 @@
 //! judging JSON texts of 16 MiB beside a plain Rust recursive descent. Deterministic input; ours and the peer take turns, so
 //! that both meet the same machine.
 
+#[cfg(probe_read)]
+mod jwe;
 mod validator;
 
 use std::hint::black_box;
@@ -382,4 +384,6 @@ fn main() {
             &format!(" {:>9.3} {:>9.2}", 1e3 / best, base / best),
         );
     }
+    #[cfg(probe_read)]
+    jwe::measure();
 }

@@ -5,11 +5,15 @@
 //! Every call is judged by its answer, its out-parameter and the whole of its memory: the buffer, the octets beside it
 //! and the input. A stray read or write beyond either stops the program.
 
+#[cfg(probe_read)]
+#[path = "jwe.rs"]
+mod jwe;
 mod json;
 mod lent;
 mod random;
 mod reader;
 mod reference;
+mod writer;
 
 use lent::{Lent, MARGIN};
 use random::Random;
@@ -327,6 +331,11 @@ fn main() {
     let json = json::compare(&mut tester, &mut random);
     if reports.contains(&false) || !json {
         println!("FAILED harness: accepted or refused calls are less than a third");
+        exit(1);
+    }
+    #[cfg(probe_read)]
+    if !jwe::compare(&jwe::ours, &mut random) {
+        println!("FAILED harness: a refusal was never met");
         exit(1);
     }
     println!("harness: no difference, seed {seed}");

@@ -34,9 +34,16 @@ pub fn misspelled(message: &[u8], place: Place) -> bool
     false
 }
 
-// 8 and 9 on the object at a position of a text: its members as entries of the table from the entry `from` on, and how many
-// they are.
-pub fn object(s: &[u8], at: usize, origin: u32, list: &[u8], table: &mut [u32], from: usize) -> Stage
+// 8 and 9 on the object at a position of a text: its members as entries of the table from the entry `from` on, and how
+// many they are.
+pub fn object(
+    s: &[u8],
+    at: usize,
+    origin: u32,
+    list: &[u8],
+    table: &mut [u32],
+    from: usize,
+) -> Stage
     requires { ⌜ length (now s) ≤ 16777216 ⌝ }
     requires { ⌜ filled (now list) ≡ true ⌝ }
     requires { ⌜ from * 8 + 256 ≤ length (now table) ⌝ }
@@ -54,8 +61,8 @@ pub fn object(s: &[u8], at: usize, origin: u32, list: &[u8], table: &mut [u32], 
     Stage::Passed(count)
 }
 
-// 6 and 7 on the protected header, whose encoded text at a place of the message has no fault: it is decoded into the buffer,
-// and how long it is.
+// 6 and 7 on the protected header, whose encoded text at a place of the message has no fault: it is decoded into the
+// buffer, and how long it is.
 pub fn header(message: &[u8], place: Place, buffer: &mut [u8]) -> Stage
     requires { ⌜ misspelled (now message) (placeOf place) ≡ false ⌝ }
     requires { ⌜ length (now buffer) ≡ 4096 ⌝ }

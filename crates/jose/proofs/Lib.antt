@@ -1,5 +1,8 @@
--- The laws of the crate.
+-- The first test that fails; for crates above.
+pub mod Refusals
 -- For the proofs of the functions.
+pub mod Numbered
+pub mod Asked
 pub mod Elements
 pub mod InTable
 pub mod Walks

@@ -11,6 +11,12 @@ use Rattle.jose.specs.declared.algorithms.Alg.the-variants.{EcdhEsA192Kw
 use Rattle.jose.specs.declared.algorithms.Enc.{Enc}
 use Rattle.jose.specs.declared.algorithms.Enc.the-variants.{A128CbcHs256, A192CbcHs384, A256CbcHs512, A128Gcm}
 use Rattle.jose.specs.declared.algorithms.Enc.the-variants.{A192Gcm, A256Gcm}
+use Rattle.jose.specs.declared.algorithms.NamedAlg.{NamedAlg}
+use Rattle.jose.specs.declared.algorithms.NamedAlg.the-variants as named-alg
+use Rattle.jose.specs.declared.algorithms.NamedEnc.{NamedEnc}
+use Rattle.jose.specs.declared.algorithms.NamedEnc.the-variants as named-enc
+use Rattle.jose.specs.declared.algorithms.Added.{Added}
+use Rattle.jose.specs.declared.algorithms.Added.the-variants.{Octets, Unjudged, NoKey}
 
 -- Key management: `alg`
 
@@ -75,6 +81,27 @@ mode EcdhEsA192Kw = 4
 mode EcdhEsA256Kw = 4
 mode Dir = 5
 
+-- The encrypted key beside the content key: wrapping adds 8 octets, and by GCM none; what RSA makes is not judged; direct
+-- agreement and direct encryption have no encrypted key.
+abbrev pub keyAdded : Alg → Added
+keyAdded Rsa15 = Unjudged
+keyAdded RsaOaep = Unjudged
+keyAdded RsaOaep256 = Unjudged
+keyAdded A128Kw = Octets 8
+keyAdded A192Kw = Octets 8
+keyAdded A256Kw = Octets 8
+keyAdded A128GcmKw = Octets 0
+keyAdded A192GcmKw = Octets 0
+keyAdded A256GcmKw = Octets 0
+keyAdded Pbes2A128Kw = Octets 8
+keyAdded Pbes2A192Kw = Octets 8
+keyAdded Pbes2A256Kw = Octets 8
+keyAdded EcdhEs = NoKey
+keyAdded EcdhEsA128Kw = Octets 8
+keyAdded EcdhEsA192Kw = Octets 8
+keyAdded EcdhEsA256Kw = Octets 8
+keyAdded Dir = NoKey
+
 -- Content encryption: `enc`
 
 unfoldable pub encs : List Enc
@@ -138,3 +165,13 @@ nth (x ∷ xs) (suc (suc n)) = nth xs (suc n)
 abbrev pub modeOf : Option Alg → ℕ
 modeOf none = 0
 modeOf (some a) = mode a
+
+-- The code's answers.
+
+abbrev pub namedAlg : Option Alg → NamedAlg
+namedAlg none = named-alg.Unlisted
+namedAlg (some a) = named-alg.Alg a
+
+abbrev pub namedEnc : Option Enc → NamedEnc
+namedEnc none = named-enc.Unlisted
+namedEnc (some e) = named-enc.Enc e

@@ -1,65 +1,81 @@
-// Our lists of names, contents first, as `names` reads them. Each is proved to be what its definition lists.
+// Our lists of names, contents first, as `names` reads them: how many, the length of each, then the names. Each is proved to
+// be what its definition lists (proofs/Listed).
 
 // The registered names.
-pub const REGISTERED: [u8; 86] = [
-    20, 3, 3, 3, 3, 3, 3, 3, 3, 3, 8, 3, 3, 4, 3, 3, 3, 2, 3, 3, 3,
-    97, 108, 103,
-    101, 110, 99,
-    122, 105, 112,
-    106, 107, 117,
-    106, 119, 107,
-    107, 105, 100,
-    120, 53, 117,
-    120, 53, 99,
-    120, 53, 116,
-    120, 53, 116, 35, 83, 50, 53, 54,
-    116, 121, 112,
-    99, 116, 121,
-    99, 114, 105, 116,
-    101, 112, 107,
-    97, 112, 117,
-    97, 112, 118,
-    105, 118,
-    116, 97, 103,
-    112, 50, 115,
-    112, 50, 99,
-];
+pub const REGISTERED: [u8; 86] = *b"\x14\
+    \x03\x03\x03\x03\x03\x03\x03\x03\x03\x08\x03\x03\x04\
+    \x03\x03\x03\x02\x03\x03\x03\
+    alg\
+    enc\
+    zip\
+    jku\
+    jwk\
+    kid\
+    x5u\
+    x5c\
+    x5t\
+    x5t#S256\
+    typ\
+    cty\
+    crit\
+    epk\
+    apu\
+    apv\
+    iv\
+    tag\
+    p2s\
+    p2c";
+
+// The numbers of those that the rules name, counted from 1; ZIP is the compression parameter.
+pub const ALG: u32 = 1;
+
+pub const ENC: u32 = 2;
+
+pub const ZIP: u32 = 3;
+
+pub const JWK: u32 = 5;
+
+pub const X5C: u32 = 8;
+
+pub const CRIT: u32 = 13;
 
 // The values of `alg`.
-pub const ALGS: [u8; 195] = [
-    17, 6, 8, 12, 6, 6, 6, 9, 9, 9, 18, 18, 18, 7, 14, 14, 14, 3,
-    82, 83, 65, 49, 95, 53,
-    82, 83, 65, 45, 79, 65, 69, 80,
-    82, 83, 65, 45, 79, 65, 69, 80, 45, 50, 53, 54,
-    65, 49, 50, 56, 75, 87,
-    65, 49, 57, 50, 75, 87,
-    65, 50, 53, 54, 75, 87,
-    65, 49, 50, 56, 71, 67, 77, 75, 87,
-    65, 49, 57, 50, 71, 67, 77, 75, 87,
-    65, 50, 53, 54, 71, 67, 77, 75, 87,
-    80, 66, 69, 83, 50, 45, 72, 83, 50, 53, 54, 43, 65, 49, 50, 56, 75, 87,
-    80, 66, 69, 83, 50, 45, 72, 83, 51, 56, 52, 43, 65, 49, 57, 50, 75, 87,
-    80, 66, 69, 83, 50, 45, 72, 83, 53, 49, 50, 43, 65, 50, 53, 54, 75, 87,
-    69, 67, 68, 72, 45, 69, 83,
-    69, 67, 68, 72, 45, 69, 83, 43, 65, 49, 50, 56, 75, 87,
-    69, 67, 68, 72, 45, 69, 83, 43, 65, 49, 57, 50, 75, 87,
-    69, 67, 68, 72, 45, 69, 83, 43, 65, 50, 53, 54, 75, 87,
-    100, 105, 114,
-];
+pub const ALGS: [u8; 195] = *b"\x11\
+    \x06\x08\x0c\
+    \x06\x06\x06\x09\x09\x09\x12\x12\x12\
+    \x07\
+    \x0e\x0e\x0e\
+    \x03\
+    RSA1_5\
+    RSA-OAEP\
+    RSA-OAEP-256\
+    A128KW\
+    A192KW\
+    A256KW\
+    A128GCMKW\
+    A192GCMKW\
+    A256GCMKW\
+    PBES2-HS256+A128KW\
+    PBES2-HS384+A192KW\
+    PBES2-HS512+A256KW\
+    ECDH-ES\
+    ECDH-ES+A128KW\
+    ECDH-ES+A192KW\
+    ECDH-ES+A256KW\
+    dir";
 
 // The values of `enc`.
-pub const ENCS: [u8; 67] = [
-    6, 13, 13, 13, 7, 7, 7,
-    65, 49, 50, 56, 67, 66, 67, 45, 72, 83, 50, 53, 54,
-    65, 49, 57, 50, 67, 66, 67, 45, 72, 83, 51, 56, 52,
-    65, 50, 53, 54, 67, 66, 67, 45, 72, 83, 53, 49, 50,
-    65, 49, 50, 56, 71, 67, 77,
-    65, 49, 57, 50, 71, 67, 77,
-    65, 50, 53, 54, 71, 67, 77,
-];
+pub const ENCS: [u8; 67] = *b"\x06\
+    \x0d\x0d\x0d\
+    \x07\x07\x07\
+    A128CBC-HS256\
+    A192CBC-HS384\
+    A256CBC-HS512\
+    A128GCM\
+    A192GCM\
+    A256GCM";
 
 // The one value of the compression parameter.
-pub const ZIPS: [u8; 5] = [
-    1, 3,
-    68, 69, 70,
-];
+pub const ZIPS: [u8; 5] = *b"\x01\
+    \x03\
+    DEF";

@@ -8,3 +8,13 @@ pub mod Rows
 -- What the tests on spellings and on names decide of the strings.
 pub mod Saying
 pub mod Naming
+-- Tests and the sentences that they decide.
+pub mod Deciding
+pub mod Numbering
+pub mod Entries
+-- The rules on headers, refusal by refusal, and all of them.
+pub mod NamesApart
+pub mod Parameters
+pub mod CriticalNames
+pub mod KeyFits
+pub mod RulesDecided

@@ -1,0 +1,41 @@
+-- For callers of a stage: what its answer tells of its refusals, and that their numbers are none of them 0, so that
+-- orders can be put one behind the other (jose's `first-append`).
+use mathlib.Core.Path.{_≡_, refl}
+use mathlib.Core.Bool.{Bool, true, false, cond}
+use mathlib.Core.List.{List}
+use Prim.Native.Nat.{ℕ, _<_}
+use native.Mathlib.Omega.{arith}
+use lib.Dec.{eqb}
+use borrow.Author.Tests.{eqb-true, eqb-false}
+use Rattle.rows.specs.Rows.{Entry}
+use Rattle.jose.proofs.Refusals.{nonzero}
+use Rattle.headers.specs.Headers.{textOrder, objectOrder}
+use Rattle.headers.specs.Answers.{stageOf}
+use Rattle.headers.specs.declared.Stage.the-variants.{Passed, Refused}
+
+module _ (n refusal passes : ℕ) where
+  pub passed-is : Passed n ≡ stageOf refusal passes → (refusal ≡ 0) × (n ≡ passes)
+  unfolding stageOf
+  passed-is e = cases (eqb refusal 0) refl e
+    where
+      cases : (b : Bool) → eqb refusal 0 ≡ b → Passed n ≡ cond b (Passed passes) (Refused refusal) →
+          (refusal ≡ 0) × (n ≡ passes)
+      cases true t e = (eqb-true refusal 0 t, cc)
+      cases false t e = let z : _≡_ {A = ℕ} 0 1 = cc in absurd (omega arith)
+
+  pub refused-is : Refused n ≡ stageOf refusal passes → (refusal ≡ n) × (0 < n)
+  unfolding stageOf
+  refused-is e = cases (eqb refusal 0) refl e
+    where
+      cases : (b : Bool) → eqb refusal 0 ≡ b → Refused n ≡ cond b (Passed passes) (Refused refusal) →
+          (refusal ≡ n) × (0 < n)
+      cases true t e = let z : _≡_ {A = ℕ} 0 1 = cc in absurd (omega arith)
+      cases false t e = let same : refusal ≡ n = cc in (same, omega (arith, eqb-false refusal 0 t))
+
+pub text-nonzero : (header : List ℕ) → nonzero (textOrder header) ≡ true
+unfolding textOrder
+text-nonzero header = refl
+
+pub object-nonzero : (s : List ℕ) (es : List Entry) → nonzero (objectOrder s es) ≡ true
+unfolding objectOrder
+object-nonzero s es = refl
