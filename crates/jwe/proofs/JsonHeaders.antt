@@ -13,7 +13,7 @@ use Rattle.prelude.specs.Buffer.{written}
 use Rattle.base64url.specs.Base64url.{octets, decoded}
 use Rattle.parts.specs.Parts.{part}
 use Rattle.json.specs.Places.{Place, Member}
-use Rattle.json.specs.Reader.{membersAt}
+use Rattle.json.specs.Reader.{skipSpace, membersAt}
 use Rattle.rows.specs.Any.{any, anyPair}
 use Rattle.rows.specs.Rows.{Entry, entryOf, entriesIn, numbered, present, valueOf, repeated}
 use Rattle.rows.specs.Tables.{flat, collectedTable}
@@ -34,13 +34,14 @@ use Rattle.jwe.specs.Stages.{textTests, protectedTests}
 none-present : (n : ℕ) (es : List Entry) → present n es ≡ false → valueOf n es ≡ record { start = 0; size = 0 }
 unfolding present any valueOf
 none-present n [] e = refl
-none-present n (x ∷ es) e = cases (numbered n x) e
+none-present n (x ∷ es) e = cases (numbered n x) e (none-present n es)
   where
     cases : (b : Bool) → (b || any (numbered n) es) ≡ false →
+        (any (numbered n) es ≡ false → valueOf n es ≡ record { start = 0; size = 0 }) →
         cond b (record { start = x .member .valueStart; size = x .member .valueSize }) (valueOf n es)
         ≡ record { start = 0; size = 0 }
-    cases true e = absurd (true≢false e)
-    cases false e = none-present n es e
+    cases true e rest = absurd (true≢false e)
+    cases false e rest = rest e
 
 no-text : (message : List ℕ) → headerText message absent ≡ []
 unfolding headerText part decoded octets
@@ -73,7 +74,9 @@ text-there es header e = sym (ap (λ (b : Bool). stageOf (first (textTests b hea
 hollow-is : (header : List ℕ) (ms : List Member) → isHollow ms ≡ eqb (length (entriesIn registered header 0 ms)) 0
 unfolding entriesIn
 hollow-is header [] = refl
-hollow-is header (m ∷ ms) = sym (ne-eqb _ 0 (λ e. omega (arith, e)))
+hollow-is header (m ∷ ms) =
+    let es = entriesIn registered header 0 (m ∷ ms) in
+    sym (ne-eqb (length es) 0 (λ (e : length es ≡ 0). omega (arith, e)))
 
 hollow-passes : (header : List ℕ) (ms : List Member) → length (entriesIn registered header 0 ms) ≡ 0 →
     first (objectOrder header (entriesIn registered header 0 ms)) ≡ 0
@@ -101,16 +104,39 @@ module _ (header : List ℕ) where
   with-entries true h = tests-is true ∙ ap (λ (b : Bool). cond b 10 eight-nine) (ne-eqb (length entries) 0 h)
   with-entries false h = tests-is false
 
+  none : length entries ≡ 0 → eight-nine ≡ 0
+  unfolding protectedEntries
+  none z = hollow-passes header (outermost header) z
+
+  -- What the object's collecting answers and leaves, by the list and the position it was given.
+  module _ {names : List (List ℕ)} {at : ℕ} (n : names ≡ registered) (a : at ≡ skipSpace header 0) where
+    listed-is : entriesIn names header 0 (membersAt 12 header at) ≡ entries
+    unfolding protectedEntries outermost
+    listed-is = ap₂ (λ (ns : List (List ℕ)) (k : ℕ). entriesIn ns header 0 (membersAt 12 header k)) n a
+
+    count-is : length (membersAt 12 header at) ≡ length entries
+    unfolding outermost
+    count-is = ap (λ (k : ℕ). length (membersAt 12 header k)) a ∙ entries-count
+
+    pub protected-stage : {answer : Stage} →
+        answer
+        ≡ stageOf (first (objectOrder header (entriesIn names header 0 (membersAt 12 header at))))
+        (length (membersAt 12 header at)) →
+        answer ≡ stageOf eight-nine (length entries)
+    protected-stage e =
+        e ∙ ap₂ (λ (es : List Entry) (k : ℕ). stageOf (first (objectOrder header es)) k) listed-is count-is
+
+    pub protected-table : (last before : List ℕ) →
+        last ≡ collectedTable 0 (entriesIn names header 0 (membersAt 12 header at)) before →
+        last ≡ collectedTable 0 entries before
+    protected-table last before e = e ∙ ap (λ (es : List Entry). collectedTable 0 es before) listed-is
+
   pub protected-refused : (there : Bool) {answer : Stage} (n : ℕ) → answer ≡ stageOf eight-nine (length entries) →
       answer ≡ Refused n → answer ≡ stageOf (first (protectedTests there header)) (length entries)
   protected-refused there n a e =
       let told = refused-is n eight-nine (length entries) (sym e ∙ a) in
       let some : length entries ≡ 0 → ⊥ = λ z. omega (arith, none z, told .0, told .1) in
       a ∙ ap (λ (k : ℕ). stageOf k (length entries)) (sym (with-entries there some))
-    where
-      none : length entries ≡ 0 → eight-nine ≡ 0
-      unfolding protectedEntries
-      none z = hollow-passes header (outermost header) z
 
   pub protected-hollow : (there : Bool) (n : ℕ) → Passed n ≡ stageOf eight-nine (length entries) → there ≡ true → n ≡ 0 →
       Refused 10 ≡ stageOf (first (protectedTests there header)) (length entries)
@@ -167,11 +193,38 @@ module _ (message : List ℕ) (origin start : ℕ) where
   unfolding entriesIn
   stands-count h = sym (length-map (membersAt 12 message start) (entryOf registered message origin)) ∙ ap length (stands h)
 
+  module _ {names : List (List ℕ)} (n : names ≡ registered) (h : start ≡ 0 → ⊥) where
+    listed-there : entriesIn names message origin (membersAt 12 message start) ≡ found
+    listed-there = ap (λ (ns : List (List ℕ)). entriesIn ns message origin (membersAt 12 message start)) n ∙ stands h
+
+    pub stands-stage : {answer : Stage} →
+        answer
+        ≡ stageOf (first (objectOrder message (entriesIn names message origin (membersAt 12 message start))))
+        (length (membersAt 12 message start)) →
+        answer ≡ stageOf (first (objectOrder message found)) (length found)
+    stands-stage e =
+        e ∙ ap₂ (λ (es : List Entry) (k : ℕ). stageOf (first (objectOrder message es)) k) listed-there (stands-count h)
+
+    pub stands-table : (from : ℕ) (last before : List ℕ) →
+        last ≡ collectedTable from (entriesIn names message origin (membersAt 12 message start)) before →
+        last ≡ collectedTable from found before
+    stands-table from last before e = e ∙ ap (λ (es : List Entry). collectedTable from es before) listed-there
+
+-- A stage that refuses with a number, and one that passes.
+
+pub refuses : {n : ℕ} (k : ℕ) → 0 < n → Refused n ≡ stageOf n k
+unfolding stageOf
+refuses {n} k h = sym (ap (λ (b : Bool). cond b (Passed k) (Refused n)) (ne-eqb n 0 (λ (e : n ≡ 0). omega (arith, e, h))))
+
+pub passes : {n k : ℕ} → n ≡ 0 → Passed k ≡ stageOf n k
+unfolding stageOf
+passes {n} {k} e = sym (ap (λ (m : ℕ). stageOf m k) e)
+
 -- What passes 8 has at most 32.
 pub few : (s : List ℕ) (es : List Entry) → first (objectOrder s es) ≡ 0 → length es ≤ 32
 unfolding first objectOrder
 few s es e = ltb-false 32 (length es) (cases (ltb 32 (length es)) e)
   where
-    cases : (b : Bool) → cond b 8 (cond (repeated false s s es) 9 0) ≡ 0 → b ≡ false
+    cases : (b : Bool) → _≡_ {A = ℕ} (cond b 8 (cond (repeated false s s es) 9 0)) 0 → b ≡ false
     cases true e = absurd (omega (arith, e))
     cases false e = refl

@@ -6,3 +6,7 @@ pub mod RecipientRows
 pub mod OwnHeaders
 -- The headers of a JSON message.
 pub mod JsonHeaders
+-- The places of components.
+pub mod JsonPlaces
+-- What judging one recipient tells.
+pub mod JsonRules

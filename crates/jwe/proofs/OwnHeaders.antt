@@ -3,16 +3,23 @@ use mathlib.Core.Path.{_≡_, refl, ap, ap₂, sym, subst, _∙_}
 use mathlib.Core.Bool.{Bool, cond}
 use mathlib.Core.List.{List, [], _∷_, _++_, append-assoc}
 use Prim.Native.Nat.{ℕ, _+_, _-_, _*_, _≤_, _<_}
+use native.Mathlib.Nat.{add-zero}
 use native.Mathlib.Omega.{arith}
 use lib.ListN.{length, take, drop, getD, set, length-take, length-drop, take-append-drop}
-use lib.Seq.{length-take-le, take-take, take-append-le, drop-append-le, getD-set-same, getD-set-other}
+use lib.Seq.{length-take-le, take-take, take-append-le, drop-append-le, getD-set-same, getD-set-other, getD-drop}
 use lib.Dec.{leb}
 use borrow.Author.Count.{below-none, below-more}
 use borrow.Author.Tests.{le-leb}
 use Rattle.prelude.specs.Buffer.{written}
+use Rattle.prelude.proofs.Writing.{written-length}
 use Rattle.rows.specs.Rows.{Entry}
 use Rattle.rows.specs.Tables.{flat, entriesOf, collectedTable}
-use Rattle.rows.proofs.Entries.{flat-of, flat-length, entries-length, entries-flat, entries-front, entries-written-from}
+use Rattle.rows.proofs.Entries.{flat-of, flat-length, entries-length, entries-flat, entries-front, entries-written-from, entries-more}
+use Rattle.rows.specs.Prints.{Printed}
+use Rattle.rows.proofs.Printing.{entries-printed}
+use Rattle.jose.specs.Registered.{registered}
+use Rattle.shape.specs.Shape.{Recipient}
+use Rattle.headers.specs.Headers.{membersOf, headerEntries}
 use Rattle.jwe.specs.General.{ownEntries}
 use Rattle.jwe.specs.Stages.{recipientAt, OwnAt, Owned}
 
@@ -96,3 +103,51 @@ module _ (message of : List ℕ) where
 
     pub own-more : Owned i message of own counts → Owned (i + 1) message of last (set counts i count)
     own-more all = below-more (OwnAt message of last (set counts i count)) i (others all) this
+
+-- A recipient's own entries as they are copied, and where its own header stands.
+
+pub own-part : (own : List ℕ) (start count : ℕ) → start + count * 8 ≤ length own →
+    take (start + count * 8 - start) (drop start own) ≡ flat (entriesOf count (drop start own))
+own-part own start count h =
+    let size : start + count * 8 - start ≡ count * 8 = omega arith in
+    ap (λ (n : ℕ). take n (drop start own)) size
+    ∙ sym (flat-of count (drop start own) (omega (arith, length-drop start own)))
+
+pub own-is : (message of : List ℕ) (i : ℕ) →
+    headerEntries message 2 (getD of (i * 3) 0) ≡ ownEntries message (recipientAt (drop (i * 3) of))
+unfolding ownEntries
+own-is message of i =
+    ap (headerEntries message 2) (ap (λ (n : ℕ). getD of n 0) (sym (add-zero (i * 3))) ∙ sym (getD-drop (i * 3) of 0 0))
+
+-- The parameters of a recipient, its own ones copied behind the others.
+module _ (message of own counts : List ℕ) (i front n : ℕ) (table last : List ℕ) (o : OwnAt message of own counts i)
+    (room : front * 8 + 256 ≤ length table) (count : n ≡ front + getD counts i 0)
+    (left : last ≡ written (front * 8) (flat (entriesOf (getD counts i 0) (drop (i * 256) own))) table) where
+  abbrev its : List Entry
+  its = entriesOf (getD counts i 0) (drop (i * 256) own)
+
+  its-length : length its ≡ getD counts i 0
+  its-length = entries-length (getD counts i 0) (drop (i * 256) own)
+
+  pub gathered : entriesOf n last ≡ entriesOf front table ++ ownEntries message (recipientAt (drop (i * 3) of))
+  gathered =
+      ap₂ entriesOf (count ∙ ap (λ (k : ℕ). front + k) (sym its-length)) left
+      ∙ entries-more front its table (omega arith)
+      ∙ ap (λ (l : List Entry). entriesOf front table ++ l) (o .1)
+
+  pub gathered-length : length last ≡ length table
+  gathered-length =
+      ap length left
+      ∙ written-length (front * 8) (flat its) table (omega (arith, flat-length its, its-length, o .0))
+
+  pub gathered-room : n * 8 ≤ length last
+  gathered-room = omega (arith, gathered-length, count, o .0)
+
+  pub gathered-front : entriesOf front last ≡ entriesOf front table
+  gathered-front = ap (entriesOf front) left ∙ first-kept front (flat its) table (omega arith)
+
+-- Its fingerprints are those of its names.
+pub own-printed : (header message : List ℕ) (r : Recipient) → Printed header message (ownEntries message r)
+unfolding ownEntries headerEntries
+own-printed header message r =
+    entries-printed registered header message message 2 (membersOf message (r .header)) refl
