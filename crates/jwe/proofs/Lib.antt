@@ -10,3 +10,5 @@ pub mod JsonHeaders
 pub mod JsonPlaces
 -- What judging one recipient tells.
 pub mod JsonRules
+-- From the own headers on.
+pub mod JsonHeads

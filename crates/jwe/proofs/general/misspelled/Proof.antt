@@ -88,7 +88,7 @@ returns-5 c =
     (this-one _ (at message (c .before .before .component5 .ensures) (c .before .misspelled5 .ensures) (c .if5 .taken))))))
 
 keys-misspelled-requires : tie.Need-keys-misspelled-requires
-keys-misspelled-requires c κs = search needs
+keys-misspelled-requires c κs = c .before .before .before .before .before .before .before .before .before .before .before .before .before .before .before .before .before .before .pre .1
 
 returns-6 : tie.Need-returns-6
 unfolding allPlaces any

@@ -2,7 +2,7 @@
 -- table stay.
 use Prim.Native.Nat.{ℕ, _+_, _-_, _*_, _≤_, _<_}
 use mathlib.Core.Path.{_≡_, refl, ap, ap₂, sym, subst, _∙_}
-use mathlib.Core.Bool.{Bool}
+use mathlib.Core.Bool.{Bool, true}
 use mathlib.Core.List.{List, flatMap, _++_}
 use native.Mathlib.Omega.{arith}
 use lib.ListN.{length, drop}
@@ -14,7 +14,9 @@ use Rattle.rows.specs.Prints.{Printed}
 use Rattle.rows.specs.Tables.{entriesOf}
 use Rattle.rows.proofs.Printing.{printed-append}
 use Rattle.jose.specs.Refusals.{Test, first}
-use Rattle.jose.specs.HeaderRules.{recipientOrder}
+use Rattle.jose.specs.HeaderRules.{recipientOrder, modeIn}
+use Rattle.jose.specs.Judged.{judgedOf}
+use Rattle.jose.proofs.Refusals.{nonzero}
 use Rattle.headers.specs.Answers.{stageOf}
 use Rattle.shape.specs.Shape.{Recipient}
 use Rattle.jwe.specs.General.{ownEntries}
@@ -33,7 +35,8 @@ abbrev tests : List (List ℕ) → List ℕ → List ℕ → List Entry → Reci
 tests known header message front r =
     recipientOrder known header message (front ++ ownEntries message r) (eqb (r .key .size) 0)
 
-sound : (known : List (List ℕ)) (header message : List ℕ) (front : List Entry) (r : Recipient) → _
+sound : (known : List (List ℕ)) (header message : List ℕ) (front : List Entry) (r : Recipient) →
+    nonzero (tests known header message front r) ≡ true
 sound known header message front r =
     rules-nonzero known header message (front ++ ownEntries message r) (eqb (r .key .size) 0)
 
@@ -48,6 +51,60 @@ Inv-loop header message known of number own counts table₀ front i₀ table i =
 
 abbrev μ-loop : tie.MeasureT-loop
 μ-loop header message known of number own counts table₀ front i₀ table i = number - i
+
+-- once the own entries are copied behind the others: what the table has, that they fit, that it is as long, and what stays
+copied : (c : tie.After-gather Inv-loop μ-loop) →
+    let args = c .before .before .before .before .before .before .before .before .before .before .before .args in
+    let es = entriesOf (args .front) (args .table .now) in
+    let r = recipientAt (drop (c .before .before .before .loop .i * 3) (args .of .now)) in
+    let last = c .gather .last .1 .1 .1 .0 in
+    (entriesOf (c .gather .result) last ≡ es ++ ownEntries (args .message .now) r)
+    × ((c .gather .result * 8 ≤ length last)
+    × ((length last ≡ length (args .table .now)) × (entriesOf (args .front) last ≡ es)))
+copied c =
+    let start = c .before .before .before .before .before .before .before .before .before .before .before in
+    let args = start .args in
+    let message = args .message .now in
+    let of = args .of .now in
+    let loop = c .before .before .before .loop in
+    let call = c .gather .ensures in
+    let o = start .pre .1 .1 .1 .1 .1 .0 (loop .i) (c .before .before .loop-test .taken) in
+    let fits : args .front * 8 + 256 ≤ length (loop .table) =
+    omega (arith, loop .inv .1 .0, start .pre .1 .1 .1 .1 .1 .1 .0) in
+    let own = args .own .now in
+    let counts = args .counts .now in
+    let same = loop .inv .1 .1 .0 in (
+      gathered message of own counts (loop .i) (args .front) _ (loop .table) _ o fits (call .0) (call .1)
+          ∙ ap (λ (l : List Entry). l ++ ownEntries message (recipientAt (drop (loop .i * 3) of))) same,
+      (
+        gathered-room message of own counts (loop .i) (args .front) _ (loop .table) _ o fits (call .0) (call .1),
+        (
+          gathered-length message of own counts (loop .i) (args .front) _ (loop .table) _ o fits (call .0) (call .1)
+              ∙ loop .inv .1 .0,
+          gathered-front message of own counts (loop .i) (args .front) _ (loop .table) _ o fits (call .0) (call .1) ∙ same,
+        ),
+      ),
+    )
+
+-- once it is judged: by the recipient's own tests
+answered : (c : tie.After-judge Inv-loop μ-loop) →
+    let args = c .before .before .before .before .before .before .before .before .before .before .before .before .before .before .before .before .before .args in
+    let es = entriesOf (args .front) (args .table .now) in
+    let r = recipientAt (drop (c .before .before .before .before .before .before .before .before .before .loop .i * 3) (args .of .now)) in
+    let last = c .before .before .before .before .before .before .gather .last .1 .1 .1 .0 in
+    c .judge .result
+    ≡ judgedOf (first (tests (names (args .known .now)) (args .header .now) (args .message .now) es r))
+    (modeIn (args .header .now) (args .message .now) (entriesOf (c .before .before .before .before .before .before .gather .result) last))
+answered c =
+    let args = c .before .before .before .before .before .before .before .before .before .before .before .before .before .before .before .before .before .args in
+    let known = names (args .known .now) in
+    let header = args .header .now in
+    let message = args .message .now in
+    let mode = modeIn header message (entriesOf (c .before .before .before .before .before .before .gather .result) (c .before .before .before .before .before .before .gather .last .1 .1 .1 .0)) in
+    c .judge .ensures
+    ∙ ap₂ (λ (ps : List Entry) (b : Bool). judgedOf (first (recipientOrder known header message ps b)) mode)
+    (copied (c .before .before .before .before .before .before) .0)
+    (ap (λ (q : Place). eqb (q .size) 0) (c .before .before .key .ensures))
 
 loop-holds : tie.Need-loop-holds Inv-loop μ-loop
 unfolding ruleTests
@@ -72,22 +129,16 @@ judge-requires : tie.Need-judge-requires Inv-loop μ-loop
 judge-requires c κs =
     let start = c .before .before .before .before .before .before .before .before .before .before .before .before .before .before .before .before in
     let args = start .args in
-    let loop = c .before .before .before .before .before .before .before .before .loop in
-    let call = c .before .before .before .before .before .gather .ensures in
-    let o = start .pre .1 .1 .1 .1 .1 .0 (loop .i) (c .before .before .before .before .before .before .before .loop-test .taken) in
-    let room = start .pre .1 .1 .1 .1 .1 .1 .0 in
-    let r = recipientAt (drop (loop .i * 3) (args .of .now)) in
-    let fits : args .front * 8 + 256 ≤ length (loop .table) = omega (arith, loop .inv .1 .0, room) in
-    let all = gathered (args .message .now) (args .of .now) (args .own .now) (args .counts .now) (loop .i) (args .front) _
-    (loop .table) _ o fits (call .0) (call .1) ∙ ap (λ (l : List Entry). l ++ ownEntries (args .message .now) r) (loop .inv .1 .1 .0) in
-    let long = gathered-room (args .message .now) (args .of .now) (args .own .now) (args .counts .now) (loop .i) (args .front) _
-    (loop .table) _ o fits (call .0) (call .1) in (
+    let header = args .header .now in
+    let message = args .message .now in
+    let r = recipientAt (drop (c .before .before .before .before .before .before .before .before .loop .i * 3) (args .of .now)) in
+    let has = copied (c .before .before .before .before .before) in (
       start .pre .0,
       (
-        long,
-        subst (Printed (args .header .now) (args .message .now)) (sym all)
-            (printed-append (args .header .now) (args .message .now) _ _ (start .pre .1 .1 .1 .1 .1 .1 .1)
-            (own-printed (args .header .now) (args .message .now) r)),
+        has .1 .0,
+        subst (Printed header message) (sym (has .0))
+            (printed-append header message (entriesOf (args .front) (args .table .now)) (ownEntries message r)
+            (start .pre .1 .1 .1 .1 .1 .1 .1) (own-printed header message r)),
       ),
     )
 
@@ -101,11 +152,25 @@ refused-requires : tie.Need-refused-requires Inv-loop μ-loop
 refused-requires c κs = search needs
 
 same-length : tie.Need-same-length Inv-loop μ-loop
-same-length c = search needs
+same-length c = copied (c .before .before .before .before .before .before .before .before .before) .1 .1 .0
 
 returns : tie.Need-returns Inv-loop μ-loop
 returns c =
-    ?
+    let args = c .before .before .before .before .before .before .before .before .before .before .before .before .before .before .before .before .before .before .before .before .args in
+    let known = names (args .known .now) in
+    let header = args .header .now in
+    let message = args .message .now in
+    let es = entriesOf (args .front) (args .table .now) in
+    let loop = c .before .before .before .before .before .before .before .before .before .before .before .before .loop in
+    let r = recipientAt (drop (loop .i * 3) (args .of .now)) in
+    let refusal = c .before .enum-told2 .given .1 in
+    let told = rule-refused _ (first (tests known header message es r)) _ (sym refusal ∙ answered (c .before .before .before)) in
+    let all = one-refuses (tests known header message es) (sound known header message es) _ (args .number) (loop .i)
+    (args .of .now) (loop .inv .1 .1 .1) (c .before .before .before .before .before .before .before .before .before .before .before .loop-test .taken) (told .0) (told .1) in (
+      c .refused .ensures ∙ ap refusedOf refusal ∙ refuses (args .number) (told .1)
+          ∙ ap (λ (n : ℕ). stageOf n (args .number)) (sym all),
+      copied (c .before .before .before .before .before .before .before .before .before) .1 .1 .1,
+    )
 
 add-i : tie.Need-add-i Inv-loop μ-loop
 add-i c = search needs
@@ -115,10 +180,28 @@ loop-less c = search needs
 
 loop-again : tie.Need-loop-again Inv-loop μ-loop
 loop-again c =
-    ?
+    let args = c .before .before .before .before .before .before .before .before .before .before .before .before .before .before .before .before .before .before .before .args in
+    let known = names (args .known .now) in
+    let header = args .header .now in
+    let message = args .message .now in
+    let es = entriesOf (args .front) (args .table .now) in
+    let loop = c .before .before .before .before .before .before .before .before .before .before .before .loop in
+    let r = recipientAt (drop (loop .i * 3) (args .of .now)) in
+    let has = copied (c .before .before .before .before .before .before .before .before) in
+    let passed = mode-is _ (first (tests known header message es r)) _ (sym (c .enum-told .given .1) ∙ answered (c .before .before)) in (
+      omega arith,
+      (
+        has .1 .1 .0,
+        (
+          has .1 .1 .1,
+          one-passes (tests known header message es) (sound known header message es) _ (args .number) (loop .i)
+              (args .of .now) (loop .inv .1 .1 .1) (c .before .before .before .before .before .before .before .before .before .before .loop-test .taken) passed,
+        ),
+      ),
+    )
 
 same-length-2 : tie.Need-same-length-2 Inv-loop μ-loop
-same-length-2 c = search needs
+same-length-2 c = c .before .loop .inv .1 .0
 
 returns-2 : tie.Need-returns-2 Inv-loop μ-loop
 returns-2 c =
