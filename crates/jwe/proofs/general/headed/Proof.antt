@@ -5,17 +5,59 @@ use mathlib.Core.List.{List, _++_}
 use Prim.Native.Nat.{ℕ, _+_, _*_, _≤_, _<_}
 use native.Mathlib.Omega.{arith}
 use lib.ListN.{length, drop}
+use lib.Seq.{length-take-le}
+use Rattle.prelude.specs.Buffer.{written}
 use Rattle.names.specs.Names.{names}
 use Rattle.rows.specs.Prints.{Printed}
-use Rattle.rows.specs.Tables.{entriesOf}
+use Rattle.rows.specs.Rows.{Entry}
+use Rattle.rows.specs.Tables.{flat, entriesOf}
+use Rattle.rows.proofs.Entries.{flat-of, entries-length}
 use Rattle.jose.specs.Refusals.{first}
+use Rattle.jose.specs.HeaderRules.{modeIn}
 use Rattle.headers.proofs.Stages.{passed-is, refused-is}
-use Rattle.jwe.specs.Stages.{recipientsOf, Owned, LeavesOwn, ownTests, ruleTests, headedOrder, headedOutcome}
-use Rattle.jwe.proofs.RecipientRows.{recipients-length}
+use Rattle.shape.specs.Shape.{Recipient}
+use Rattle.shape.specs.Recipients.{componentsIn}
+use Rattle.jwe.specs.General.{ownEntries}
+use Rattle.jwe.specs.Judge.{asked}
+use Rattle.jwe.specs.Stages.{recipientAt, recipientsOf, Owned, LeavesOwn, ownTests, ruleTests, headedOrder, headedOutcome}
+use Rattle.jwe.proofs.RecipientRows.{recipients-length, asked-at}
+use Rattle.jwe.proofs.OwnHeaders.{gathered, gathered-room, gathered-length}
 use Rattle.jwe.proofs.JsonHeads.{heads-own, heads-rule, heads-none, heads-one, heads-refused, result-is}
 use borrow.Author.Needs.{needs}
 use Rattle.jwe.proofs.general.headed.Statement.{statement}
 use Rattle.jwe.proofs.general.headed.Tie as tie
+
+-- once the asked recipient's own entries are copied behind the others: what the working table has, that they fit, its length
+gathers : (c : tie.After-gather) →
+    let args = c .before .before .before .before .before .before .before .before .before .before .before .before .before .before .before .before .before .before .before .before .before .before .before .before .before .before .before .args in
+    let es = entriesOf (args .front) (args .work .now) in
+    let r = recipientAt (drop (args .recipient * 3) (args .of .now)) in
+    let last = c .gather .last .1 .1 .1 .0 in
+    (entriesOf (c .gather .result) last ≡ es ++ ownEntries (args .message .now) r)
+    × ((c .gather .result * 8 ≤ length last) × (length last ≡ 768))
+gathers c =
+    let start = c .before .before .before .before .before .before .before .before .before .before .before .before .before .before .before .before .before .before .before .before .before .before .before .before .before .before .before in
+    let args = start .args in
+    let message = args .message .now in
+    let of = args .of .now in
+    let found = c .before .before .before .before .before .before .before .before .before .before .before .before .before .before .before .before .before .own-headers in
+    let own = found .last .1 .1 .1 .0 in
+    let counts = found .last .1 .1 .1 .1 .0 in
+    let table = c .before .before .before .before .before .before .before .before .before .rules .last .1 .1 .1 .1 .1 .1 .1 .0 in
+    let all : Owned (args .number) message of own counts =
+    subst (LeavesOwn (args .number) message of own counts) (c .before .before .before .before .before .before .before .before .before .before .before .before .before .enum-told .given .1) (found .ensures .1) in
+    let o = all (args .recipient) (c .before .before .before .before .if1 .left) in
+    let long : length table ≡ 768 = c .before .before .before .before .before .before .before .before .before .rules .kept .1 .1 .1 .1 .1 .1 .1 .0 ∙ start .pre .1 .1 .1 .1 .1 .0 in
+    let fits : args .front * 8 + 256 ≤ length table = omega (arith, long, start .pre .1 .1 .1 .1 .1 .1 .0) in
+    let call = c .gather .ensures in (
+      gathered message of own counts (args .recipient) (args .front) _ table _ o fits (call .0) (call .1)
+          ∙ ap (λ (l : List Entry). l ++ ownEntries message (recipientAt (drop (args .recipient * 3) of)))
+          (c .before .before .before .before .before .before .before .before .before .rules .ensures .1),
+      (
+        gathered-room message of own counts (args .recipient) (args .front) _ table _ o fits (call .0) (call .1),
+        gathered-length message of own counts (args .recipient) (args .front) _ table _ o fits (call .0) (call .1) ∙ long,
+      ),
+    )
 
 slice-aggregate-own-headers : tie.Need-slice-aggregate-own-headers
 slice-aggregate-own-headers c = search needs
@@ -132,37 +174,94 @@ slice-aggregate-gather-2 : tie.Need-slice-aggregate-gather-2
 slice-aggregate-gather-2 c = search needs
 
 gather-requires : tie.Need-gather-requires
-gather-requires c κs = ?
+gather-requires c κs =
+    let start = c .before .before .before .before .before .before .before .before .before .before .before .before .before .before .before .before .before .before .before .before .before .before .before .before .before .before in
+    let args = start .args in
+    let message = args .message .now in
+    let of = args .of .now in
+    let found = c .before .before .before .before .before .before .before .before .before .before .before .before .before .before .before .before .own-headers in
+    let own = found .last .1 .1 .1 .0 in
+    let counts = found .last .1 .1 .1 .1 .0 in
+    let all : Owned (args .number) message of own counts =
+    subst (LeavesOwn (args .number) message of own counts) (c .before .before .before .before .before .before .before .before .before .before .before .before .enum-told .given .1) (found .ensures .1) in
+    let asks : args .recipient < 8 = omega (arith, c .before .before .before .if1 .left, start .pre .1 .1 .1 .0) in
+    let long = c .before .before .before .before .before .before .before .before .rules .kept .1 .1 .1 .1 .1 .1 .1 .0 ∙ start .pre .1 .1 .1 .1 .1 .0 in (
+      asks,
+      (
+        found .kept .1 .1 .1 .0,
+        (
+          found .kept .1 .1 .1 .1 .0,
+          (all (args .recipient) (c .before .before .before .if1 .left) .0, omega (arith, long, start .pre .1 .1 .1 .1 .1 .1 .0)),
+        ),
+      ),
+    )
 
 mul-end : tie.Need-mul-end
-mul-end c = search needs
+mul-end c = let has = gathers (c .before .before) in omega (arith, has .1 .0, has .1 .1)
 
 slice-reshare-prefix-copy : tie.Need-slice-reshare-prefix-copy
-slice-reshare-prefix-copy c = ?
+slice-reshare-prefix-copy c = gathers (c .before .before) .1 .0
 
 slice-aggregate-copy : tie.Need-slice-aggregate-copy
-slice-aggregate-copy c = ?
+slice-aggregate-copy c =
+    sym (length-take-le (c .before .before .before .gather .result * 8) (c .before .before .before .gather .last .1 .1 .1 .0) (gathers (c .before .before .before) .1 .0))
 
 copy-requires : tie.Need-copy-requires
-copy-requires c κs = ?
+copy-requires c κs =
+    let has = gathers (c .before .before .before .before) in
+    let front = length-take-le (c .before .before .before .before .gather .result * 8) (c .before .before .before .before .gather .last .1 .1 .1 .0) (has .1 .0) in
+    omega (arith, front, has .1 .0, has .1 .1, c .before .before .before .before .before .before .before .before .before .before .before .before .before .before .before .before .before .before .before .before .before .before .before .before .before .before .before .before .before .before .before .pre .1 .1 .1 .1 .1 .1 .1 .1)
 
 form-requires : tie.Need-form-requires
-form-requires c κs = search needs
+form-requires c κs = c .before .before .before .before .before .before .before .before .before .before .before .before .before .before .before .before .before .before .before .before .before .before .before .before .before .before .before .before .before .before .before .before .before .before .pre .1 .1 .0
 
 mode-requires : tie.Need-mode-requires
-mode-requires c κs = ?
+mode-requires c κs = gathers (c .before .before .before .before .before .before .before .before .before) .1 .0
 
 components-requires : tie.Need-components-requires
-components-requires c κs = ?
+components-requires c κs =
+    let start = c .before .before .before .before .before .before .before .before .before .before .before .before .before .before .before .before .before .before .before .before .before .before .before .before .before .before .before .before .before .before .before .before .before .before .before .before .before in
+    let room : start .args .recipient * 3 + 3 ≤ length (start .args .of .now) =
+    omega (arith, c .before .before .before .before .before .before .before .before .before .before .before .before .before .before .if1 .left, start .pre .1 .1 .1 .1 .0) in
+    (start .pre .1 .1 .0, room)
 
 same-length-3 : tie.Need-same-length-3
-same-length-3 c = search needs
+same-length-3 c = gathers (c .before .before .before .before .before .before .before .before .before .before .before) .1 .1 ∙ sym (c .before .before .before .before .before .before .before .before .before .before .before .before .before .before .before .before .before .before .before .before .before .before .before .before .before .before .before .before .before .before .before .before .before .before .before .before .before .before .pre .1 .1 .1 .1 .1 .0)
 
 same-length-4 : tie.Need-same-length-4
 same-length-4 c = search needs
 
 returns-4 : tie.Need-returns-4
-returns-4 c = ?
+unfolding headedOutcome
+returns-4 c =
+    let args = c .before .before .before .before .before .before .before .before .before .before .before .before .before .before .before .before .before .before .before .before .before .before .before .before .before .before .before .before .before .before .before .before .before .before .before .before .before .before .args in
+    let known = names (args .known .now) in
+    let header = args .header .now in
+    let message = args .message .now in
+    let of = args .of .now in
+    let es = entriesOf (args .front) (args .work .now) in
+    let top = entriesOf (args .count) (args .top .now) in
+    let rs = recipientsOf (args .number) of in
+    let asks = c .before .before .before .before .before .before .before .before .before .before .before .before .before .before .before .if1 .left in
+    let it = asked-at (args .number) (args .recipient) of asks in
+    let has = gathers (c .before .before .before .before .before .before .before .before .before .before .before) in
+    let last = c .before .before .before .before .before .before .before .before .before .before .before .gather .last .1 .1 .1 .0 in
+    let n = c .before .before .before .before .before .before .before .before .before .before .before .gather .result in
+    let all : entriesOf n last ≡ es ++ ownEntries message (asked rs (args .recipient)) =
+    has .0 ∙ ap (λ (r : Recipient). es ++ ownEntries message r) (sym it) in
+    let own = passed-is _ (first (ownTests message rs)) (args .number)
+    (sym (c .before .before .before .before .before .before .before .before .before .before .before .before .before .before .before .before .before .before .before .before .before .before .before .before .enum-told .given .1) ∙ c .before .before .before .before .before .before .before .before .before .before .before .before .before .before .before .before .before .before .before .before .before .before .before .before .before .before .before .before .own-headers .ensures .0) in
+    let rule = passed-is _ (first (ruleTests known header message es rs)) (args .number)
+    (sym (c .before .before .before .before .before .before .before .before .before .before .before .before .before .before .before .before .enum-told3 .given .1) ∙ c .before .before .before .before .before .before .before .before .before .before .before .before .before .before .before .before .before .before .before .before .rules .ensures .0) in (
+      heads-one known header message es rs (args .recipient) (own .0) (rule .0)
+          (omega (arith, recipients-length (args .number) of, asks)),
+      result-is message (headedOutcome header message top es rs (args .recipient)) _ _ _ _ _ _ (c .before .before .before .form .ensures)
+          (sym (recipients-length (args .number) of)) (c .before .mode .ensures ∙ ap (modeIn header message) all)
+          (c .components .ensures ∙ ap (componentsIn top) (sym it)) refl
+          (sym (entries-length n last) ∙ ap length all),
+      c .before .before .before .before .before .before .copy .ensures
+          ∙ ap (λ (l : List ℕ). written 0 l (args .table .now)) (sym (flat-of n last (has .1 .0)) ∙ ap flat all),
+    )
 
 pub headed-spec : {M : Type 1} → statement M
 headed-spec =
