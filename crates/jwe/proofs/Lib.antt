@@ -12,3 +12,7 @@ pub mod JsonPlaces
 pub mod JsonRules
 -- From the own headers on.
 pub mod JsonHeads
+-- From the protected header on.
+pub mod JsonShaped
+-- The top level and the recipients.
+pub mod JsonTop
