@@ -112,7 +112,8 @@ module _ (header message : List ℕ) (e : Entry) where
   pub zip-value : e .number ≡ zip → none-of zipNames ≡ unlisted header message e
   zip-value h = sym (ap by-number h)
 
-  pub no-value : (e .number ≡ alg → ⊥) → (e .number ≡ enc → ⊥) → (e .number ≡ zip → ⊥) → false ≡ unlisted header message e
+  pub no-value : (e .number ≡ alg → ⊥) → (e .number ≡ enc → ⊥) → (e .number ≡ zip → ⊥) →
+      false ≡ unlisted header message e
   no-value a n z = simp (ne-eqb (e .number) alg a, ne-eqb (e .number) enc n, ne-eqb (e .number) zip z)
 
 -- A value is taken from its own text alone

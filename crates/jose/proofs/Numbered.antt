@@ -72,7 +72,7 @@ alg-at EcdhEsA192Kw = refl
 alg-at EcdhEsA256Kw = refl
 alg-at Dir = refl
 
--- .. so that an arm of a `match`, which knows the numbers of its variants, answers f where f is the arm's value at each.
+-- .. so that an arm of a `match`, which knows the numbers of its variants, answers f where its value is f of each.
 module _ {A : Type 0} (f : Alg → A) (value : A) where
   abbrev pub At : List ℕ → Type 0
   At [] = Unit {0}

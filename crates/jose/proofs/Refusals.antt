@@ -1,4 +1,5 @@
--- The first test that fails: of a test and those behind it, of two lists of tests one after the other, and where none fails.
+-- The first test that fails: of a test and those behind it, of tests as code makes them, of two lists of tests one
+-- after the other, and where none fails.
 use mathlib.Core.Path.{_≡_, refl, ap, sym, _∙_}
 use mathlib.Core.List.{List, [], _∷_, _++_}
 use mathlib.Core.Bool.{Bool, true, false, not, _&&_, _||_, cond, true≢false}

@@ -1,4 +1,5 @@
--- The algorithms (document 01, 'Header rules'; RFC 7518): their names, their modes, and the sizes that request 10/12 lists.
+-- The algorithms (document 01, 'Header rules'; RFC 7518): their names, their modes, and the sizes that request 10/12
+-- lists.
 use mathlib.Core.List.{List, [], _∷_, map}
 use mathlib.Core.Option.{Option, none, some}
 use Prim.Native.Nat.{ℕ, zero, suc}
@@ -81,7 +82,7 @@ mode EcdhEsA192Kw = 4
 mode EcdhEsA256Kw = 4
 mode Dir = 5
 
--- The encrypted key beside the content key: wrapping adds 8 octets, and by GCM none; what RSA makes is not judged; direct
+-- The encrypted key beside the content key: wrapping adds 8 octets, by GCM none; what RSA makes is not judged; direct
 -- agreement and direct encryption have no encrypted key.
 abbrev pub keyAdded : Alg → Added
 keyAdded Rsa15 = Unjudged

@@ -1,5 +1,5 @@
-// Our lists of names, contents first, as `names` reads them: how many, the length of each, then the names. Each is proved to
-// be what its definition lists (proofs/Listed).
+// Our lists of names, contents first, as `names` reads them: how many, the length of each, then the names. Where one is
+// used it is proved to be the list of the names that the definition has, by computing.
 
 // The registered names.
 pub const REGISTERED: [u8; 86] = *b"\x14\

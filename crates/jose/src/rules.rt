@@ -88,8 +88,8 @@ pub fn wrong_kind(table: &[u32], count: usize) -> bool
     false
 }
 
-// The number of an entry's value in a list of names. The value is taken from one text at a time, as the two may be lent for
-// different lifetimes.
+// The number of an entry's value in a list of names. The value is taken from one text at a time, since the two may be
+// lent for different lifetimes.
 fn number_in(list: &[u8], header: &[u8], message: &[u8], table: &[u32], i: usize) -> u32
     requires { ⌜ filled (now list) ≡ true ⌝ }
     requires { ⌜ i * 8 + 8 ≤ length (now table) ⌝ }
@@ -140,13 +140,13 @@ fn unprotected_at(table: &[u32], i: usize) -> bool
     requires { ⌜ i * 8 + 8 ≤ length (now table) ⌝ }
     ensures { λ r. ⌜ r ≡ unprotected (firstOf (drop (i * 8) (now (table .entry)))) ⌝ }
 {
-    let at = i * 8;
-    let number = table[at + 6];
+    let origin = table[i * 8];
+    let number = table[i * 8 + 6];
     if number == ZIP {
-        return table[at] != 0;
+        return origin != 0;
     }
     if number == CRIT {
-        return table[at] != 0;
+        return origin != 0;
     }
     false
 }

@@ -16,3 +16,5 @@ pub mod JsonHeads
 pub mod JsonShaped
 -- The top level and the recipients.
 pub mod JsonTop
+-- Document 01's samples.
+pub mod Samples

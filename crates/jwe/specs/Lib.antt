@@ -3,3 +3,4 @@ pub mod General
 pub mod Judge
 pub mod Answers
 pub mod Stages
+pub mod Samples

@@ -18,3 +18,27 @@ pub mod Parameters
 pub mod CriticalNames
 pub mod KeyFits
 pub mod RulesDecided
+-- Tests in order.
+pub mod InOrder
+-- The compact form: its parts, their spelling, its header, and all of it.
+pub mod FiveParts
+pub mod SpelledDecided
+pub mod CompactHeader
+pub mod CompactDecided
+-- A JSON message: its shape, its components, its recipients, and all of its refusals.
+pub mod ShapeValues
+pub mod MemberEntries
+pub mod Shapes
+pub mod Lookups
+pub mod ShapeDecided
+pub mod ComponentsDecided
+pub mod Orders
+pub mod RecipientsDecided
+pub mod ProtectedDecided
+pub mod EachRecipient
+pub mod JsonTests
+pub mod JsonDecided
+-- The forms, the whole order, and what a refusal leaves.
+pub mod FormsApart
+pub mod Accepted
+pub mod Refused

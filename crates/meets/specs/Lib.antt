@@ -1,3 +1,4 @@
 pub mod Members
 pub mod Rules
 pub mod Meets
+pub mod Handed

@@ -1,7 +1,20 @@
--- Recipients as numbers in a table, three each: where the own header stands, the key's start and length.
+-- What the functions of the code answer and leave.
+use mathlib.Core.Path.{_≡_}
 use mathlib.Core.List.{List, [], _∷_, _++_}
+use mathlib.Core.Bool.{cond}
 use Prim.Native.Nat.{ℕ}
-use Rattle.shape.specs.Shape.{Recipient}
+use lib.ListN.{length}
+use lib.Dec.{eqb, ltb}
+use Rattle.prelude.specs.Buffer.{written}
+use Rattle.json.specs.Places.{Element}
+use Rattle.jose.specs.Refusals.{Test, _if_}
+use Rattle.headers.specs.Limits.{mostRecipients}
+use Rattle.headers.specs.declared.Stage.{Stage}
+use Rattle.headers.specs.declared.Stage.the-variants.{Passed, Refused}
+use Rattle.shape.specs.Shape.{Recipient, recipientOf, wrongElements}
+use Rattle.shape.specs.Recipients.{elementEntries, elementOrder}
+
+-- Recipients as numbers in a table, three each: where the own header stands, the key's start and length.
 
 abbrev pub three : Recipient → List ℕ
 three r = r .header ∷ r .key .start ∷ r .key .size ∷ []
@@ -9,3 +22,31 @@ three r = r .header ∷ r .key .start ∷ r .key .size ∷ []
 unfoldable pub flatRecipients : List Recipient → List ℕ
 flatRecipients [] = []
 flatRecipients (r ∷ rs) = three r ++ flatRecipients rs
+
+-- The elements of `recipients`: 10 and 11 on them, and where they start.
+
+unfoldable pub arrayOrder : List Element → List Test
+arrayOrder xs = 10 if wrongElements xs ∷ 11 if ltb mostRecipients (length xs) ∷ []
+
+unfoldable pub startsOf : List Element → List ℕ
+startsOf [] = []
+startsOf (x ∷ xs) = x .start ∷ startsOf xs
+
+-- The answer where all are objects, and no more than 8.
+abbrev pub counted : ℕ → Stage
+counted n = cond (eqb n 0) (Refused 10) (Passed n)
+
+-- The elements at some starts: 8, 9, 10 on each in turn, and the recipients that they are.
+
+unfoldable pub startsOrder : List ℕ → List ℕ → List Test
+startsOrder message [] = []
+startsOrder message (start ∷ rest) = elementOrder message start ++ startsOrder message rest
+
+unfoldable pub recipientsAt : List ℕ → List ℕ → List Recipient
+recipientsAt message [] = []
+recipientsAt message (start ∷ rest) = recipientOf (elementEntries message start) ∷ recipientsAt message rest
+
+-- What one element leaves: where it passes, the numbers from a position on; else the table is as it was.
+abbrev pub LeavesAt : ℕ → List ℕ → List ℕ → List ℕ → Stage → Type 0
+LeavesAt at numbers before after (Passed n) = after ≡ written at numbers before
+LeavesAt at numbers before after (Refused n) = after ≡ before

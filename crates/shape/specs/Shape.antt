@@ -1,12 +1,11 @@
 -- The shape of a JSON message (RFC 7516, section 7.2; document 01's paragraph on 10): the top level and the elements of
 -- `recipients`. A JSON object's entries here count the names below.
-use mathlib.Core.List.{List, [], _∷_, _++_, map}
-use mathlib.Core.Bool.{Bool, true, false, not, _&&_, _||_, cond}
+use mathlib.Core.List.{List, [], _∷_}
+use mathlib.Core.Bool.{Bool, false, not, _&&_, _||_, cond}
 use Prim.Native.Nat.{ℕ, _+_, _-_}
-use lib.ListN.{length}
-use lib.Dec.{eqb, ltb}
+use lib.Dec.{eqb}
 use Rattle.prelude.specs.Ascii.{ascii}
-use Rattle.parts.specs.Parts.{part, holds}
+use Rattle.parts.specs.Parts.{holds}
 use Rattle.json.specs.Grammar.{backslash, Bracket, curly, closing}
 use Rattle.json.specs.Places.{Place, Member, Element}
 use Rattle.json.specs.Reader.{octetAt}

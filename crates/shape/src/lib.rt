@@ -12,18 +12,17 @@ use json::Found;
 use json::Position;
 
 // The known members of a message, contents first.
-pub const MEMBERS: [u8; 77] = [
-    9, 9, 11, 6, 13, 10, 2, 3, 10, 3,
-    112, 114, 111, 116, 101, 99, 116, 101, 100,
-    117, 110, 112, 114, 111, 116, 101, 99, 116, 101, 100,
-    104, 101, 97, 100, 101, 114,
-    101, 110, 99, 114, 121, 112, 116, 101, 100, 95, 107, 101, 121,
-    114, 101, 99, 105, 112, 105, 101, 110, 116, 115,
-    105, 118,
-    97, 97, 100,
-    99, 105, 112, 104, 101, 114, 116, 101, 120, 116,
-    116, 97, 103,
-];
+pub const MEMBERS: [u8; 77] = *b"\x09\
+    \x09\x0b\x06\x0d\x0a\x02\x03\x0a\x03\
+    protected\
+    unprotected\
+    header\
+    encrypted_key\
+    recipients\
+    iv\
+    aad\
+    ciphertext\
+    tag";
 
 mod element;
 mod member;
@@ -61,13 +60,14 @@ pub fn recipients(message: &[u8], table: &[u32], count: usize, into: &mut [usize
     ensures { λ r. ⌜ Leaves (flatRecipients (recipientsIn (now (message .entry)) (entriesOf count (now (table .entry))))) (now (into .entry)) (now (into .exit)) r ⌝ }
 {
     if !rows::ask::present(table, count, 5) {
-        element::put(element::recipient_of(table, count), into, 0);
+        element::put(table, count, into, 0);
         return Stage::Passed(1);
     }
     let mut starts = [0usize; 8];
-    let walked = element::walk(message, rows::ask::value_of(table, count, 5).start, &mut starts);
-    let Stage::Passed(elements) = walked else {
+    let at = rows::ask::value_of(table, count, 5).start;
+    let walked = element::walk(message, at, &mut starts);
+    let Stage::Passed(n) = walked else {
         return walked;
     };
-    element::elements(message, &starts, elements, into)
+    element::elements(message, &starts[..n], into)
 }

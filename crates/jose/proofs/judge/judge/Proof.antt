@@ -17,6 +17,8 @@ use Rattle.jose.proofs.judge.judge.Tie as tie
 found : {answer test b : Bool} → answer ≡ test → answer ≡ b → test ≡ b
 found e h = sym e ∙ h
 
+-- In each need `one` to `six` are the places behind the tests that passed, and t12 to t18 say what the tests found.
+
 clashes-requires : tie.Need-clashes-requires
 clashes-requires c κs = search needs
 
@@ -25,12 +27,14 @@ unfolding recipientOrder judgedOf
 returns c =
     let start = c .before .before .before .before .before .before in
     let args = start .args in
+    let header = args .header .now in
+    let message = args .message .now in
     let es = entriesOf (args .count) (args .table .now) in
-    let order = recipientOrder (names (args .known .now)) (args .header .now) (args .message .now) es (args .no-key) in
-    sym (ap (λ (n : ℕ). judgedOf n (modeIn (args .header .now) (args .message .now) es))
-    (first-stops 0 order
-    (found (c .before .clashes .ensures
-    ∙ clashes-repeated true (args .header .now) (args .message .now) es (start .pre .1 .1)) (c .if1 .taken))))
+    let mode = modeIn header message es in
+    let order = recipientOrder (names (args .known .now)) header message es (args .no-key) in
+    let compared = clashes-repeated true header message es (start .pre .1 .1) in
+    let t12 = found (c .before .clashes .ensures ∙ compared) (c .if1 .taken) in
+    sym (ap (λ (n : ℕ). judgedOf n mode) (first-stops 0 order t12))
 
 incomplete-requires : tie.Need-incomplete-requires
 incomplete-requires c κs = search needs
@@ -41,14 +45,15 @@ returns-2 c =
     let one = c .before .before in
     let start = one .before .before .before .before .before .before in
     let args = start .args in
+    let header = args .header .now in
+    let message = args .message .now in
     let es = entriesOf (args .count) (args .table .now) in
-    let order = recipientOrder (names (args .known .now)) (args .header .now) (args .message .now) es (args .no-key) in
-    sym (ap (λ (n : ℕ). judgedOf n (modeIn (args .header .now) (args .message .now) es))
-    (first-stops 1 order (
-      found (one .before .clashes .ensures
-          ∙ clashes-repeated true (args .header .now) (args .message .now) es (start .pre .1 .1)) (one .if1 .left),
-      found (c .before .incomplete .ensures) (c .if2 .taken),
-    )))
+    let mode = modeIn header message es in
+    let order = recipientOrder (names (args .known .now)) header message es (args .no-key) in
+    let compared = clashes-repeated true header message es (start .pre .1 .1) in
+    let t12 = found (one .before .clashes .ensures ∙ compared) (one .if1 .left) in
+    let t13 = found (c .before .incomplete .ensures) (c .if2 .taken) in
+    sym (ap (λ (n : ℕ). judgedOf n mode) (first-stops 1 order (t12, t13)))
 
 wrong-kind-requires : tie.Need-wrong-kind-requires
 wrong-kind-requires c κs = search needs
@@ -60,14 +65,16 @@ returns-3 c =
     let one = two .before .before in
     let start = one .before .before .before .before .before .before in
     let args = start .args in
+    let header = args .header .now in
+    let message = args .message .now in
     let es = entriesOf (args .count) (args .table .now) in
-    let order = recipientOrder (names (args .known .now)) (args .header .now) (args .message .now) es (args .no-key) in
-    sym (ap (λ (n : ℕ). judgedOf n (modeIn (args .header .now) (args .message .now) es))
-    (first-stops 2 order (
-      found (one .before .clashes .ensures
-          ∙ clashes-repeated true (args .header .now) (args .message .now) es (start .pre .1 .1)) (one .if1 .left),
-      (found (two .before .incomplete .ensures) (two .if2 .left), found (c .before .wrong-kind .ensures) (c .if3 .taken)),
-    )))
+    let mode = modeIn header message es in
+    let order = recipientOrder (names (args .known .now)) header message es (args .no-key) in
+    let compared = clashes-repeated true header message es (start .pre .1 .1) in
+    let t12 = found (one .before .clashes .ensures ∙ compared) (one .if1 .left) in
+    let t13 = found (two .before .incomplete .ensures) (two .if2 .left) in
+    let t14 = found (c .before .wrong-kind .ensures) (c .if3 .taken) in
+    sym (ap (λ (n : ℕ). judgedOf n mode) (first-stops 2 order (t12, (t13, t14))))
 
 unlisted-requires : tie.Need-unlisted-requires
 unlisted-requires c κs = search needs
@@ -80,14 +87,17 @@ returns-4 c =
     let one = two .before .before in
     let start = one .before .before .before .before .before .before in
     let args = start .args in
+    let header = args .header .now in
+    let message = args .message .now in
     let es = entriesOf (args .count) (args .table .now) in
-    let order = recipientOrder (names (args .known .now)) (args .header .now) (args .message .now) es (args .no-key) in
-    sym (ap (λ (n : ℕ). judgedOf n (modeIn (args .header .now) (args .message .now) es))
-    (first-stops 3 order (
-      found (one .before .clashes .ensures
-          ∙ clashes-repeated true (args .header .now) (args .message .now) es (start .pre .1 .1)) (one .if1 .left),
-      (found (two .before .incomplete .ensures) (two .if2 .left), (found (three .before .wrong-kind .ensures) (three .if3 .left), found (c .before .unlisted .ensures) (c .if4 .taken))),
-    )))
+    let mode = modeIn header message es in
+    let order = recipientOrder (names (args .known .now)) header message es (args .no-key) in
+    let compared = clashes-repeated true header message es (start .pre .1 .1) in
+    let t12 = found (one .before .clashes .ensures ∙ compared) (one .if1 .left) in
+    let t13 = found (two .before .incomplete .ensures) (two .if2 .left) in
+    let t14 = found (three .before .wrong-kind .ensures) (three .if3 .left) in
+    let t15 = found (c .before .unlisted .ensures) (c .if4 .taken) in
+    sym (ap (λ (n : ℕ). judgedOf n mode) (first-stops 3 order (t12, (t13, (t14, t15)))))
 
 unprotected-requires : tie.Need-unprotected-requires
 unprotected-requires c κs = search needs
@@ -101,14 +111,18 @@ returns-5 c =
     let one = two .before .before in
     let start = one .before .before .before .before .before .before in
     let args = start .args in
+    let header = args .header .now in
+    let message = args .message .now in
     let es = entriesOf (args .count) (args .table .now) in
-    let order = recipientOrder (names (args .known .now)) (args .header .now) (args .message .now) es (args .no-key) in
-    sym (ap (λ (n : ℕ). judgedOf n (modeIn (args .header .now) (args .message .now) es))
-    (first-stops 4 order (
-      found (one .before .clashes .ensures
-          ∙ clashes-repeated true (args .header .now) (args .message .now) es (start .pre .1 .1)) (one .if1 .left),
-      (found (two .before .incomplete .ensures) (two .if2 .left), (found (three .before .wrong-kind .ensures) (three .if3 .left), (found (four .before .unlisted .ensures) (four .if4 .left), found (c .before .unprotected .ensures) (c .if5 .taken)))),
-    )))
+    let mode = modeIn header message es in
+    let order = recipientOrder (names (args .known .now)) header message es (args .no-key) in
+    let compared = clashes-repeated true header message es (start .pre .1 .1) in
+    let t12 = found (one .before .clashes .ensures ∙ compared) (one .if1 .left) in
+    let t13 = found (two .before .incomplete .ensures) (two .if2 .left) in
+    let t14 = found (three .before .wrong-kind .ensures) (three .if3 .left) in
+    let t15 = found (four .before .unlisted .ensures) (four .if4 .left) in
+    let t16 = found (c .before .unprotected .ensures) (c .if5 .taken) in
+    sym (ap (λ (n : ℕ). judgedOf n mode) (first-stops 4 order (t12, (t13, (t14, (t15, t16))))))
 
 wrong-crit-requires : tie.Need-wrong-crit-requires
 wrong-crit-requires c κs = search needs
@@ -123,14 +137,19 @@ returns-6 c =
     let one = two .before .before in
     let start = one .before .before .before .before .before .before in
     let args = start .args in
+    let header = args .header .now in
+    let message = args .message .now in
     let es = entriesOf (args .count) (args .table .now) in
-    let order = recipientOrder (names (args .known .now)) (args .header .now) (args .message .now) es (args .no-key) in
-    sym (ap (λ (n : ℕ). judgedOf n (modeIn (args .header .now) (args .message .now) es))
-    (first-stops 5 order (
-      found (one .before .clashes .ensures
-          ∙ clashes-repeated true (args .header .now) (args .message .now) es (start .pre .1 .1)) (one .if1 .left),
-      (found (two .before .incomplete .ensures) (two .if2 .left), (found (three .before .wrong-kind .ensures) (three .if3 .left), (found (four .before .unlisted .ensures) (four .if4 .left), (found (five .before .unprotected .ensures) (five .if5 .left), found (c .before .wrong-crit .ensures) (c .if6 .taken))))),
-    )))
+    let mode = modeIn header message es in
+    let order = recipientOrder (names (args .known .now)) header message es (args .no-key) in
+    let compared = clashes-repeated true header message es (start .pre .1 .1) in
+    let t12 = found (one .before .clashes .ensures ∙ compared) (one .if1 .left) in
+    let t13 = found (two .before .incomplete .ensures) (two .if2 .left) in
+    let t14 = found (three .before .wrong-kind .ensures) (three .if3 .left) in
+    let t15 = found (four .before .unlisted .ensures) (four .if4 .left) in
+    let t16 = found (five .before .unprotected .ensures) (five .if5 .left) in
+    let t17 = found (c .before .wrong-crit .ensures) (c .if6 .taken) in
+    sym (ap (λ (n : ℕ). judgedOf n mode) (first-stops 5 order (t12, (t13, (t14, (t15, (t16, t17)))))))
 
 mode-requires : tie.Need-mode-requires
 mode-requires c κs = search needs
@@ -149,30 +168,21 @@ returns-7 c =
     let one = two .before .before in
     let start = one .before .before .before .before .before .before in
     let args = start .args in
+    let header = args .header .now in
+    let message = args .message .now in
     let es = entriesOf (args .count) (args .table .now) in
-    let order = recipientOrder (names (args .known .now)) (args .header .now) (args .message .now) es (args .no-key) in
-    sym (ap (λ (n : ℕ). judgedOf n (modeIn (args .header .now) (args .message .now) es))
-    (first-stops 6 order (
-      found (one .before .clashes .ensures
-          ∙ clashes-repeated true (args .header .now) (args .message .now) es (start .pre .1 .1)) (one .if1 .left),
-      (
-        found (two .before .incomplete .ensures) (two .if2 .left),
-        (
-          found (three .before .wrong-kind .ensures) (three .if3 .left),
-          (
-            found (four .before .unlisted .ensures) (four .if4 .left),
-            (
-              found (five .before .unprotected .ensures) (five .if5 .left),
-              (
-                found (six .before .wrong-crit .ensures) (six .if6 .left),
-                found (c .before .wrong-key .ensures
-                    ∙ ap (λ (m : ℕ). wrongKey m (args .no-key)) (c .before .before .mode .ensures)) (c .if7 .taken),
-              ),
-            ),
-          ),
-        ),
-      ),
-    )))
+    let mode = modeIn header message es in
+    let order = recipientOrder (names (args .known .now)) header message es (args .no-key) in
+    let compared = clashes-repeated true header message es (start .pre .1 .1) in
+    let same = ap (λ (m : ℕ). wrongKey m (args .no-key)) (c .before .before .mode .ensures) in
+    let t12 = found (one .before .clashes .ensures ∙ compared) (one .if1 .left) in
+    let t13 = found (two .before .incomplete .ensures) (two .if2 .left) in
+    let t14 = found (three .before .wrong-kind .ensures) (three .if3 .left) in
+    let t15 = found (four .before .unlisted .ensures) (four .if4 .left) in
+    let t16 = found (five .before .unprotected .ensures) (five .if5 .left) in
+    let t17 = found (six .before .wrong-crit .ensures) (six .if6 .left) in
+    let t18 = found (c .before .wrong-key .ensures ∙ same) (c .if7 .taken) in
+    sym (ap (λ (n : ℕ). judgedOf n mode) (first-stops 6 order (t12, (t13, (t14, (t15, (t16, (t17, t18))))))))
 
 returns-8 : tie.Need-returns-8
 unfolding recipientOrder judgedOf
@@ -185,34 +195,22 @@ returns-8 c =
     let one = two .before .before in
     let start = one .before .before .before .before .before .before in
     let args = start .args in
+    let header = args .header .now in
+    let message = args .message .now in
     let es = entriesOf (args .count) (args .table .now) in
-    let order = recipientOrder (names (args .known .now)) (args .header .now) (args .message .now) es (args .no-key) in
+    let mode = modeIn header message es in
+    let order = recipientOrder (names (args .known .now)) header message es (args .no-key) in
+    let compared = clashes-repeated true header message es (start .pre .1 .1) in
+    let same = ap (λ (m : ℕ). wrongKey m (args .no-key)) (c .before .before .mode .ensures) in
+    let t12 = found (one .before .clashes .ensures ∙ compared) (one .if1 .left) in
+    let t13 = found (two .before .incomplete .ensures) (two .if2 .left) in
+    let t14 = found (three .before .wrong-kind .ensures) (three .if3 .left) in
+    let t15 = found (four .before .unlisted .ensures) (four .if4 .left) in
+    let t16 = found (five .before .unprotected .ensures) (five .if5 .left) in
+    let t17 = found (six .before .wrong-crit .ensures) (six .if6 .left) in
+    let t18 = found (c .before .wrong-key .ensures ∙ same) (c .if7 .left) in
     ap Mode (c .before .before .mode .ensures)
-    ∙ sym (ap (λ (n : ℕ). judgedOf n (modeIn (args .header .now) (args .message .now) es))
-    (first-passed order (
-      found (one .before .clashes .ensures
-          ∙ clashes-repeated true (args .header .now) (args .message .now) es (start .pre .1 .1)) (one .if1 .left),
-      (
-        found (two .before .incomplete .ensures) (two .if2 .left),
-        (
-          found (three .before .wrong-kind .ensures) (three .if3 .left),
-          (
-            found (four .before .unlisted .ensures) (four .if4 .left),
-            (
-              found (five .before .unprotected .ensures) (five .if5 .left),
-              (
-                found (six .before .wrong-crit .ensures) (six .if6 .left),
-                (
-                  found (c .before .wrong-key .ensures
-                      ∙ ap (λ (m : ℕ). wrongKey m (args .no-key)) (c .before .before .mode .ensures)) (c .if7 .left),
-                  tt,
-                ),
-              ),
-            ),
-          ),
-        ),
-      ),
-    )))
+    ∙ sym (ap (λ (n : ℕ). judgedOf n mode) (first-passed order (t12, (t13, (t14, (t15, (t16, (t17, (t18, tt)))))))))
 
 pub judge-spec : {M : Type 1} → statement M
 judge-spec =

@@ -17,7 +17,8 @@ unfolding incomplete
 returns c =
     let args = c .before .before .before .args in
     let es = entriesOf (args .count) (args .table .now) in
-    sym (ap (λ (b : Bool). b || not (present enc es)) (ap not (sym (c .before .present .ensures)) ∙ c .if1 .taken))
+    let absent = ap not (sym (c .before .present .ensures)) ∙ c .if1 .taken in
+    sym (ap (λ (b : Bool). b || not (present enc es)) absent)
 
 present-requires-2 : tie.Need-present-requires-2
 present-requires-2 c κs = search needs
@@ -27,8 +28,8 @@ unfolding incomplete
 returns-2 c =
     let args = c .before .before .before .before .args in
     let es = entriesOf (args .count) (args .table .now) in
-    ap not (c .present2 .ensures)
-    ∙ sym (ap (λ (b : Bool). b || not (present enc es)) (ap not (sym (c .before .before .present .ensures)) ∙ c .before .if1 .left))
+    let there = ap not (sym (c .before .before .present .ensures)) ∙ c .before .if1 .left in
+    ap not (c .present2 .ensures) ∙ sym (ap (λ (b : Bool). b || not (present enc es)) there)
 
 pub incomplete-spec : {M : Type 1} → statement M
 incomplete-spec = tie.close (tie.spec present-requires returns present-requires-2 returns-2)

@@ -14,8 +14,8 @@ returns-3 c = asked-crit (c .before .before .before .args .n) (c .if3 .taken)
 
 returns-4 : tie.Need-returns-4
 returns-4 c =
-    let start = c .before .before .before .before in
-    asked-none (start .args .n) (c .before .before .before .if1 .left) (c .before .before .if2 .left) (c .before .if3 .left)
+    let first = c .before .before .before in
+    asked-none (first .before .args .n) (first .if1 .left) (c .before .before .if2 .left) (c .before .if3 .left)
     (c .if4 .taken)
 
 returns-5 : tie.Need-returns-5

@@ -42,8 +42,9 @@ returns c =
     let header = args .header .now in
     let message = args .message .now in
     let t = args .table .now in
+    let answer = modeIn header message (entriesOf (args .count) t) in
     c .mode-at .ensures
-    ∙ mode-found header message (modeIn header message (entriesOf (args .count) t)) (args .count) (loop .i) t (loop .inv .1)
+    ∙ mode-found header message answer (args .count) (loop .i) t (loop .inv .1)
     (c .before .before .before .loop-test .taken) (number-at t (loop .i) 6 ∙ c .before .if1 .taken)
 
 add-i : tie.Need-add-i Inv-loop μ-loop
@@ -58,9 +59,10 @@ loop-again c =
     let args = c .before .before .before .before .before .before .before .args in
     let header = args .header .now in
     let message = args .message .now in
-    let t = args .table .now in (
+    let t = args .table .now in
+    let answer = modeIn header message (entriesOf (args .count) t) in (
       search needs,
-      mode-turn header message (modeIn header message (entriesOf (args .count) t)) (args .count) (loop .i) t (loop .inv .1)
+      mode-turn header message answer (args .count) (loop .i) t (loop .inv .1)
           (c .before .before .loop-test .taken) (λ e. c .if1 .left (sym (number-at t (loop .i) 6) ∙ e)),
     )
 
@@ -71,8 +73,8 @@ returns-2 c =
     let header = args .header .now in
     let message = args .message .now in
     let t = args .table .now in
-    mode-done header message (modeIn header message (entriesOf (args .count) t)) (args .count) (loop .i) t (loop .inv .1)
-    (c .loop-test .left)
+    let answer = modeIn header message (entriesOf (args .count) t) in
+    mode-done header message answer (args .count) (loop .i) t (loop .inv .1) (c .loop-test .left)
 
 pub mode-spec : {M : Type 1} → statement M
 mode-spec =

@@ -12,7 +12,8 @@ use Rattle.jose.proofs.rules.unlisted.Tie as tie
 
 abbrev Inv-loop : tie.InvT-loop
 Inv-loop header message table count i₀ i =
-    (i ≤ count) × (any (unlisted header message) (drop i (entriesOf count table)) ≡ any (unlisted header message) (entriesOf count table))
+    (i ≤ count)
+    × (any (unlisted header message) (drop i (entriesOf count table)) ≡ any (unlisted header message) (entriesOf count table))
 
 abbrev μ-loop : tie.MeasureT-loop
 μ-loop header message table count i₀ i = count - i
@@ -27,9 +28,10 @@ returns : tie.Need-returns Inv-loop μ-loop
 returns c =
     let args = c .before .before .before .before .before .before .before .args in
     let loop = c .before .before .before .loop in
+    let t = args .table .now in
     let f = unlisted (args .header .now) (args .message .now) in
-    any-found f (any f (entriesOf (args .count) (args .table .now))) (args .count) (loop .i) (args .table .now)
-    (loop .inv .1) (c .before .before .loop-test .taken) (sym (c .before .unlisted-at .ensures) ∙ c .if1 .taken)
+    any-found f (any f (entriesOf (args .count) t)) (args .count) (loop .i) t (loop .inv .1)
+    (c .before .before .loop-test .taken) (sym (c .before .unlisted-at .ensures) ∙ c .if1 .taken)
 
 add-i : tie.Need-add-i Inv-loop μ-loop
 add-i c = search needs
@@ -41,19 +43,21 @@ loop-again : tie.Need-loop-again Inv-loop μ-loop
 loop-again c =
     let args = c .before .before .before .before .before .before .before .args in
     let loop = c .before .before .before .loop in
+    let t = args .table .now in
     let f = unlisted (args .header .now) (args .message .now) in (
       search needs,
-      any-turn f (any f (entriesOf (args .count) (args .table .now))) (args .count) (loop .i) (args .table .now)
-          (loop .inv .1) (c .before .before .loop-test .taken) (sym (c .before .unlisted-at .ensures) ∙ c .if1 .left),
+      any-turn f (any f (entriesOf (args .count) t)) (args .count) (loop .i) t (loop .inv .1)
+          (c .before .before .loop-test .taken) (sym (c .before .unlisted-at .ensures) ∙ c .if1 .left),
     )
 
 returns-2 : tie.Need-returns-2 Inv-loop μ-loop
 returns-2 c =
     let args = c .before .before .before .before .before .args in
     let loop = c .before .loop in
+    let t = args .table .now in
     let f = unlisted (args .header .now) (args .message .now) in
-    any-done f (any f (entriesOf (args .count) (args .table .now))) (args .count) (loop .i) (args .table .now)
-    (loop .inv .1) (c .loop-test .left)
+    any-done f (any f (entriesOf (args .count) t)) (args .count) (loop .i) t (loop .inv .1)
+    (c .loop-test .left)
 
 pub unlisted-spec : {M : Type 1} → statement M
 unlisted-spec =

@@ -1,0 +1,36 @@
+-- Every sample holds, by computation.
+use mathlib.Core.Path.{_≡_, refl}
+use mathlib.Core.Bool.{xor}
+use mathlib.Core.List.{map, flatMap}
+use Rattle.prelude.specs.Ascii.{ascii}
+use Rattle.base64url.specs.Base64url.{alphabet, character, placeIn, sixBits, sextets, octets, encoded, decoded}
+use Rattle.base64url.specs.Fault.{firstOutside, spareBits, fault}
+use Rattle.names.specs.Names.{names, sound, limited, filled, total, cut, numberIn}
+use Rattle.parts.specs.Parts.{part, seek, seekIn, holds}
+use Rattle.json.specs.Utf8.{utf8, utf8After, follow, encode}
+use Rattle.json.specs.Spellings.{undo, undoFrom, adds, next, equal, has, alike, fingerprint}
+use Rattle.json.specs.Reader.{passOver, skip, turn, scanString, stringAt, digitsAt, intAt, perhapsAt, fractionAt}
+use Rattle.json.specs.Reader.{exponentAt, numberAt, wordAt, beforeAt, entryAt, entriesAt, rowsAt, nestedAt, rowsIn}
+use Rattle.json.specs.Reader.{valueWith, valueAt, membersAt, elementsOf, elementsAt, readText, opensObject}
+use Rattle.rows.specs.Any.{any, anyPair}
+use Rattle.rows.specs.Rows.{entriesIn, present, valueOf, repeated}
+use Rattle.rows.specs.Tables.{listed}
+use Rattle.jose.specs.Registered.{registered, kindAsked}
+use Rattle.jose.specs.Algorithms.{algs, algName, encs, encName, algNames, encNames, zipNames, nth}
+use Rattle.jose.specs.Refusals.{first}
+use Rattle.jose.specs.HeaderRules.{incomplete, wrongCrit, modeIn, recipientOrder}
+use Rattle.headers.specs.Components.{misspelled}
+use Rattle.headers.specs.Headers.{headerText, unread, textOrder, outermost, protectedEntries, membersOf, headerEntries}
+use Rattle.headers.specs.Headers.{objectOrder}
+use Rattle.shape.specs.Shape.{memberNames, memberEntries, wrongMember, wrongTop, wrongElements, wrongElement}
+use Rattle.shape.specs.Recipients.{topEntries, topOrder, elementsIn, elementEntries, elementOrder, elementsOrder}
+use Rattle.shape.specs.Recipients.{recipientsIn, componentsIn}
+use Rattle.jwe.specs.Compact.{stops, fourStops, compactComponents, compactOrder}
+use Rattle.jwe.specs.General.{sharedEntries, ownEntries, parameters, allPlaces, anyMisspelled, protectedOrder}
+use Rattle.jwe.specs.General.{headersOrder, recipientsOrder, jsonOrder}
+use Rattle.jwe.specs.Judge.{order, refusal, compactOutcome, asked, jsonOutcome, outcome, accepted}
+use Rattle.jwe.specs.Samples.{Sample, answer, samples}
+
+pub samples-hold : map (λ (s : Sample). answer (s .message)) samples ≡ map (λ (s : Sample). s .expected) samples
+unfolding ascii alphabet character placeIn sixBits sextets octets encoded decoded firstOutside spareBits fault names sound limited filled total cut numberIn part seek seekIn holds utf8 utf8After follow encode undo undoFrom adds next equal has alike fingerprint passOver skip turn scanString stringAt digitsAt intAt perhapsAt fractionAt exponentAt numberAt wordAt beforeAt entryAt entriesAt rowsAt nestedAt rowsIn valueWith valueAt membersAt elementsOf elementsAt readText opensObject any anyPair entriesIn present valueOf repeated listed registered kindAsked algs algName encs encName algNames encNames zipNames nth first incomplete wrongCrit modeIn recipientOrder misspelled headerText unread textOrder outermost protectedEntries membersOf headerEntries objectOrder memberNames memberEntries wrongMember wrongTop wrongElements wrongElement topEntries topOrder elementsIn elementEntries elementOrder elementsOrder recipientsIn componentsIn stops fourStops compactComponents compactOrder sharedEntries ownEntries parameters allPlaces anyMisspelled protectedOrder headersOrder recipientsOrder jsonOrder order refusal compactOutcome asked jsonOutcome outcome accepted answer samples flatMap xor
+samples-hold = refl

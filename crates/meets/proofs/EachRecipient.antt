@@ -1,0 +1,175 @@
+-- Refusals 5, 8, 9 and 12 to 18 on each recipient: they decide that its key is spelled, its own header an object whose
+-- names are compared, and the rules kept by its headers and its key.
+use mathlib.Core.Path.{_≡_, sym, subst}
+use mathlib.Core.Bool.{true, false}
+use mathlib.Core.Logic.{_↔_}
+use mathlib.Core.List.{List, []}
+use Prim.Native.Nat.{ℕ}
+use lib.Dec.{eqb}
+use Rattle.prelude.specs.Ascii.{ascii}
+use Rattle.json.specs.Bounds.{Every}
+use Rattle.rows.specs.Rows.{Entry, present, valueOf}
+use Rattle.jose.specs.Refusals.{first}
+use Rattle.jose.specs.Registered.{registered}
+use Rattle.jose.specs.HeaderRules.{recipientOrder}
+use Rattle.headers.specs.Components.{misspelled}
+use Rattle.headers.specs.Headers.{outermost, protectedEntries, headerEntries, objectOrder}
+use Rattle.headers.specs.Headers as headers
+use Rattle.shape.specs.Shape.{inner, Recipient, recipientOf}
+use Rattle.jwe.specs.General.{sharedEntries, ownEntries, parameters}
+use Rattle.meets.specs.Members.{Member, namesOf, Distinct}
+use Rattle.meets.specs.Rules.{Headers, EveryNamed, Rules}
+use Rattle.meets.specs.Meets.{Octets, Object, Plain, Component, HeaderIn}
+use Rattle.meets.specs.Meets as meets
+use Rattle.meets.proofs.Zip.{Zip}
+use Rattle.meets.proofs.Standing.{MemberStands}
+use Rattle.meets.proofs.Deciding.{every-map}
+use Rattle.meets.proofs.Entries.{EntryStands}
+use Rattle.meets.proofs.NamesApart.{object-decided}
+use Rattle.meets.proofs.RulesDecided.{rules-decided}
+use Rattle.meets.proofs.MemberEntries.{Holds, entries-of, header-number, key-number}
+use Rattle.meets.proofs.Shapes.{Field, Whole}
+use Rattle.meets.proofs.Lookups.{Lookup, lookup, header-found, header-stands}
+use Rattle.meets.proofs.ComponentsDecided.{Spelling, component-spelling, misspelled-decided, none-where-empty}
+use Rattle.meets.proofs.Orders.{every-together}
+use Rattle.meets.proofs.RecipientsDecided.{Holder, Formed}
+
+-- A component that is not empty is one.
+pub plain-of : (w : List ℕ) (ms : List Member) → EveryNamed w Whole ms → EveryNamed w Plain ms
+plain-of w ms h = every-map (Field w Whole) (Field w Plain) (λ m f n. f n .0) ms h
+
+-- The entries of headers
+
+module _ (header message : List ℕ) where
+  pub protected-entries : (hs : List Member) → Zip (MemberStands header) hs (outermost header) →
+      Zip (EntryStands registered header message 0) hs (protectedEntries header)
+  unfolding protectedEntries
+  protected-entries hs z = entries-of registered header message 0 hs (outermost header) z
+
+  module _ (es : List Entry) (hs : List Member)
+      (z : Zip (MemberStands message) hs (headers.membersOf message (valueOf 2 es .start))) where
+    pub shared-entries : Zip (EntryStands registered header message 1) hs (sharedEntries message es)
+    unfolding sharedEntries headerEntries
+    shared-entries = entries-of registered header message 1 hs (headers.membersOf message (valueOf 2 es .start)) z
+
+  module _ (r : Recipient) (hs : List Member)
+      (z : Zip (MemberStands message) hs (headers.membersOf message (r .header))) where
+    pub own-entries : Zip (EntryStands registered header message 2) hs (ownEntries message r)
+    unfolding ownEntries headerEntries
+    own-entries = entries-of registered header message 2 hs (headers.membersOf message (r .header)) z
+
+module _ (known : List (List ℕ)) (header message : List ℕ) (protected shared : List Member) (es : List Entry)
+    (zp : Zip (MemberStands header) protected (outermost header))
+    (zs : Zip (MemberStands message) shared (headers.membersOf message (valueOf 2 es .start)))
+    (dp : Distinct (namesOf protected)) (ds : Distinct (namesOf shared)) where
+  -- The tests of a recipient.
+
+  abbrev pub Spelled : Recipient → Type 0
+  Spelled r = misspelled message (r .key) ≡ false
+
+  abbrev pub OwnPasses : Recipient → Type 0
+  OwnPasses r = first (objectOrder message (ownEntries message r)) ≡ 0
+
+  abbrev pub RulesPass : Recipient → Type 0
+  RulesPass r =
+      first (recipientOrder known header message (parameters header message es r) (eqb (r .key .size) 0)) ≡ 0
+
+  abbrev Passes : List Member → Recipient → Type 0
+  Passes ms r = Formed ms × (Spelled r × (OwnPasses r × RulesPass r))
+
+  abbrev Keeps : List Member → Type 0
+  Keeps = meets.Recipient known protected shared
+
+  -- Where an own header and a key are given.
+  module _ (r : Recipient) (own : List Member) (key : List ℕ)
+      (zo : Zip (MemberStands message) own (headers.membersOf message (r .header)))
+      (keyed : (eqb (r .key .size) 0 ≡ true) ↔ (key ≡ [])) where
+    own-decided : OwnPasses r ↔ Object own
+    own-decided = object-decided registered message 2 own (ownEntries message r) (own-entries message message r own zo)
+
+    abbrev all : Headers
+    all = record { protected = protected; shared = shared; own = own }
+
+    recipient-rules : Distinct (namesOf own) → RulesPass r ↔ Rules known all key
+    unfolding parameters
+    recipient-rules d =
+        rules-decided known header message all (protectedEntries header) (sharedEntries message es)
+        (ownEntries message r) key (eqb (r .key .size) 0) (protected-entries header message protected zp)
+        (shared-entries header message es shared zs) (own-entries header message r own zo)
+        (record { protected = dp; shared = ds; own = d }) keyed
+
+  module _ (ms : List Member) (fs : List Entry) (h : Holds message ms fs) where
+    abbrev r : Recipient
+    r = recipientOf fs
+
+    module _ (f : Formed ms) where
+      key-lookup : Lookup message (ascii "encrypted_key") ms (valueOf 4 fs) (present 4 fs)
+      key-lookup = lookup message (ascii "encrypted_key") 4 key-number ms fs (h .held) (f .0 .distinct)
+
+      own-lookup : Lookup message (ascii "header") ms (valueOf 3 fs) (present 3 fs)
+      own-lookup = lookup message (ascii "header") 3 header-number ms fs (h .held) (f .0 .distinct)
+
+      key-spelling : Spelling message (ascii "encrypted_key") ms (inner (valueOf 4 fs))
+      key-spelling =
+          component-spelling message (ascii "encrypted_key") ms (valueOf 4 fs) (present 4 fs)
+          (plain-of (ascii "encrypted_key") ms (f .1 .key)) key-lookup
+
+      own-stands : (own : List Member) → HeaderIn (ascii "header") ms own →
+          Zip (MemberStands message) own (headers.membersOf message (r .header))
+      own-stands own i =
+          header-stands message (ascii "header") ms (valueOf 3 fs) (present 3 fs) (f .1 .header) own own-lookup i
+
+      spelled-decided : Spelled r ↔ ((xs : List ℕ) × Octets xs × Component (ascii "encrypted_key") ms xs)
+      spelled-decided = misspelled-decided message (ascii "encrypted_key") ms (inner (valueOf 4 fs)) key-spelling
+
+      keyed : (key : List ℕ) → Octets key → Component (ascii "encrypted_key") ms key →
+          (eqb (r .key .size) 0 ≡ true) ↔ (key ≡ [])
+      keyed = none-where-empty message (ascii "encrypted_key") ms (inner (valueOf 4 fs)) key-spelling
+
+    keeps : Passes ms r → Keeps ms
+    keeps p =
+        let f = p .0 in
+        let (key, o, c) = spelled-decided f .0 (p .1 .0) in
+        let (own, i) = header-found message (ascii "header") ms (valueOf 3 fs) (present 3 fs) (f .1 .header)
+        (own-lookup f) in
+        let z = own-stands f own i in
+        let k = keyed f key o c in
+        let object = own-decided r own key z k .0 (p .1 .1 .0) in
+        record {
+          key = key;
+          own = own;
+          octets = o;
+          shape = f .1;
+          object = f .0;
+          spelled = c;
+          header = i;
+          ownObject = object;
+          rules = recipient-rules r own key z k (object .distinct) .0 (p .1 .1 .1);
+        }
+
+    passes : Keeps ms → Passes ms r
+    passes x =
+        let f : Formed ms = (x .object, x .shape) in
+        let z = own-stands f (x .own) (x .header) in
+        let k = keyed f (x .key) (x .octets) (x .spelled) in (
+          f,
+          (
+            spelled-decided f .1 (x .key, x .octets, x .spelled),
+            (
+              own-decided r (x .own) (x .key) z k .1 (x .ownObject),
+              recipient-rules r (x .own) (x .key) z k (x .ownObject .distinct) .1 (x .rules),
+            ),
+          ),
+        )
+
+  recipient-decided : (ms : List Member) (r : Recipient) → Holder message ms r → Passes ms r ↔ Keeps ms
+  recipient-decided ms r h =
+      subst (λ (u : Recipient). Passes ms u ↔ Keeps ms) (sym (h .made))
+      (keeps ms (h .entries) (h .holds), passes ms (h .entries) (h .holds))
+
+  -- All of them.
+  pub recipients-decided : (rs : List (List Member)) (us : List Recipient) → Zip (Holder message) rs us →
+      (Every Formed rs × (Every Spelled us × (Every OwnPasses us × Every RulesPass us)))
+      ↔ Every (meets.Recipient known protected shared) rs
+  recipients-decided rs us z =
+      every-together (Holder message) Keeps Formed Spelled OwnPasses RulesPass recipient-decided rs us z

@@ -1,0 +1,163 @@
+-- The recipients of a flattened message, which is its own, and of a general one: those at the starts of its elements.
+use mathlib.Core.Path.{_≡_, refl, ap, ap₂, sym, subst, _∙_}
+use mathlib.Core.Bool.{Bool, true, false, cond}
+use mathlib.Core.List.{List, [], _∷_, _++_, map, flatMap}
+use Prim.Native.Nat.{ℕ, _≤_}
+use native.Mathlib.Omega.{arith}
+use lib.ListN.{length, take}
+use lib.Dec.{ltb}
+use borrow.Author.Tests.{ltb-false}
+use Rattle.prelude.proofs.Writing.{begins}
+use Rattle.json.specs.Places.{Element}
+use Rattle.json.specs.Reader.{elementsAt}
+use Rattle.rows.specs.Rows.{Entry, present, valueOf}
+use Rattle.jose.specs.Refusals.{Test, _if_, first}
+use Rattle.jose.proofs.Refusals.{nonzero}
+use Rattle.headers.specs.Answers.{stageOf, Leaves}
+use Rattle.headers.specs.declared.Stage.{Stage}
+use Rattle.headers.specs.declared.Stage.the-variants.{Passed, Refused}
+use Rattle.headers.proofs.Stages.{passed-is}
+use Rattle.shape.specs.Shape.{Recipient, recipientOf, wrongElements}
+use Rattle.shape.specs.Recipients.{elementsIn, elementEntries, elementOrder, elementsOrder, recipientsIn}
+use Rattle.shape.specs.Answers.{three, flatRecipients, arrayOrder, startsOf, startsOrder, recipientsAt}
+use Rattle.shape.proofs.Orders.{handed-up, gone-on}
+use Rattle.shape.proofs.Walking.{starts-length}
+
+-- Elements by their starts.
+
+order-starts : (message : List ℕ) (xs : List Element) →
+    flatMap (λ (x : Element). elementOrder message (x .start)) xs ≡ startsOrder message (startsOf xs)
+unfolding flatMap startsOrder startsOf
+order-starts message [] = refl
+order-starts message (x ∷ xs) =
+    ap (λ (l : List Test). elementOrder message (x .start) ++ l) (order-starts message xs)
+
+recipients-starts : (message : List ℕ) (xs : List Element) →
+    map (λ (x : Element). recipientOf (elementEntries message (x .start))) xs ≡ recipientsAt message (startsOf xs)
+unfolding recipientsAt startsOf
+recipients-starts message [] = refl
+recipients-starts message (x ∷ xs) =
+    ap (λ (l : List Recipient). recipientOf (elementEntries message (x .start)) ∷ l) (recipients-starts message xs)
+
+recipients-length : (message starts : List ℕ) → length (recipientsAt message starts) ≡ length starts
+unfolding recipientsAt
+recipients-length message [] = refl
+recipients-length message (x ∷ starts) = omega (arith, recipients-length message starts)
+
+array-nonzero : (xs : List Element) → nonzero (arrayOrder xs) ≡ true
+unfolding arrayOrder
+array-nonzero xs = refl
+
+few : (xs : List Element) → first (arrayOrder xs) ≡ 0 → length xs ≤ 8
+unfolding first arrayOrder
+few xs e = ltb-false 8 (length xs) (cases (wrongElements xs) (ltb 8 (length xs)) e)
+  where
+    cases : (a b : Bool) → _≡_ {A = ℕ} (cond a 10 (cond b 11 0)) 0 → b ≡ false
+    cases true b z = let absurdity : _≡_ {A = ℕ} 10 0 = z in absurd (omega arith)
+    cases false true z = let absurdity : _≡_ {A = ℕ} 11 0 = z in absurd (omega arith)
+    cases false false z = refl
+
+-- Flattened: there is no `recipients`.
+module _ (message : List ℕ) (es : List Entry) (p : present 5 es ≡ false) where
+  no-order : elementsOrder message es ≡ []
+  unfolding elementsOrder
+  no-order =
+      ap (λ (b : Bool). cond b
+      (10 if wrongElements (elementsIn message es)
+      ∷ 11 if ltb 8 (length (elementsIn message es))
+      ∷ flatMap (λ (x : Element). elementOrder message (x .start)) (elementsIn message es))
+      []) p
+
+  itself : recipientsIn message es ≡ recipientOf es ∷ []
+  unfolding recipientsIn
+  itself =
+      ap (λ (b : Bool). cond b
+      (map (λ (x : Element). recipientOf (elementEntries message (x .start))) (elementsIn message es))
+      (recipientOf es ∷ [])) p
+
+  pub flattened : Passed 1 ≡ stageOf (first (elementsOrder message es)) (length (recipientsIn message es))
+  unfolding first stageOf
+  flattened =
+      sym (ap₂ (λ (o : List Test) (rs : List Recipient). stageOf (first o) (length rs)) no-order itself)
+
+  pub flattened-numbers : three (recipientOf es) ≡ flatRecipients (recipientsIn message es)
+  unfolding flatRecipients
+  flattened-numbers = sym (ap flatRecipients itself)
+
+-- General: xs are the elements of `recipients`.
+module _ (message : List ℕ) (es : List Entry) (p : present 5 es ≡ true) (at : ℕ) (v : at ≡ valueOf 5 es .start) where
+  abbrev xs : List Element
+  xs = elementsAt 12 message at
+
+  all : elementsIn message es ≡ elementsAt 12 message at
+  unfolding elementsIn
+  all = ap (λ (a : ℕ). elementsAt 12 message a) (sym v)
+
+  order : elementsOrder message es ≡ arrayOrder xs ++ startsOrder message (startsOf xs)
+  unfolding elementsOrder arrayOrder
+  order =
+      ap (λ (b : Bool). cond b
+      (10 if wrongElements (elementsIn message es)
+      ∷ 11 if ltb 8 (length (elementsIn message es))
+      ∷ flatMap (λ (x : Element). elementOrder message (x .start)) (elementsIn message es))
+      []) p
+      ∙ ap (λ (ys : List Element). 10 if wrongElements ys
+      ∷ 11 if ltb 8 (length ys)
+      ∷ flatMap (λ (x : Element). elementOrder message (x .start)) ys) all
+      ∙ ap (λ (l : List Test). 10 if wrongElements xs ∷ 11 if ltb 8 (length xs) ∷ l) (order-starts message xs)
+
+  are : recipientsIn message es ≡ recipientsAt message (startsOf xs)
+  unfolding recipientsIn
+  are =
+      ap (λ (b : Bool). cond b
+      (map (λ (x : Element). recipientOf (elementEntries message (x .start))) (elementsIn message es))
+      (recipientOf es ∷ [])) p
+      ∙ ap (λ (ys : List Element). map (λ (x : Element). recipientOf (elementEntries message (x .start))) ys) all
+      ∙ recipients-starts message xs
+
+  module _ (walked : Stage) (a : walked ≡ stageOf (first (arrayOrder (elementsAt 12 message at)))
+      (length (elementsAt 12 message at))) where
+    -- The walk refuses.
+    pub general-refused : (m : ℕ) → walked ≡ Refused m →
+        walked ≡ stageOf (first (elementsOrder message es)) (length (recipientsIn message es))
+    general-refused m e =
+        e ∙ handed-up (arrayOrder xs) (startsOrder message (startsOf xs)) (array-nonzero xs) m (length xs)
+        (length (recipientsIn message es)) (sym e ∙ a)
+        ∙ ap (λ (o : List Test). stageOf (first o) (length (recipientsIn message es))) (sym order)
+
+    module _ (n : ℕ) (e : walked ≡ Passed n) where
+      told : (first (arrayOrder xs) ≡ 0) × (n ≡ length xs)
+      told = passed-is n (first (arrayOrder xs)) (length xs) (sym e ∙ a)
+
+      -- There are no more than 8.
+      pub eight : n ≤ 8
+      eight = omega (arith, told .1, few xs (told .0))
+
+      -- The starts that the walk wrote.
+      pub starts-count : n ≡ length (startsOf (elementsAt 12 message at))
+      starts-count = told .1 ∙ sym (starts-length xs)
+
+      pub starts-are : (before last : List ℕ) → Leaves (startsOf (elementsAt 12 message at)) before last walked →
+          take n last ≡ startsOf (elementsAt 12 message at)
+      starts-are before last l =
+          begins n (startsOf xs) last before (starts-length xs ∙ sym (told .1))
+          (subst (λ (r : Stage). Leaves (startsOf xs) before last r) e l)
+
+      -- What reading them answers and leaves.
+      module _ (starts : List ℕ) (s : starts ≡ startsOf (elementsAt 12 message at)) where
+        pub general : (r : Stage) → r ≡ stageOf (first (startsOrder message starts)) (length starts) →
+            r ≡ stageOf (first (elementsOrder message es)) (length (recipientsIn message es))
+        general r b =
+            let count : length starts ≡ length (recipientsIn message es) =
+            ap length s ∙ sym (recipients-length message (startsOf xs)) ∙ sym (ap length are) in
+            b ∙ ap₂ (λ (l : List ℕ) (k : ℕ). stageOf (first (startsOrder message l)) k) s count
+            ∙ sym (gone-on (arrayOrder xs) (startsOrder message (startsOf xs)) (array-nonzero xs) n (length xs)
+            (length (recipientsIn message es)) (sym e ∙ a))
+            ∙ ap (λ (o : List Test). stageOf (first o) (length (recipientsIn message es))) (sym order)
+
+        pub general-leaves : (before after : List ℕ) (r : Stage) →
+            Leaves (flatRecipients (recipientsAt message starts)) before after r →
+            Leaves (flatRecipients (recipientsIn message es)) before after r
+        general-leaves before after r l =
+            subst (λ (rs : List Recipient). Leaves (flatRecipients rs) before after r)
+            (ap (recipientsAt message) s ∙ sym are) l

@@ -1,0 +1,117 @@
+-- The elements at some starts, read in turn: those so far pass and their recipients are written, the order of those
+-- from here on decides.
+use mathlib.Core.Path.{_≡_, refl, ap, sym, subst, _∙_}
+use mathlib.Core.Bool.{true}
+use mathlib.Core.List.{List, [], _∷_, _++_}
+use Prim.Native.Nat.{ℕ, _+_, _*_, _≤_, _<_}
+use native.Mathlib.Omega.{arith}
+use lib.ListN.{length, drop, getD, drop-of-length-le}
+use Rattle.prelude.specs.Buffer.{written}
+use Rattle.prelude.proofs.Lists.{drop-next}
+use Rattle.prelude.proofs.Writing.{Writing, begin, put-part, room-part, done}
+use Rattle.jose.specs.Refusals.{first}
+use Rattle.jose.proofs.Refusals.{nonzero, first-skip}
+use Rattle.headers.specs.Headers.{objectOrder}
+use Rattle.headers.specs.Answers.{stageOf, Leaves}
+use Rattle.headers.specs.declared.Stage.{Stage}
+use Rattle.headers.specs.declared.Stage.the-variants.{Passed, Refused}
+use Rattle.headers.proofs.Stages.{passed-is}
+use Rattle.shape.specs.Shape.{recipientOf}
+use Rattle.shape.specs.Recipients.{elementEntries, elementOrder}
+use Rattle.shape.specs.Answers.{three, flatRecipients, startsOrder, recipientsAt, LeavesAt}
+use Rattle.shape.proofs.Orders.{handed-up}
+
+-- The numbers of the recipients at some starts.
+abbrev pub numbersAt : List ℕ → List ℕ → List ℕ
+numbersAt message starts = flatRecipients (recipientsAt message starts)
+
+-- The numbers of one.
+abbrev pub numbersOf : List ℕ → ℕ → List ℕ
+numbersOf message start = three (recipientOf (elementEntries message start))
+
+numbers-length : (message starts : List ℕ) → length (numbersAt message starts) ≡ length starts * 3
+unfolding flatRecipients recipientsAt
+numbers-length message [] = refl
+numbers-length message (x ∷ starts) = omega (arith, numbers-length message starts)
+
+element-nonzero : (message : List ℕ) (start : ℕ) → nonzero (elementOrder message start) ≡ true
+unfolding elementOrder objectOrder
+element-nonzero message start = refl
+
+-- What is known before the i-th element is read.
+pub record Reading (message starts : List ℕ) (i : ℕ) (before now : List ℕ) : Type 0 where
+  pub order : first (startsOrder message (drop i starts)) ≡ first (startsOrder message starts)
+  pub wrote : Writing 0 (numbersAt message starts) before (numbersAt message (drop i starts)) (i * 3) now
+
+pub reading : (message starts before : List ℕ) → length starts * 3 ≤ length before →
+    Reading message starts 0 before before
+reading message starts before h = record {
+  order = refl;
+  wrote = begin 0 (numbersAt message starts) before (omega (arith, numbers-length message starts));
+}
+
+module _ {message starts before now : List ℕ} {i : ℕ} (r : Reading message starts i before now) where
+  module _ (h : i < length starts) where
+    next : drop i starts ≡ getD starts i 0 ∷ drop (i + 1) starts
+    next = drop-next starts i (i + 1) refl h
+
+    here : first (elementOrder message (getD starts i 0) ++ startsOrder message (drop (i + 1) starts))
+        ≡ first (startsOrder message starts)
+    unfolding startsOrder
+    here = sym (ap (λ (l : List ℕ). first (startsOrder message l)) next) ∙ r .order
+
+    parts : numbersAt message (drop i starts)
+        ≡ numbersOf message (getD starts i 0) ++ numbersAt message (drop (i + 1) starts)
+    unfolding flatRecipients recipientsAt
+    parts = ap (λ (l : List ℕ). numbersAt message l) next
+
+    -- There is room for one more.
+    pub room : i * 3 + 3 ≤ length now
+    room = room-part (numbersOf message (getD starts i 0)) (numbersAt message (drop (i + 1) starts)) parts (r .wrote)
+
+    module _ (answer : Stage) (n : ℕ) (a : answer ≡ stageOf (first (elementOrder message (getD starts i 0))) n)
+        (after : List ℕ) (l : LeavesAt (i * 3) (numbersOf message (getD starts i 0)) now after answer) where
+      -- It passes.
+      pub read-on : (k : ℕ) → answer ≡ Passed k → Reading message starts (i + 1) before after
+      read-on k e =
+          let told = passed-is k (first (elementOrder message (getD starts i 0))) n (sym e ∙ a) in
+          let w : after ≡ written (i * 3) (numbersOf message (getD starts i 0)) now =
+          subst (λ (x : Stage). LeavesAt (i * 3) (numbersOf message (getD starts i 0)) now after x) e l in
+          record {
+            order =
+                sym (first-skip (elementOrder message (getD starts i 0)) (startsOrder message (drop (i + 1) starts))
+                (element-nonzero message (getD starts i 0)) (told .0))
+                ∙ here;
+            wrote =
+                put-part (numbersOf message (getD starts i 0)) (numbersAt message (drop (i + 1) starts)) parts
+                (r .wrote) (omega arith) w;
+          }
+
+      -- It does not.
+      pub read-length : (m : ℕ) → answer ≡ Refused m → length after ≡ length before
+      read-length m e =
+          let same : after ≡ now =
+          subst (λ (y : Stage). LeavesAt (i * 3) (numbersOf message (getD starts i 0)) now after y) e l in
+          ap length same ∙ r .wrote .same
+
+      pub read-refused : (m k : ℕ) → answer ≡ Refused m → (answer ≡ stageOf (first (startsOrder message starts)) k)
+          × Leaves (numbersAt message starts) before after answer
+      read-refused m k e =
+          let x = getD starts i 0 in (
+            e ∙ handed-up (elementOrder message x) (startsOrder message (drop (i + 1) starts))
+                (element-nonzero message x) m n k (sym e ∙ a)
+                ∙ ap (λ (j : ℕ). stageOf j k) here,
+            subst (λ (y : Stage). Leaves (numbersAt message starts) before after y) (sym e)
+                (read-length m e),
+          )
+
+  -- All are read.
+  pub read-out : length starts ≤ i → (n : ℕ) → (Passed n ≡ stageOf (first (startsOrder message starts)) n)
+      × Leaves (numbersAt message starts) before now (Passed n)
+  unfolding startsOrder first stageOf flatRecipients recipientsAt
+  read-out h n =
+      let none : drop i starts ≡ [] = drop-of-length-le starts {i = i} h in (
+        ap (λ (j : ℕ). stageOf j n) (sym (ap (λ (l : List ℕ). first (startsOrder message l)) none) ∙ r .order),
+        done (subst (λ (l : List ℕ). Writing 0 (numbersAt message starts) before (numbersAt message l) (i * 3) now)
+            none (r .wrote)),
+      )
