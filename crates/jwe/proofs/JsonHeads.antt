@@ -16,8 +16,8 @@ use Rattle.headers.specs.declared.Stage.{Stage}
 use Rattle.headers.specs.declared.Stage.the-variants.{Refused}
 use Rattle.shape.specs.Shape.{Recipient}
 use Rattle.jwe.specs.Judge.{Outcome, place, accepted}
-use Rattle.jwe.specs.Answers.{componentsOf, numbers, Judges}
-use Rattle.jwe.specs.Stages.{ownTests, ruleTests, headedOrder, Heads, handedOf}
+use Rattle.jwe.specs.Answers.{componentsOf, numbers, handed, Judges}
+use Rattle.jwe.specs.Stages.{ownTests, ruleTests, headedOrder, Heads}
 use Rattle.jwe.specs.declared.Components.{Components}
 use Rattle.jwe.specs.declared.judged.Judged.{Judged}
 use Rattle.jwe.proofs.JsonOrder.{stop, skip, own-nonzero, rule-nonzero}
@@ -60,15 +60,15 @@ module _ (known : List (List ℕ)) (header message : List ℕ) (front : List Ent
 -- A stage's refusal, handed up, is what is answered.
 
 module _ (message : List ℕ) (order : List Test) (x : Outcome) (n : ℕ) (j : Judged) (stage : Stage)
-    (handed : j ≡ handedOf stage) (told : stage ≡ Refused n) (is : first order ≡ n) (some : 0 < n) where
+    (up : j ≡ handed stage) (told : stage ≡ Refused n) (is : first order ≡ n) (some : 0 < n) where
   pub heads-refused : (table₀ table : List ℕ) → length table ≡ length table₀ → Heads message order x j table₀ table
   heads-refused table₀ table l =
-      subst (λ (a : Judged). Heads message order x a table₀ table) (sym (handed ∙ ap handedOf told)) (is, some, l)
+      subst (λ (a : Judged). Heads message order x a table₀ table) (sym (up ∙ ap handed told)) (is, some, l)
 
   pub judges-refused : (text₀ text table₀ table : List ℕ) → length text ≡ length text₀ → length table ≡ length table₀ →
       Judges message order x j text₀ text table₀ table
   judges-refused text₀ text table₀ table k l =
-      subst (λ (a : Judged). Judges message order x a text₀ text table₀ table) (sym (handed ∙ ap handedOf told))
+      subst (λ (a : Judged). Judges message order x a text₀ text table₀ table) (sym (up ∙ ap handed told))
       (is, some, k, l)
 
 -- The numbers of a result

@@ -18,3 +18,11 @@ pub mod JsonShaped
 pub mod JsonTop
 -- Document 01's samples.
 pub mod Samples
+-- The full stops of a compact message.
+pub mod Splitting
+-- The first refusal of a compact message, stage by stage.
+pub mod CompactOrder
+-- What is known where a stage passed, or refused.
+pub mod Stages
+-- For `read`: 1 to 3, and what the lent outputs hold afterwards.
+pub mod Reading

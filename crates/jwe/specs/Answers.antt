@@ -9,14 +9,18 @@ use Rattle.json.specs.Places as json
 use Rattle.json.specs.declared.member.Place.{Place}
 use Rattle.headers.specs.Components as headers
 use Rattle.headers.specs.Answers.{placeOf}
+use Rattle.headers.specs.declared.Stage.{Stage}
+use Rattle.headers.specs.declared.Stage.the-variants as stage
 use Rattle.rows.specs.Tables.{flat}
 use Rattle.jose.specs.Refusals.{Test, first}
+use Rattle.jose.specs.declared.judge.Judged as jose
+use Rattle.jose.specs.declared.judge.Judged.the-variants as ruled
 use Rattle.jwe.specs.Judge.{Outcome, accepted}
 use Rattle.jwe.specs.Compact.{fourStops, compactComponents}
 use Rattle.jwe.specs.declared.Components.{Components}
 use Rattle.jwe.specs.declared.Result.{Result}
-use Rattle.jwe.specs.declared.compact.Split.{Split}
-use Rattle.jwe.specs.declared.compact.Split.the-variants.{Four, Other}
+use Rattle.jwe.specs.declared.compact.FullStops.{FullStops}
+use Rattle.jwe.specs.declared.compact.FullStops.the-variants.{Four, Other}
 use Rattle.jwe.specs.declared.judged.Judged.{Judged}
 use Rattle.jwe.specs.declared.judged.Judged.the-variants.{Accepted, Refused}
 
@@ -46,7 +50,7 @@ componentsOf q = record {
 }
 
 -- A message split at its full stops.
-unfoldable pub splitOf : List ℕ → Split
+unfoldable pub splitOf : List ℕ → FullStops
 splitOf message = cond (fourStops message) (Four (codeComponents (compactComponents message))) Other
 
 -- The eighteen numbers of a result, in document 01's order.
@@ -61,10 +65,10 @@ numbers r =
     ∷ r .recipients
     ∷ r .mode
     ∷ placeNumbers (r .components .protected)
-      (placeNumbers (r .components .key)
-      (placeNumbers (r .components .iv)
-      (placeNumbers (r .components .aad)
-      (placeNumbers (r .components .ciphertext) (placeNumbers (r .components .tag) (r .header ∷ r .parameters ∷ []))))))
+    (placeNumbers (r .components .key)
+    (placeNumbers (r .components .iv)
+    (placeNumbers (r .components .aad)
+    (placeNumbers (r .components .ciphertext) (placeNumbers (r .components .tag) (r .header ∷ r .parameters ∷ []))))))
 
 -- A message judged by an order: refused by its first failing test, or accepted with the numbers of its outcome, the decoded
 -- header at the start of the text buffer and the entries at the start of the table.
@@ -79,3 +83,18 @@ Judges message order x (Refused n) text₀ text table₀ table =
     × (0 < n)
     × (length text ≡ length text₀)
     × (length table ≡ length table₀)
+
+-- The refusal of an inner stage, handed up unchanged; 0 where there is none.
+
+abbrev pub handed : Stage → Judged
+handed (stage.Passed n) = Refused 0
+handed (stage.Refused n) = Refused n
+
+abbrev pub ruledOut : jose.Judged → Judged
+ruledOut (ruled.Mode m) = Refused 0
+ruledOut (ruled.Refused n) = Refused n
+
+-- The refusal of a message; 0 where it is accepted.
+abbrev pub refusedBy : Judged → ℕ
+refusedBy (Accepted r) = 0
+refusedBy (Refused n) = n

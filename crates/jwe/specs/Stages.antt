@@ -117,12 +117,7 @@ Heads text order x (message.Accepted r) table₀ table =
 Heads text order x (message.Refused n) table₀ table =
     (first order ≡ n) × (0 < n) × (length table ≡ length table₀)
 
--- Refusals handed up
-
-abbrev pub handedOf : Stage → Judged
-handedOf (Passed n) = message.Refused 0
-handedOf (Refused n) = message.Refused n
-
+-- The refusal of a recipient, handed up.
 abbrev pub refusedOf : jose.Judged → Stage
 refusedOf (recipient.Mode m) = Refused 0
 refusedOf (recipient.Refused n) = Refused n

@@ -1,23 +1,29 @@
 // The compact serialization (RFC 7516, section 7.1).
 ghost use mathlib.Core.Path.{_≡_};
-ghost use mathlib.Core.Bool.{true};
+ghost use mathlib.Core.Bool.{true, false};
 ghost use Prim.Native.Nat.{_+_, _≤_};
 ghost use lib.ListN.{length};
 ghost use Rattle.names.specs.Names.{names, filled};
 ghost use Rattle.rows.specs.Any.{any};
+ghost use Rattle.rows.specs.Tables.{collectedTable};
+ghost use Rattle.jose.specs.Refusals.{first};
 ghost use Rattle.headers.specs.Components.{misspelled, places};
-ghost use Rattle.jwe.specs.Compact.{between, compactOrder};
+ghost use Rattle.headers.specs.Headers.{protectedEntries, objectOrder};
+ghost use Rattle.headers.specs.Answers.{stageOf};
+ghost use Rattle.jwe.specs.Compact.{between, fourStops, compactComponents, compactOrder};
 ghost use Rattle.jwe.specs.Judge.{compactOutcome};
-ghost use Rattle.jwe.specs.Answers.{codePlace, componentsOf, splitOf, Judges};
+ghost use Rattle.jwe.specs.Answers.{codePlace, codeComponents, componentsOf, splitOf, Judges};
 use crate::Components;
 use crate::Result;
 use crate::judged::Judged;
+use crate::judged::handed;
+use crate::judged::ruled_out;
 use headers::Stage;
 use json::Position;
 use json::member::Place;
 
 // The components between full stops, or that there are not exactly four full stops.
-pub enum Split {
+pub enum FullStops {
     Four(Components),
     Other,
 }
@@ -34,7 +40,7 @@ fn between(a: usize, b: usize) -> Place
 }
 
 // The components of a message.
-pub fn split(message: &[u8]) -> Split
+pub fn split(message: &[u8]) -> FullStops
     requires { ⌜ length (now message) ≤ 16777216 ⌝ }
     ensures { λ r. ⌜ r ≡ splitOf (now (message .entry)) ⌝ }
 {
@@ -45,12 +51,12 @@ pub fn split(message: &[u8]) -> Split
     let fourth = parts::seek(message, third + 1, 46);
     let last = parts::seek(message, fourth + 1, 46);
     if n <= fourth {
-        return Split::Other;
+        return FullStops::Other;
     }
     if last != n {
-        return Split::Other;
+        return FullStops::Other;
     }
-    Split::Four(Components {
+    FullStops::Four(Components {
         protected: Place {
             start: 0,
             len: first,
@@ -61,4 +67,106 @@ pub fn split(message: &[u8]) -> Split
         ciphertext: between(third, fourth),
         tag: between(fourth, n),
     })
+}
+
+// 5: whether a component is not base64url.
+pub fn misspelled(message: &[u8], q: Components) -> bool
+    ensures { λ r. ⌜ r ≡ any (misspelled (now (message .entry))) (places (componentsOf q)) ⌝ }
+{
+    if headers::misspelled(message, q.protected) {
+        return true;
+    }
+    if headers::misspelled(message, q.key) {
+        return true;
+    }
+    if headers::misspelled(message, q.iv) {
+        return true;
+    }
+    if headers::misspelled(message, q.aad) {
+        return true;
+    }
+    if headers::misspelled(message, q.ciphertext) {
+        return true;
+    }
+    headers::misspelled(message, q.tag)
+}
+
+// 8 and 9 on the decoded protected header: its parameters as entries at the start of the table, and how many they are.
+pub fn protected_entries(header: &[u8], table: &mut [u32]) -> Stage
+    requires { ⌜ length (now header) ≤ 16777216 ⌝ }
+    requires { ⌜ 256 ≤ length (now table) ⌝ }
+    ensures { λ r. ⌜ r ≡ stageOf (first (objectOrder (now (header .entry)) (protectedEntries (now (header .entry))))) (length (protectedEntries (now (header .entry)))) ⌝ }
+    ensures { λ _. ⌜ now (table .exit) ≡ collectedTable 0 (protectedEntries (now (header .entry))) (now (table .entry)) ⌝ }
+{
+    let list = jose::lists::REGISTERED;
+    let start = Position { at: 0 }.skip_space(header);
+    headers::object(header, start.at, 0, &list, table, 0)
+}
+
+// 6 to 19, on components that have passed 4 and 5.
+fn judge_header(
+    message: &[u8],
+    q: Components,
+    known: &[u8],
+    recipient: u32,
+    text: &mut [u8],
+    table: &mut [u32],
+) -> Judged
+    requires { ⌜ fourStops (now message) ≡ true ⌝ }
+    requires { ⌜ q ≡ codeComponents (compactComponents (now message)) ⌝ }
+    requires { ⌜ any (misspelled (now message)) (places (componentsOf q)) ≡ false ⌝ }
+    requires { ⌜ filled (now known) ≡ true ⌝ }
+    requires { ⌜ length (now text) ≡ 4096 ⌝ }
+    requires { ⌜ length (now table) ≡ 768 ⌝ }
+    ensures { λ r. ⌜ Judges (now (message .entry)) (compactOrder (now (message .entry)) (names (now (known .entry))) recipient) (compactOutcome (now (message .entry))) r (now (text .entry)) (now (text .exit)) (now (table .entry)) (now (table .exit)) ⌝ }
+{
+    let decoded = headers::header(message, q.protected, text);
+    let Stage::Passed(n) = decoded else {
+        return handed(decoded);
+    };
+    let collected = protected_entries(&text[..n], table);
+    let Stage::Passed(count) = collected else {
+        return handed(collected);
+    };
+    let judged = jose::judge::judge(&text[..n], message, known, table, count, q.key.len == 0);
+    let jose::judge::Judged::Mode(mode) = judged else {
+        return ruled_out(judged);
+    };
+    if 1 <= recipient {
+        return Judged::Refused(19);
+    }
+    Judged::Accepted(Result {
+        number: 0,
+        form: 0,
+        recipients: 1,
+        mode,
+        components: q,
+        header: n,
+        parameters: count,
+    })
+}
+
+// A compact message judged in document 01's order, from 4 on; `text` and `table` are room for the decoded header and for
+// its entries.
+pub fn judge(
+    message: &[u8],
+    known: &[u8],
+    recipient: u32,
+    text: &mut [u8],
+    table: &mut [u32],
+) -> Judged
+    requires { ⌜ length (now message) ≤ 16777216 ⌝ }
+    requires { ⌜ filled (now known) ≡ true ⌝ }
+    requires { ⌜ length (now text) ≡ 4096 ⌝ }
+    requires { ⌜ length (now table) ≡ 768 ⌝ }
+    ensures { λ r. ⌜ Judges (now (message .entry)) (compactOrder (now (message .entry)) (names (now (known .entry))) recipient) (compactOutcome (now (message .entry))) r (now (text .entry)) (now (text .exit)) (now (table .entry)) (now (table .exit)) ⌝ }
+{
+    let found = split(message);
+    let FullStops::Four(q) = found else {
+        return Judged::Refused(4);
+    };
+    if misspelled(message, q) {
+        return Judged::Refused(5);
+    }
+    judge_header(message, q, known, recipient, text, table)
 }

@@ -1,6 +1,6 @@
 // What judging a message answers.
 ghost use mathlib.Core.Path.{_≡_};
-ghost use Rattle.jwe.specs.Stages.{handedOf};
+ghost use Rattle.jwe.specs.Answers.{handed, ruledOut};
 use crate::Result;
 use headers::Stage;
 
@@ -9,11 +9,21 @@ pub enum Judged {
     Refused(u32),
 }
 
-// A stage's refusal, handed up.
+// The refusal of a stage, handed up unchanged.
 pub fn handed(stage: Stage) -> Judged
-    ensures { λ r. ⌜ r ≡ handedOf stage ⌝ }
+    ensures { λ r. ⌜ r ≡ handed stage ⌝ }
 {
     let Stage::Refused(n) = stage else {
+        return Judged::Refused(0);
+    };
+    Judged::Refused(n)
+}
+
+// That of the rules on a recipient, likewise.
+pub fn ruled_out(judged: jose::judge::Judged) -> Judged
+    ensures { λ r. ⌜ r ≡ ruledOut judged ⌝ }
+{
+    let jose::judge::Judged::Refused(n) = judged else {
         return Judged::Refused(0);
     };
     Judged::Refused(n)

@@ -1,10 +1,16 @@
 // The reader: from octets to an answer, by document 01's rules in document 01's order.
 ghost use mathlib.Core.Path.{_≡_};
+ghost use mathlib.Core.Bool.{true, cond};
+ghost use Prim.Native.Nat.{_≤_};
 ghost use lib.ListN.{length};
-ghost use Rattle.jwe.specs.Judge.{result, headerAfter, listAfter};
-ghost use Rattle.jwe.specs.Answers.{numbers};
-use judged::Judged;
+ghost use Rattle.names.specs.Names.{names, filled};
+ghost use Rattle.json.specs.Reader.{opensObject};
+ghost use Rattle.jwe.specs.Compact.{compactOrder};
+ghost use Rattle.jwe.specs.General.{jsonOrder};
+ghost use Rattle.jwe.specs.Judge.{outcome, result, refused, headerAfter, listAfter};
+ghost use Rattle.jwe.specs.Answers.{numbers, refusedBy, Judges};
 use json::member::Place;
+use judged::Judged;
 
 mod compact;
 mod general;
@@ -31,10 +37,63 @@ pub struct Result {
     pub parameters: usize,
 }
 
-// Reads a message for a recipient. `known` lists the extension names that the caller knows. Accepted, the header buffer begins
-// with the decoded protected header and the list with six numbers a parameter; both go on as they were. Refused, the
+// A refusal: its number with zeros.
+fn refused(n: u32) -> Result
+    ensures { λ r. ⌜ numbers r ≡ refused n ⌝ }
+{
+    let none = Place { start: 0, len: 0 };
+    Result {
+        number: n,
+        form: 0,
+        recipients: 0,
+        mode: 0,
+        components: Components {
+            protected: none,
+            key: none,
+            iv: none,
+            aad: none,
+            ciphertext: none,
+            tag: none,
+        },
+        header: 0,
+        parameters: 0,
+    }
+}
+
+// The refusal of a message, likewise.
+fn refusal(judged: Judged) -> Result
+    ensures { λ r. ⌜ numbers r ≡ refused (refusedBy judged) ⌝ }
+{
+    let Judged::Refused(n) = judged else {
+        return refused(0);
+    };
+    refused(n)
+}
+
+// A message judged in document 01's order, from 4 on: a JSON message where it opens an object, a compact one elsewhere.
+fn judge(message: &[u8], known: &[u8], recipient: u32, text: &mut [u8], table: &mut [u32]) -> Judged
+    requires { ⌜ length (now message) ≤ 16777216 ⌝ }
+    requires { ⌜ filled (now known) ≡ true ⌝ }
+    requires { ⌜ length (now text) ≡ 4096 ⌝ }
+    requires { ⌜ length (now table) ≡ 768 ⌝ }
+    ensures { λ r. ⌜ Judges (now (message .entry)) (cond (opensObject (now (message .entry))) (jsonOrder (now (message .entry)) (names (now (known .entry))) recipient) (compactOrder (now (message .entry)) (names (now (known .entry))) recipient)) (outcome (now (message .entry)) recipient) r (now (text .entry)) (now (text .exit)) (now (table .entry)) (now (table .exit)) ⌝ }
+{
+    if json::opens_object(message) {
+        return general::judge(message, known, recipient, text, table);
+    }
+    compact::judge(message, known, recipient, text, table)
+}
+
+// Reads a message for a recipient. `known` lists the extension names that the caller knows. Accepted, the header buffer
+// begins with the decoded protected header and the list with six numbers a parameter; both go on as they were. Refused, the
 // result is the refusal's number with zeros, and both are as they were.
-pub fn read(message: &[u8], known: &[u8], recipient: u32, header: &mut [u8], list: &mut [u32]) -> Result
+pub fn read(
+    message: &[u8],
+    known: &[u8],
+    recipient: u32,
+    header: &mut [u8],
+    list: &mut [u32],
+) -> Result
     ensures { λ r. ⌜ numbers r ≡ result (now (message .entry)) (now (known .entry)) recipient (length (now (header .entry))) (length (now (list .entry))) ⌝ }
     ensures { λ _. ⌜ now (header .exit) ≡ headerAfter (now (message .entry)) (now (known .entry)) recipient (now (header .entry)) (now (list .entry)) ⌝ }
     ensures { λ _. ⌜ now (list .exit) ≡ listAfter (now (message .entry)) (now (known .entry)) recipient (now (header .entry)) (now (list .entry)) ⌝ }

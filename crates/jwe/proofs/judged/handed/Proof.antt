@@ -1,6 +1,6 @@
--- `handed` keeps the refusal's number.
+-- `handed` gives the refusal that the answer holds.
 use mathlib.Core.Path.{ap, sym}
-use Rattle.jwe.specs.Stages.{handedOf}
+use Rattle.jwe.specs.Answers.{handed}
 use borrow.Author.Needs.{needs}
 use Rattle.jwe.proofs.judged.handed.Statement.{statement}
 use Rattle.jwe.proofs.judged.handed.Tie as tie
@@ -15,13 +15,7 @@ returns : tie.Need-returns
 returns c = search needs
 
 returns-2 : tie.Need-returns-2
-returns-2 c = ap handedOf (sym (c .before .stage .given .1))
+returns-2 c = ap handed (sym (c .before .stage .given .1))
 
 pub handed-spec : {M : Type 1} → statement M
-handed-spec =
-    tie.close
-    (tie.spec
-    enum-known-stage
-    enum-told
-    returns
-    returns-2)
+handed-spec = tie.close (tie.spec enum-known-stage enum-told returns returns-2)

@@ -1,0 +1,112 @@
+-- The first refusal of a compact message, stage by stage: that of the first stage that refuses.
+use mathlib.Core.Path.{_≡_, refl, ap, _∙_}
+use mathlib.Core.Bool.{Bool, true, false, not}
+use mathlib.Core.List.{List, [], _∷_, _++_}
+use Prim.Native.Nat.{ℕ, _≤_, _<_}
+use native.Mathlib.Omega.{arith}
+use lib.Dec.{eqb, leb}
+use borrow.Author.Tests.{le-leb, lt-leb}
+use Rattle.rows.specs.Any.{any}
+use Rattle.rows.specs.Rows.{Entry}
+use Rattle.jose.specs.Refusals.{Test, _if_, first}
+use Rattle.jose.specs.HeaderRules.{recipientOrder}
+use Rattle.jose.proofs.Refusals.{nonzero, first-fails, first-passes, first-skip, first-stop}
+use Rattle.headers.specs.Components.{places, misspelled}
+use Rattle.headers.specs.Headers.{headerText, textOrder, protectedEntries, objectOrder}
+use Rattle.headers.proofs.Stages.{text-nonzero, object-nonzero}
+use Rattle.jwe.specs.Compact.{fourStops, compactComponents, compactOrder}
+
+-- No rule has the number 0.
+pub rules-nonzero : (known : List (List ℕ)) (header message : List ℕ) (es : List Entry) (noKey : Bool) →
+    nonzero (recipientOrder known header message es noKey) ≡ true
+unfolding recipientOrder
+rules-nonzero known header message es noKey = refl
+
+-- A list of tests that refuses, and whatever tests behind it.
+stopped : (xs ys : List Test) → nonzero xs ≡ true → (n : ℕ) → first xs ≡ n → 0 < n → first (xs ++ ys) ≡ n
+stopped xs ys p n e h = first-stop xs ys p (λ z. omega (arith, z, e, h)) ∙ e
+
+-- The decoded protected header, and its parameters.
+
+abbrev pub header : List ℕ → List ℕ
+header message = headerText message (compactComponents message .protected)
+
+abbrev pub entries : List ℕ → List Entry
+entries message = protectedEntries (header message)
+
+module _ (message : List ℕ) (known : List (List ℕ)) (recipient : ℕ) where
+  -- Its stages.
+  abbrev texts : List Test
+  texts = textOrder (header message)
+
+  abbrev objects : List Test
+  objects = objectOrder (header message) (entries message)
+
+  abbrev pub rules : List Test
+  rules = recipientOrder known (header message) message (entries message) (eqb (compactComponents message .key .size) 0)
+
+  rules-numbers : nonzero rules ≡ true
+  rules-numbers =
+      rules-nonzero known (header message) message (entries message) (eqb (compactComponents message .key .size) 0)
+
+  abbrev last : List Test
+  last = 19 if leb 1 recipient ∷ []
+
+  pub first-4 : fourStops message ≡ false → first (compactOrder message known recipient) ≡ 4
+  unfolding compactOrder
+  first-4 e = first-fails (4 if not (fourStops message)) _ (ap not e)
+
+  module _ (four : fourStops message ≡ true) where
+    pub first-5 : any (misspelled message) (places (compactComponents message)) ≡ true →
+        first (compactOrder message known recipient) ≡ 5
+    unfolding compactOrder
+    first-5 e =
+        first-passes (4 if not (fourStops message)) _ (ap not four)
+        ∙ first-fails (5 if any (misspelled message) (places (compactComponents message))) _ e
+
+    module _ (spelled : any (misspelled message) (places (compactComponents message)) ≡ false) where
+      behind-5 : first (compactOrder message known recipient)
+          ≡ first (texts ++ (objects ++ (rules ++ last)))
+      unfolding compactOrder
+      behind-5 =
+          first-passes (4 if not (fourStops message)) _ (ap not four)
+          ∙ first-passes (5 if any (misspelled message) (places (compactComponents message))) _ spelled
+
+      pub first-text : (n : ℕ) → first texts ≡ n → 0 < n →
+          first (compactOrder message known recipient) ≡ n
+      first-text n e h =
+          behind-5
+          ∙ stopped texts (objects ++ (rules ++ last)) (text-nonzero (header message)) n e h
+
+      module _ (read : first texts ≡ 0) where
+        behind-7 : first (compactOrder message known recipient)
+            ≡ first (objects ++ (rules ++ last))
+        behind-7 =
+            behind-5
+            ∙ first-skip texts (objects ++ (rules ++ last)) (text-nonzero (header message)) read
+
+        pub first-object : (n : ℕ) → first objects ≡ n → 0 < n →
+            first (compactOrder message known recipient) ≡ n
+        first-object n e h =
+            behind-7 ∙ stopped objects (rules ++ last) (object-nonzero (header message) (entries message)) n e h
+
+        module _ (few : first objects ≡ 0) where
+          behind-9 : first (compactOrder message known recipient) ≡ first (rules ++ last)
+          behind-9 =
+              behind-7 ∙ first-skip objects (rules ++ last) (object-nonzero (header message) (entries message)) few
+
+          pub first-rule : (n : ℕ) → first rules ≡ n → 0 < n → first (compactOrder message known recipient) ≡ n
+          first-rule n e h =
+              behind-9 ∙ stopped rules last rules-numbers n e h
+
+          module _ (ruled : first rules ≡ 0) where
+            behind-18 : first (compactOrder message known recipient) ≡ first last
+            behind-18 =
+                behind-9 ∙ first-skip rules last rules-numbers ruled
+
+            pub first-19 : 1 ≤ recipient → first (compactOrder message known recipient) ≡ 19
+            first-19 h = behind-18 ∙ first-fails (19 if leb 1 recipient) [] (le-leb 1 recipient h)
+
+            pub first-none : recipient < 1 → first (compactOrder message known recipient) ≡ 0
+            unfolding first
+            first-none h = behind-18 ∙ first-passes (19 if leb 1 recipient) [] (lt-leb 1 recipient h)

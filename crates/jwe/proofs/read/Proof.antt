@@ -1,0 +1,206 @@
+-- `read` asks 1 to 3 and hands out what judging answers; what judging wrote to its own memory is copied out.
+use mathlib.Core.Path.{_≡_, refl, ap, sym, _∙_}
+use mathlib.Core.Bool.{true}
+use mathlib.Core.List.{List}
+use Prim.Native.Nat.{ℕ}
+use native.Mathlib.Omega.{arith}
+use lib.ListN.{length}
+use borrow.Author.Tests.{not-true, not-false}
+use Rattle.prelude.specs.Buffer.{written}
+use Rattle.names.specs.Names.{names, sound}
+use Rattle.names.proofs.Laws.{sound-filled}
+use Rattle.rows.specs.Rows.{Entry}
+use Rattle.rows.specs.Tables.{listed}
+use Rattle.jose.specs.Refusals.{first}
+use Rattle.jwe.specs.Judge.{refusal, refused, outcome}
+use Rattle.jwe.specs.Answers.{refusedBy}
+use Rattle.jwe.specs.declared.judged.Judged.{Judged}
+use Rattle.jwe.proofs.Reading.{judging, refused-told, accepted-told, Holds, holds}
+use Rattle.jwe.proofs.Reading.{answers-refused, answers-accepted}
+use Rattle.jwe.proofs.Reading.{refusal-header, refusal-list, refusal-long, refusal-names, refusal-judged}
+use borrow.Author.Needs.{needs}
+use Rattle.jwe.proofs.read.Statement.{statement}
+use Rattle.jwe.proofs.read.Tie as tie
+
+-- Back from behind `judge` to the start.
+abbrev start-of : tie.After-judge → tie.Start
+start-of c =
+    let asked = c .before .before .before .before .before .before .before in
+    asked .before .before .before .before .before
+
+-- the list of names is sound
+names-sound : (c : tie.After-judge) → sound (start-of c .args .known .now) ≡ true
+names-sound c = sym (c .before .before .before .before .sound .ensures) ∙ not-false _ (c .before .before .before .if4 .left)
+
+-- what is refused is what judging refuses
+judged-first : (c : tie.After-judge) →
+    let given = start-of c .args in
+    refusal (given .message .now) (given .known .now) (given .recipient) (length (given .header .now)) (length (given .list .now))
+    ≡ first (judging (given .message .now) (names (given .known .now)) (given .recipient))
+judged-first c =
+    let given = start-of c .args in
+    refusal-judged (given .message .now) (given .known .now) (given .recipient) (length (given .header .now)) (length (given .list .now))
+    (c .before .before .before .before .before .before .before .if1 .left) (c .before .before .before .before .before .before .if2 .left) (c .before .before .before .before .before .if3 .left) (names-sound c)
+
+-- what its own memory holds where it accepts
+held : (c : tie.After-known-told) →
+    let call = c .before .before .before .before .before in
+    let given = start-of call .args in
+    let a = c .before .judged .given .0 .0 in
+    Holds (outcome (given .message .now) (given .recipient)) (call .judge .last .1 .1 .1 .0)
+    (call .judge .last .1 .1 .1 .1 .0) (a .header) (a .parameters)
+held c =
+    let call = c .before .before .before .before .before in
+    let given = start-of call .args in
+    let k = accepted-told _ _ _ (call .judge .result) _ _ _ _ (call .judge .ensures) _ (c .before .judged .given .1) in
+    holds (given .message .now) _ _ _ _ _ _ (k .1) (k .2) (k .3) (search needs) (search needs)
+
+refused-requires : tie.Need-refused-requires
+refused-requires c κs = search needs
+
+returns : tie.Need-returns
+returns c =
+    let given = c .before .before .before .before .before .before .args in
+    answers-refused (given .message .now) (given .known .now) (given .recipient) (given .header .now) (given .list .now) 1
+    (refusal-header (given .message .now) (given .known .now) (given .recipient) (length (given .header .now)) (length (given .list .now)) (c .before .if1 .taken)) (omega arith)
+    (c .refused .result) (c .refused .ensures)
+
+refused-requires-2 : tie.Need-refused-requires-2
+refused-requires-2 c κs = search needs
+
+returns-2 : tie.Need-returns-2
+returns-2 c =
+    let given = c .before .before .before .before .before .before .before .args in
+    answers-refused (given .message .now) (given .known .now) (given .recipient) (given .header .now) (given .list .now) 1
+    (refusal-list (given .message .now) (given .known .now) (given .recipient) (length (given .header .now)) (length (given .list .now))
+    (c .before .before .if1 .left) (c .before .if2 .taken)) (omega arith)
+    (c .refused2 .result) (c .refused2 .ensures)
+
+refused-requires-3 : tie.Need-refused-requires-3
+refused-requires-3 c κs = search needs
+
+returns-3 : tie.Need-returns-3
+returns-3 c =
+    let given = c .before .before .before .before .before .before .before .before .args in
+    answers-refused (given .message .now) (given .known .now) (given .recipient) (given .header .now) (given .list .now) 2
+    (refusal-long (given .message .now) (given .known .now) (given .recipient) (length (given .header .now)) (length (given .list .now))
+    (c .before .before .before .if1 .left) (c .before .before .if2 .left) (c .before .if3 .taken)) (omega arith)
+    (c .refused3 .result) (c .refused3 .ensures)
+
+sound-requires : tie.Need-sound-requires
+sound-requires c κs = search needs
+
+refused-requires-4 : tie.Need-refused-requires-4
+refused-requires-4 c κs = search needs
+
+returns-4 : tie.Need-returns-4
+returns-4 c =
+    let given = c .before .before .before .before .before .before .before .before .before .before .args in
+    answers-refused (given .message .now) (given .known .now) (given .recipient) (given .header .now) (given .list .now) 3
+    (refusal-names (given .message .now) (given .known .now) (given .recipient) (length (given .header .now)) (length (given .list .now))
+    (c .before .before .before .before .before .if1 .left) (c .before .before .before .before .if2 .left) (c .before .before .before .if3 .left)
+    (sym (c .before .before .sound .ensures) ∙ not-true _ (c .before .if4 .taken))) (omega arith)
+    (c .refused4 .result) (c .refused4 .ensures)
+
+slice-aggregate-judge : tie.Need-slice-aggregate-judge
+slice-aggregate-judge c = search needs
+
+slice-aggregate-judge-2 : tie.Need-slice-aggregate-judge-2
+slice-aggregate-judge-2 c = search needs
+
+judge-requires : tie.Need-judge-requires
+judge-requires c κs = (
+  c .before .before .before .before .if3 .left,
+  (
+    sound-filled _ (sym (c .before .before .before .sound .ensures) ∙ not-false _ (c .before .before .if4 .left)),
+    (search needs, search needs),
+  ),
+)
+
+enum-known-judged : tie.Need-enum-known-judged
+enum-known-judged c = search needs
+
+enum-told : tie.Need-enum-told
+enum-told c = search needs
+
+refusal-requires : tie.Need-refusal-requires
+refusal-requires c κs = search needs
+
+returns-5 : tie.Need-returns-5
+returns-5 c =
+    let call = c .before .before .before .before .before in
+    let given = start-of call .args in
+    let told = c .before .enum-told .given in
+    let k = refused-told _ _ _ (call .judge .result) _ _ _ _ (call .judge .ensures) (told .0 .0) (told .1) in
+    answers-refused (given .message .now) (given .known .now) (given .recipient) (given .header .now) (given .list .now) (told .0 .0)
+    (judged-first call ∙ k .0) (k .1) (c .refusal .result)
+    (c .refusal .ensures ∙ ap (λ (j : Judged). refused (refusedBy j)) (told .1))
+
+array-share-prefix-text : tie.Need-array-share-prefix-text
+array-share-prefix-text c = omega (arith, held c .size, held c .within)
+
+slice-aggregate-copy-octets : tie.Need-slice-aggregate-copy-octets
+slice-aggregate-copy-octets c = let h = held (c .before) in h .size ∙ sym (ap length (h .front))
+
+copy-octets-requires : tie.Need-copy-octets-requires
+copy-octets-requires c κs =
+    let h = held (c .before .before) in
+    let call = c .before .before .before .before .before .before .before in
+    omega (arith, ap length (h .front), h .within, call .before .before .before .before .before .before .before .if1 .left)
+
+slice-aggregate-lay : tie.Need-slice-aggregate-lay
+slice-aggregate-lay c = search needs
+
+lay-requires : tie.Need-lay-requires
+lay-requires c κs =
+    let h = held (c .before .before .before .before .before .before .before) in
+    let call = c .before .before .before .before .before .before .before .before .before .before .before .before in
+    (omega (arith, h .few), omega (arith, h .few, call .before .before .before .before .before .before .if2 .left))
+
+same-length : tie.Need-same-length
+same-length c = search needs
+
+same-length-2 : tie.Need-same-length-2
+same-length-2 c = search needs
+
+returns-6 : tie.Need-returns-6
+returns-6 c =
+    let known = c .before .before .before .before .before .before .before .before .before .before in
+    let call = known .before .before .before .before .before in
+    let given = start-of call .args in
+    let h = held known in
+    let a = known .before .judged .given in
+    let k = accepted-told _ _ _ (call .judge .result) _ _ _ _ (call .judge .ensures) _ (a .1) in
+    answers-accepted (given .message .now) (given .known .now) (given .recipient) (given .header .now) (given .list .now)
+    (judged-first call ∙ k .0) (a .0 .0) (k .1) _ _
+    (c .before .before .before .before .before .before .before .copy-octets .ensures ∙ ap (λ (x : List ℕ). written 0 x (given .header .now)) (h .front))
+    (c .before .before .lay .ensures ∙ ap (λ (es : List Entry). written 0 (listed es) (given .list .now)) (h .entries))
+
+pub read-spec : {M : Type 1} → statement M
+read-spec =
+    tie.close
+    (tie.spec
+    refused-requires
+    returns
+    refused-requires-2
+    returns-2
+    refused-requires-3
+    returns-3
+    sound-requires
+    refused-requires-4
+    returns-4
+    slice-aggregate-judge
+    slice-aggregate-judge-2
+    judge-requires
+    enum-known-judged
+    enum-told
+    refusal-requires
+    returns-5
+    array-share-prefix-text
+    slice-aggregate-copy-octets
+    copy-octets-requires
+    slice-aggregate-lay
+    lay-requires
+    same-length
+    same-length-2
+    returns-6)
