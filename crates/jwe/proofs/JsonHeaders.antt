@@ -1,4 +1,5 @@
--- The headers of a JSON message: one that is absent has no text and no entry; the protected one, where it is there and has no
+-- The headers of a JSON message: one that is absent has no text and no entry; the protected one, where it is there and
+-- has no
 -- entry, passes 8 and 9, so that 10 may be asked after them.
 use mathlib.Core.Path.{_≡_, refl, ap, ap₂, sym, subst, _∙_}
 use mathlib.Core.Bool.{Bool, true, false, cond, _&&_, _||_, true≢false}
@@ -20,7 +21,8 @@ use Rattle.rows.specs.Tables.{flat, collectedTable}
 use Rattle.jose.specs.Registered.{registered}
 use Rattle.jose.specs.Refusals.{first}
 use Rattle.headers.specs.Components.{octetsAt, absent}
-use Rattle.headers.specs.Headers.{headerText, tooLong, textOrder, outermost, protectedEntries, membersOf, headerEntries, objectOrder}
+use Rattle.headers.specs.Headers.{headerText, tooLong, textOrder, outermost, protectedEntries, membersOf}
+use Rattle.headers.specs.Headers.{headerEntries, objectOrder}
 use Rattle.headers.specs.Answers.{stageOf, headerBuffer}
 use Rattle.headers.specs.declared.Stage.{Stage}
 use Rattle.headers.specs.declared.Stage.the-variants.{Passed, Refused}

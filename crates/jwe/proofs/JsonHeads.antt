@@ -80,8 +80,8 @@ laid form count mode q size parameters =
     ∷ count
     ∷ mode
     ∷ place (q .protected)
-      (place (q .key)
-      (place (q .iv) (place (q .aad) (place (q .ciphertext) (place (q .tag) (size ∷ parameters ∷ []))))))
+    (place (q .key)
+    (place (q .iv) (place (q .aad) (place (q .ciphertext) (place (q .tag) (size ∷ parameters ∷ []))))))
 
 pub result-is : (message : List ℕ) (x : Outcome) (form count mode : ℕ) (q : Components) (size parameters : ℕ) →
     form ≡ x .form → count ≡ x .recipients → mode ≡ modeIn (x .header) message (x .entries) →

@@ -1,4 +1,5 @@
--- The refusals of a JSON message, stage by stage: where a stage refuses, its number is the message's, and where it passes, what
+-- The refusals of a JSON message, stage by stage: where a stage refuses, its number is the message's, and where it
+-- passes, what
 -- comes behind it decides. No test has the number 0, so that stages can be put one behind the other.
 use mathlib.Core.Path.{_≡_, refl, ap, ap₂, sym, _∙_}
 use mathlib.Core.Bool.{Bool, true, false, cond}
@@ -15,11 +16,13 @@ use Rattle.jose.proofs.Refusals.{nonzero, nonzero-append, first-fails, first-pa
 use Rattle.headers.specs.Limits.{mostRecipients}
 use Rattle.headers.specs.Headers.{headerText, textOrder, outermost, protectedEntries, objectOrder}
 use Rattle.shape.specs.Shape.{protected, recipients, wrongElements, component, Recipient}
-use Rattle.shape.specs.Recipients.{topEntries, topOrder, elementsIn, elementOrder, elementsOrder, recipientsIn, componentsIn}
+use Rattle.shape.specs.Recipients.{topEntries, topOrder, elementsIn, elementOrder, elementsOrder, recipientsIn}
+use Rattle.shape.specs.Recipients.{componentsIn}
 use Rattle.jwe.specs.General.{sharedEntries, ownEntries, parameters, anyMisspelled, isHollow}
 use Rattle.jwe.specs.General.{protectedOrder, headersOrder, recipientsOrder, jsonOrder}
 use Rattle.jwe.specs.Judge.{Outcome, asked, jsonOutcome}
-use Rattle.jwe.specs.Stages.{textTests, protectedTests, ownTests, ruleTests, headedOrder, shapedOrder, headedOutcome, shapedOutcome}
+use Rattle.jwe.specs.Stages.{textTests, protectedTests, ownTests, ruleTests, headedOrder, shapedOrder}
+use Rattle.jwe.specs.Stages.{headedOutcome, shapedOutcome}
 
 -- A stage, and what comes behind it
 

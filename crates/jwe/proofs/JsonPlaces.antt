@@ -1,4 +1,5 @@
--- The places of components: a string's without its quotation marks, and all of a recipient's together; whether one of them is
+-- The places of components: a string's without its quotation marks, and all of a recipient's together; whether one of
+-- them is
 -- misspelled.
 use mathlib.Core.Path.{_≡_, refl, ap, ap₂, sym, _∙_}
 use mathlib.Core.Bool.{Bool, true, false, cond, _||_}

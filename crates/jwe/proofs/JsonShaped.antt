@@ -1,4 +1,5 @@
--- From the protected header on: what each header's stage tells, the entries of the protected and the shared header one behind the
+-- From the protected header on: what each header's stage tells, the entries of the protected and the shared header one
+-- behind the
 -- other, and the first refusal.
 use mathlib.Core.Path.{_≡_, refl, ap, ap₂, sym, subst, _∙_}
 use mathlib.Core.Bool.{Bool, true, false, cond}
@@ -18,7 +19,8 @@ use Rattle.rows.proofs.Entries.{entries-written, entries-more}
 use Rattle.rows.proofs.Printing.{entries-printed, printed-append}
 use Rattle.jose.specs.Registered.{registered}
 use Rattle.jose.specs.Refusals.{Test, first}
-use Rattle.headers.specs.Headers.{headerText, tooLong, unread, textOrder, outermost, protectedEntries, membersOf, headerEntries, objectOrder}
+use Rattle.headers.specs.Headers.{headerText, tooLong, unread, textOrder, outermost, protectedEntries, membersOf}
+use Rattle.headers.specs.Headers.{headerEntries, objectOrder}
 use Rattle.headers.specs.Answers.{stageOf, headerBuffer}
 use Rattle.headers.specs.declared.Stage.the-variants.{Passed}
 use Rattle.headers.proofs.Stages.{passed-is}
@@ -26,10 +28,12 @@ use Rattle.shape.specs.Shape.{protected, unprotected, component, Recipient}
 use Rattle.jwe.specs.General.{sharedEntries, isHollow}
 use Rattle.jwe.specs.Judge.{Outcome, accepted}
 use Rattle.jwe.specs.Answers.{numbers, Judges}
-use Rattle.jwe.specs.Stages.{textTests, protectedTests, headedOrder, shapedOrder, headedOutcome, shapedOutcome, Heads}
+use Rattle.jwe.specs.Stages.{textTests, protectedTests, headedOrder, shapedOrder, headedOutcome, shapedOutcome}
+use Rattle.jwe.specs.Stages.{Heads}
 use Rattle.jwe.specs.declared.judged.Judged.{Judged}
 use Rattle.jwe.specs.declared.judged.Judged.the-variants.{Accepted, Refused}
-use Rattle.jwe.proofs.JsonOrder.{stop, skip, text-nonzero, protected-nonzero, object-nonzero, shaped-is, outcome-is}
+use Rattle.jwe.proofs.JsonOrder.{stop, skip, text-nonzero, protected-nonzero, object-nonzero, shaped-is}
+use Rattle.jwe.proofs.JsonOrder.{outcome-is}
 use Rattle.jwe.proofs.JsonHeaders.{no-header, few}
 use Rattle.jwe.proofs.OwnHeaders.{few-collected}
 

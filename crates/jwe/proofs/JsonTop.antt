@@ -1,4 +1,5 @@
--- The top level and the recipients of a JSON message as they stand in their tables, and the answer by that of what comes behind.
+-- The top level and the recipients of a JSON message as they stand in their tables, and the answer by that of what
+-- comes behind.
 use mathlib.Core.Path.{_≡_, refl, ap, ap₂, sym, subst, _∙_}
 use mathlib.Core.Bool.{Bool, true, false, cond, _||_, true≢false}
 use mathlib.Core.List.{List, [], _∷_, _++_, map, flatMap}
@@ -21,7 +22,8 @@ use Rattle.headers.specs.Answers.{stageOf}
 use Rattle.headers.specs.declared.Stage.the-variants.{Passed}
 use Rattle.headers.proofs.Stages.{passed-is}
 use Rattle.shape.specs.Shape.{protected, recipients, component, wrongTop, wrongElements, Recipient, recipientOf}
-use Rattle.shape.specs.Recipients.{topEntries, topOrder, elementsIn, elementEntries, elementOrder, elementsOrder, recipientsIn}
+use Rattle.shape.specs.Recipients.{topEntries, topOrder, elementsIn, elementEntries, elementOrder, elementsOrder}
+use Rattle.shape.specs.Recipients.{recipientsIn}
 use Rattle.shape.specs.Answers.{flatRecipients}
 use Rattle.jwe.specs.General.{allPlaces, anyMisspelled, jsonOrder}
 use Rattle.jwe.specs.Judge.{Outcome, accepted, jsonOutcome}

@@ -14,7 +14,8 @@ use Rattle.prelude.specs.Buffer.{written}
 use Rattle.prelude.proofs.Writing.{written-length}
 use Rattle.rows.specs.Rows.{Entry}
 use Rattle.rows.specs.Tables.{flat, entriesOf, collectedTable}
-use Rattle.rows.proofs.Entries.{flat-of, flat-length, entries-length, entries-flat, entries-front, entries-written-from, entries-more}
+use Rattle.rows.proofs.Entries.{flat-of, flat-length, entries-length, entries-flat, entries-front}
+use Rattle.rows.proofs.Entries.{entries-written-from, entries-more}
 use Rattle.rows.specs.Prints.{Printed}
 use Rattle.rows.proofs.Printing.{entries-printed}
 use Rattle.jose.specs.Registered.{registered}

@@ -1,4 +1,5 @@
--- Recipients laid flat in a table, three numbers each, and read back; and loops over them: what is asked from a recipient on
+-- Recipients laid flat in a table, three numbers each, and read back; and loops over them: what is asked from a
+-- recipient on
 -- stays the answer of the whole, until one decides it or none is left.
 use mathlib.Core.Path.{_≡_, refl, ap, ap₂, sym, _∙_}
 use mathlib.Core.Bool.{Bool, true, false, _||_}

@@ -34,7 +34,8 @@ unfoldable pub recipientsOf : ℕ → List ℕ → List Recipient
 recipientsOf zero t = []
 recipientsOf (suc n) t = recipientAt t ∷ recipientsOf n (drop 3 t)
 
--- Their own headers, collected into a table 32 entries apart, with how many each has; k is below the number of recipients.
+-- Their own headers, collected into a table 32 entries apart, with how many each has; k is below the number of
+-- recipients.
 abbrev pub OwnAt : List ℕ → List ℕ → List ℕ → List ℕ → ℕ → Type 0
 OwnAt message of own counts k =
     (getD counts k 0 ≤ 32)
@@ -108,7 +109,6 @@ shapedOutcome message es rs recipient =
       header = header;
       entries = parameters header message es r;
     }
-
 
 -- As Answers' Judges, the header having been decoded before.
 abbrev pub Heads : List ℕ → List Test → Outcome → Judged → List ℕ → List ℕ → Type 0

@@ -1,4 +1,5 @@
-// The JSON serialization, general and flattened (RFC 7516, section 7.2). A table of entries holds eight numbers each, one of
+// The JSON serialization, general and flattened (RFC 7516, section 7.2). A table of entries holds eight numbers each,
+// one of
 // recipients three (where the own header stands, the key's start and length). What each function answers stands in
 // specs/Stages.
 ghost use mathlib.Core.Path.{_≡_};
@@ -120,7 +121,8 @@ fn decoded(message: &[u8], top: &[u32], count: usize, text: &mut [u8]) -> Stage
     headers::header(message, component(top, count, 1), text)
 }
 
-// 10 where the protected header is there and has no member; 8 and 9 on it: its parameters as entries of the table. Where it
+// 10 where the protected header is there and has no member; 8 and 9 on it: its parameters as entries of the table.
+// Where it
 // has none, 8 and 9 pass, so that 10 is asked after them.
 fn protected(header: &[u8], there: bool, table: &mut [u32]) -> Stage
     requires { ⌜ length (now header) ≤ 16777216 ⌝ }
@@ -142,7 +144,8 @@ fn protected(header: &[u8], there: bool, table: &mut [u32]) -> Stage
     Stage::Passed(count)
 }
 
-// 8 and 9 on a header that stands in the message, if its start is not 0: its parameters as entries of the table from the entry
+// 8 and 9 on a header that stands in the message, if its start is not 0: its parameters as entries of the table from
+// the entry
 // `from` on.
 fn unprotected(message: &[u8], start: usize, origin: u32, table: &mut [u32], from: usize) -> Stage
     requires { ⌜ length (now message) ≤ 16777216 ⌝ }
@@ -157,7 +160,8 @@ fn unprotected(message: &[u8], start: usize, origin: u32, table: &mut [u32], fro
     headers::object(message, start, origin, &list, table, from)
 }
 
-// 8 and 9 on each recipient's own header: its parameters as entries of a table, 32 entries apart, and how many they are.
+// 8 and 9 on each recipient's own header: its parameters as entries of a table, 32 entries apart, and how many they
+// are.
 fn own_headers(
     message: &[u8],
     of: &[usize],
@@ -252,7 +256,11 @@ fn form(top: &[u32], count: usize) -> u32
     requires { ⌜ count * 8 ≤ length (now top) ⌝ }
     ensures { λ r. ⌜ r ≡ cond (present 5 (entriesOf count (now (top .entry)))) 2 1 ⌝ }
 {
-    if rows::ask::present(top, count, 5) { 2 } else { 1 }
+    if rows::ask::present(top, count, 5) {
+        2
+    } else {
+        1
+    }
 }
 
 // The components that apply to a recipient.
@@ -271,7 +279,8 @@ fn components(top: &[u32], count: usize, of: &[usize], i: usize) -> Components
     }
 }
 
-// From the own headers on; the first entries of the working table are all recipients'. Accepted, the table begins with the
+// From the own headers on; the first entries of the working table are all recipients'. Accepted, the table begins with
+// the
 // entries of the asked recipient.
 fn headed(
     header: &[u8],
@@ -303,7 +312,17 @@ fn headed(
     let Stage::Passed(_) = collected else {
         return handed(collected);
     };
-    let ruled = rules(header, message, known, of, number, &own, &counts, work, front);
+    let ruled = rules(
+        header,
+        message,
+        known,
+        of,
+        number,
+        &own,
+        &counts,
+        work,
+        front,
+    );
     let Stage::Passed(_) = ruled else {
         return handed(ruled);
     };
@@ -361,11 +380,29 @@ fn shaped(
     let Stage::Passed(s) = shared else {
         return handed(shared);
     };
-    headed(&text[..h], message, known, recipient, top, count, of, number, &mut work, p + s, table)
+    headed(
+        &text[..h],
+        message,
+        known,
+        recipient,
+        top,
+        count,
+        of,
+        number,
+        &mut work,
+        p + s,
+        table,
+    )
 }
 
 // A JSON message judged for a recipient.
-pub fn judge(message: &[u8], known: &[u8], recipient: u32, text: &mut [u8], table: &mut [u32]) -> Judged
+pub fn judge(
+    message: &[u8],
+    known: &[u8],
+    recipient: u32,
+    text: &mut [u8],
+    table: &mut [u32],
+) -> Judged
     requires { ⌜ length (now message) ≤ 16777216 ⌝ }
     requires { ⌜ filled (now known) ≡ true ⌝ }
     requires { ⌜ length (now text) ≡ 4096 ⌝ }
@@ -385,5 +422,15 @@ pub fn judge(message: &[u8], known: &[u8], recipient: u32, text: &mut [u8], tabl
     if misspelled(message, &top, count, &of, number) {
         return Judged::Refused(5);
     }
-    shaped(message, known, recipient, &top, count, &of, number, text, table)
+    shaped(
+        message,
+        known,
+        recipient,
+        &top,
+        count,
+        &of,
+        number,
+        text,
+        table,
+    )
 }

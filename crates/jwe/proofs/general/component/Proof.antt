@@ -24,7 +24,8 @@ returns-2 : tie.Need-returns-2
 returns-2 c =
     let args = c .before .before .before .before .before .before .before .args in
     let value = c .before .before .before .before .before .value-of .ensures in
-    inner-some (valueOf (args .n) (entriesOf (args .count) (args .top .now))) (value .0) (value .1 .0) (c .before .before .before .if1 .left) 0
+    inner-some (valueOf (args .n) (entriesOf (args .count) (args .top .now))) (value .0) (value .1 .0) (c .before
+    .before .before .if1 .left) 0
     (omega (arith, c .before .if2 .taken))
 
 add-t7 : tie.Need-add-t7
@@ -37,7 +38,8 @@ returns-3 : tie.Need-returns-3
 returns-3 c =
     let args = c .before .before .before .before .before .before .before .before .args in
     let value = c .before .before .before .before .before .before .value-of .ensures in
-    inner-some (valueOf (args .n) (entriesOf (args .count) (args .top .now))) (value .0) (value .1 .0) (c .before .before .before .before .if1 .left) _
+    inner-some (valueOf (args .n) (entriesOf (args .count) (args .top .now))) (value .0) (value .1 .0) (c .before
+    .before .before .before .if1 .left) _
     refl
 
 pub component-spec : {M : Type 1} → statement M

@@ -26,7 +26,8 @@ component-requires-5 c κs = search needs
 returns : tie.Need-returns
 unfolding componentsIn
 returns c =
-    all-six (c .before .before .before .before .before .component .ensures) (c .before .before .before .before .key .ensures) (c .before .before .before .component2 .ensures) (c .before .before .component3 .ensures)
+    all-six (c .before .before .before .before .before .component .ensures) (c .before .before .before
+    .before .key .ensures) (c .before .before .before .component2 .ensures) (c .before .before .component3 .ensures)
     (c .before .component4 .ensures) (c .component5 .ensures)
 
 pub components-spec : {M : Type 1} → statement M

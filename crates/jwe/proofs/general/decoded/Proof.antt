@@ -43,7 +43,8 @@ returns-2 c =
     let header = headerText message (component 1 es) in
     let place = c .before .before .before .before .component .ensures in
     let call = c .before .before .header .ensures in
-    let there = sym (c .before .before .before .before .before .before .present .ensures) ∙ not-false _ (c .before .before .before .before .before .if1 .left) in (
+    let there = sym (c .before .before .before .before .before .before .present .ensures) ∙ not-false _ (c .before
+    .before .before .before .before .if1 .left) in (
       call .0
           ∙ ap (λ (q : Place). stageOf (first (textOrder (headerText message q))) (length (headerText message q))) place
           ∙ text-there es header there,

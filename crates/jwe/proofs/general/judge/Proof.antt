@@ -1,4 +1,5 @@
--- `judge` hands up the refusals of the top level, of the elements and of the components in their order; what stands in its
+-- `judge` hands up the refusals of the top level, of the elements and of the components in their order; what stands in
+-- its
 -- tables then is the message's members and recipients.
 use mathlib.Core.Path.{_≡_, refl, ap, sym, subst, _∙_}
 use Prim.Native.Nat.{ℕ, _*_, _≤_, _<_}
@@ -21,12 +22,14 @@ use Rattle.jwe.proofs.general.judge.Tie as tie
 
 -- where the top level passes
 tops : (c : tie.After-known-told) →
-    let message = c .before .before .before .before .before .before .before .before .before .before .args .message .now in
+    let message = c .before .before .before .before .before .before .before .before .before
+    .before .args .message .now in
     let n = c .before .members .given .0 .0 in
     (first (topOrder message) ≡ 0)
     × ((n ≤ 32) × (entriesOf n (c .before .before .before .before .top2 .last .1 .0) ≡ topEntries message))
 tops c =
-    let message = c .before .before .before .before .before .before .before .before .before .before .args .message .now in
+    let message = c .before .before .before .before .before .before .before .before .before
+    .before .args .message .now in
     let call = c .before .before .before .before .top2 in
     let told = c .before .members .given .1 in
     top-is message (replicate 256 0) (call .last .1 .0) _ (sym told ∙ call .ensures .0)
@@ -34,17 +37,22 @@ tops c =
 
 -- where the elements pass
 lists : (c : tie.After-known-told2) →
-    let message = c .before .before .before .before .before .before .before .before .before .before .before .before .before .before .before .before .before .args .message .now in
+    let message = c .before .before .before .before .before .before .before .before .before .before .before .before
+    .before .before .before .before .before .args .message .now in
     let es = topEntries message in
     let n = c .before .elements .given .0 .0 in
     (first (elementsOrder message es) ≡ 0)
-    × ((n ≤ 8) × (recipientsOf n (c .before .before .before .before .recipients .last .1 .1 .1 .0) ≡ recipientsIn message es))
+    × ((n ≤ 8) × (recipientsOf n (c .before .before .before
+    .before .recipients .last .1 .1 .1 .0) ≡ recipientsIn message es))
 lists c =
-    let message = c .before .before .before .before .before .before .before .before .before .before .before .before .before .before .before .before .before .args .message .now in
+    let message = c .before .before .before .before .before .before .before .before .before .before .before .before
+    .before .before .before .before .before .args .message .now in
     let call = c .before .before .before .before .recipients in
     let told = c .before .elements .given .1 in
-    let fs = entriesOf (c .before .before .before .before .before .before .before .before .members .given .0 .0) (c .before .before .before .before .before .before .before .before .before .before .before .top2 .last .1 .0) in
-    listed-is message (topEntries message) fs (tops (c .before .before .before .before .before .before .before) .1 .1) (replicate 24 0) (call .last .1 .1 .1 .0) _
+    let fs = entriesOf (c .before .before .before .before .before .before .before .before .members .given .0 .0) (c
+    .before .before .before .before .before .before .before .before .before .before .before .top2 .last .1 .0) in
+    listed-is message (topEntries message) fs (tops (c .before .before .before .before .before .before
+    .before) .1 .1) (replicate 24 0) (call .last .1 .1 .1 .0) _
     (sym told ∙ call .ensures .0)
     (subst (Leaves (flatRecipients (recipientsIn message fs)) (replicate 24 0) (call .last .1 .1 .1 .0)) told
     (call .ensures .1))
@@ -69,7 +77,8 @@ returns c =
     let args = c .before .before .before .before .before .before .before .before .before .before .args in
     let message = args .message .now in
     let refusal = c .before .enum-told .given .1 in
-    let told = refused-is _ (first (topOrder message)) (length (topEntries message)) (sym refusal ∙ c .before .before .before .before .top2 .ensures .0) in
+    let told = refused-is _ (first (topOrder message)) (length (topEntries message)) (sym refusal ∙ c .before
+    .before .before .before .top2 .ensures .0) in
     judges-refused message _ _ _ _ _ (c .handed .ensures) refusal
     (json-top message (names (args .known .now)) (args .recipient) (told .0) (told .1)) (told .1) (args .text .now)
     (args .text .now) (args .table .now) (args .table .now) refl refl
@@ -82,7 +91,19 @@ slice-aggregate-recipients-2 c = search needs
 
 recipients-requires : tie.Need-recipients-requires
 recipients-requires c κs =
-    let few = tops (c .before .before) .1 .0 in (c .before .before .before .before .before .before .before .before .before .before .before .before .pre .0, (omega (arith, few, c .before .before .before .before .before .before .top2 .kept .1 .0), omega arith))
+    let few = tops (c .before .before) .1 .0 in (
+      c .before .before .before .before .before .before .before .before
+          .before .before .before .before .pre .0,
+      (
+        omega (
+          arith,
+          few,
+          c .before .before .before .before .before
+              .before .top2 .kept .1 .0,
+        ),
+        omega arith,
+      ),
+    )
 
 enum-known-elements : tie.Need-enum-known-elements
 enum-known-elements c = search needs
@@ -95,11 +116,13 @@ handed-requires-2 c κs = search needs
 
 returns-2 : tie.Need-returns-2
 returns-2 c =
-    let args = c .before .before .before .before .before .before .before .before .before .before .before .before .before .before .before .before .before .args in
+    let args = c .before .before .before .before .before .before .before .before .before .before .before .before
+    .before .before .before .before .before .args in
     let message = args .message .now in
     let top = tops (c .before .before .before .before .before .before .before) in
     let refusal = c .before .enum-told2 .given .1 in
-    let fs = entriesOf (c .before .before .before .before .before .before .before .before .members .given .0 .0) (c .before .before .before .before .before .before .before .before .before .before .before .top2 .last .1 .0) in
+    let fs = entriesOf (c .before .before .before .before .before .before .before .before .members .given .0 .0) (c
+    .before .before .before .before .before .before .before .before .before .before .before .top2 .last .1 .0) in
     let told = refused-is _ (first (elementsOrder message fs)) (length (recipientsIn message fs))
     (sym refusal ∙ c .before .before .before .before .recipients .ensures .0) in
     judges-refused message _ _ _ _ _ (c .handed2 .ensures) refusal
@@ -116,16 +139,30 @@ slice-aggregate-misspelled-2 c = search needs
 misspelled-requires : tie.Need-misspelled-requires
 misspelled-requires c κs =
     let few = tops (c .before .before .before .before .before .before .before .before .before) .1 .0 in
-    let eight = lists (c .before .before) .1 .0 in
-    (omega (arith, few, c .before .before .before .before .before .before .before .before .before .before .before .before .before .top2 .kept .1 .0), omega (arith, eight, c .before .before .before .before .before .before .recipients .kept .1 .1 .1 .0))
+    let eight = lists (c .before .before) .1 .0 in (
+      omega (
+        arith,
+        few,
+        c .before .before .before .before .before .before .before .before .before .before .before
+            .before .before .top2 .kept .1 .0,
+      ),
+      omega (
+        arith,
+        eight,
+        c .before .before .before .before .before
+            .before .recipients .kept .1 .1 .1 .0,
+      ),
+    )
 
 returns-3 : tie.Need-returns-3
 returns-3 c =
-    let args = c .before .before .before .before .before .before .before .before .before .before .before .before .before .before .before .before .before .before .before .before .before .args in
+    let args = c .before .before .before .before .before .before .before .before .before .before .before .before
+    .before .before .before .before .before .before .before .before .before .args in
     let message = args .message .now in
     let top = tops (c .before .before .before .before .before .before .before .before .before .before .before) in
     let list = lists (c .before .before .before .before) in
-    let bad = sym (misspelled-as message (topEntries message) _ _ (top .1 .1) (list .1 .1)) ∙ sym (c .before .misspelled .ensures)
+    let bad = sym (misspelled-as message (topEntries message) _ _ (top .1 .1) (list .1 .1)) ∙ sym (c
+    .before .misspelled .ensures)
     ∙ c .if1 .taken in
     (json-misspelled message (names (args .known .now)) (args .recipient) (top .0) (list .0) bad, omega arith, refl, refl)
 
@@ -137,21 +174,34 @@ slice-aggregate-shaped-2 c = search needs
 
 shaped-requires : tie.Need-shaped-requires
 shaped-requires c κs =
-    let start = c .before .before .before .before .before .before .before .before .before .before .before .before .before .before .before .before .before .before .before .before .before .before .before .before .before in
+    let start = c .before .before .before .before .before .before .before .before .before .before .before .before
+    .before .before .before .before .before .before .before .before .before .before .before .before .before in
     let pre = start .pre in
     let message = start .args .message .now in
-    let few = tops (c .before .before .before .before .before .before .before .before .before .before .before .before .before .before .before) .1 .0 in
+    let few = tops (c .before .before .before .before .before .before .before .before .before .before .before
+    .before .before .before .before) .1 .0 in
     let eight = lists (c .before .before .before .before .before .before .before .before) .1 .0 in
-    let sound = sym (c .before .before .before .before .before .misspelled .ensures) ∙ c .before .before .before .before .if1 .left in (
+    let sound = sym (c .before .before .before .before .before .misspelled .ensures) ∙ c .before .before .before
+    .before .if1 .left in (
       pre .0,
       (
         pre .1 .0,
         (
-          omega (arith, few, c .before .before .before .before .before .before .before .before .before .before .before .before .before .before .before .before .before .before .before .top2 .kept .1 .0),
+          omega (
+            arith,
+            few,
+            c .before .before .before .before .before .before .before .before .before .before
+                .before .before .before .before .before .before .before .before .before .top2 .kept .1 .0,
+          ),
           (
             eight,
             (
-              omega (arith, eight, c .before .before .before .before .before .before .before .before .before .before .before .before .recipients .kept .1 .1 .1 .0),
+              omega (
+                arith,
+                eight,
+                c .before .before .before .before .before .before .before .before .before .before
+                    .before .before .recipients .kept .1 .1 .1 .0,
+              ),
               (protected-sound message _ _ sound, (pre .1 .1 .0, pre .1 .1 .1)),
             ),
           ),
@@ -167,15 +217,23 @@ same-length-2 c = search needs
 
 returns-4 : tie.Need-returns-4
 returns-4 c =
-    let args = c .before .before .before .before .before .before .before .before .before .before .before .before .before .before .before .before .before .before .before .before .before .before .before .before .before .before .before .before .before .before .args in
+    let args = c .before .before .before .before .before .before .before .before .before .before .before .before
+    .before .before .before .before .before .before .before .before .before .before .before .before .before
+    .before .before .before .before .before .args in
     let message = args .message .now in
-    let top = tops (c .before .before .before .before .before .before .before .before .before .before .before .before .before .before .before .before .before .before .before .before) in
-    let list = lists (c .before .before .before .before .before .before .before .before .before .before .before .before .before) in
+    let top = tops (c .before .before .before .before .before .before .before .before .before .before .before
+    .before .before .before .before .before .before .before .before .before) in
+    let list = lists (c .before .before .before .before .before .before .before .before .before .before .before
+    .before .before) in
     let fine = sym (misspelled-as message (topEntries message) _ _ (top .1 .1) (list .1 .1))
-    ∙ sym (c .before .before .before .before .before .before .before .before .before .before .misspelled .ensures) ∙ c .before .before .before .before .before .before .before .before .before .if1 .left in
-    judges-json message (names (args .known .now)) (args .recipient) (top .0) (list .0) fine (c .before .before .before .before .shaped .result) _ _
+    ∙ sym (c .before .before .before .before .before .before .before .before .before
+    .before .misspelled .ensures) ∙ c .before .before .before .before .before .before .before .before
+    .before .if1 .left in
+    judges-json message (names (args .known .now)) (args .recipient) (top .0) (list .0) fine (c .before .before
+    .before .before .shaped .result) _ _
     (args .text .now) (c .before .before .before .before .shaped .last .1 .1 .1 .1 .1 .1 .1 .0) (args .table .now)
-    (c .before .before .before .before .shaped .last .1 .1 .1 .1 .1 .1 .1 .1 .0) (top .1 .1) (list .1 .1) (c .before .before .before .before .shaped .ensures)
+    (c .before .before .before .before .shaped .last .1 .1 .1 .1 .1 .1 .1 .1 .0) (top .1 .1) (list .1 .1) (c .before
+    .before .before .before .shaped .ensures)
 
 pub judge-spec : {M : Type 1} → statement M
 judge-spec =

@@ -33,7 +33,8 @@ returns c =
     let args = c .before .before .before .before .before .before .before .args in
     let loop = c .before .before .before .before .loop in
     let bad = misspelled (args .message .now) in
-    key-found bad _ (args .number) (loop .i) (args .of .now) (loop .inv .1) (c .before .before .before .loop-test .taken)
+    key-found bad _ (args .number) (loop .i) (args .of .now) (loop .inv .1) (c .before .before
+    .before .loop-test .taken)
     (ap bad (sym (c .before .before .key .ensures)) ∙ sym (c .before .misspelled .ensures) ∙ c .if1 .taken)
 
 add-i : tie.Need-add-i Inv-loop μ-loop
@@ -48,7 +49,8 @@ loop-again c =
     let loop = c .before .before .before .before .loop in
     let bad = misspelled (args .message .now) in (
       omega arith,
-      key-turn bad _ (args .number) (loop .i) (args .of .now) (loop .inv .1) (c .before .before .before .loop-test .taken)
+      key-turn bad _ (args .number) (loop .i) (args .of .now) (loop .inv .1) (c .before .before
+          .before .loop-test .taken)
           (ap bad (sym (c .before .before .key .ensures)) ∙ sym (c .before .misspelled .ensures) ∙ c .if1 .left),
     )
 

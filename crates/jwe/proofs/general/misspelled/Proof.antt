@@ -39,7 +39,8 @@ returns-2 : tie.Need-returns-2
 unfolding allPlaces any
 returns-2 c =
     let message = c .before .before .before .before .before .before .before .before .before .args .message .now in
-    another (at message (c .before .before .before .before .before .component .ensures) (c .before .before .before .before .misspelled .ensures) (c .before .before .before .if1 .left))
+    another (at message (c .before .before .before .before .before .component .ensures) (c .before .before .before
+    .before .misspelled .ensures) (c .before .before .before .if1 .left))
     (this-one _ (at message (c .before .before .component2 .ensures) (c .before .misspelled2 .ensures) (c .if2 .taken)))
 
 component-requires-3 : tie.Need-component-requires-3
@@ -51,10 +52,15 @@ misspelled-requires-3 c κs = search needs
 returns-3 : tie.Need-returns-3
 unfolding allPlaces any
 returns-3 c =
-    let message = c .before .before .before .before .before .before .before .before .before .before .before .before .args .message .now in
-    another (at message (c .before .before .before .before .before .before .before .before .component .ensures) (c .before .before .before .before .before .before .before .misspelled .ensures) (c .before .before .before .before .before .before .if1 .left))
-    (another (at message (c .before .before .before .before .before .component2 .ensures) (c .before .before .before .before .misspelled2 .ensures) (c .before .before .before .if2 .left))
-    (this-one _ (at message (c .before .before .component3 .ensures) (c .before .misspelled3 .ensures) (c .if3 .taken))))
+    let message = c .before .before .before .before .before .before .before .before .before .before .before
+    .before .args .message .now in
+    another (at message (c .before .before .before .before .before .before .before .before .component .ensures) (c
+    .before .before .before .before .before .before .before .misspelled .ensures) (c .before .before .before
+    .before .before .before .if1 .left))
+    (another (at message (c .before .before .before .before .before .component2 .ensures) (c .before .before .before
+    .before .misspelled2 .ensures) (c .before .before .before .if2 .left))
+    (this-one _ (at message (c .before .before .component3 .ensures) (c
+    .before .misspelled3 .ensures) (c .if3 .taken))))
 
 component-requires-4 : tie.Need-component-requires-4
 component-requires-4 c κs = search needs
@@ -65,11 +71,19 @@ misspelled-requires-4 c κs = search needs
 returns-4 : tie.Need-returns-4
 unfolding allPlaces any
 returns-4 c =
-    let message = c .before .before .before .before .before .before .before .before .before .before .before .before .before .before .before .args .message .now in
-    another (at message (c .before .before .before .before .before .before .before .before .before .before .before .component .ensures) (c .before .before .before .before .before .before .before .before .before .before .misspelled .ensures) (c .before .before .before .before .before .before .before .before .before .if1 .left))
-    (another (at message (c .before .before .before .before .before .before .before .before .component2 .ensures) (c .before .before .before .before .before .before .before .misspelled2 .ensures) (c .before .before .before .before .before .before .if2 .left))
-    (another (at message (c .before .before .before .before .before .component3 .ensures) (c .before .before .before .before .misspelled3 .ensures) (c .before .before .before .if3 .left))
-    (this-one _ (at message (c .before .before .component4 .ensures) (c .before .misspelled4 .ensures) (c .if4 .taken)))))
+    let message = c .before .before .before .before .before .before .before .before .before .before .before .before
+    .before .before .before .args .message .now in
+    another (at message (c .before .before .before .before .before .before .before .before .before .before
+    .before .component .ensures) (c .before .before .before .before .before .before .before .before .before
+    .before .misspelled .ensures) (c .before .before .before .before .before .before .before .before
+    .before .if1 .left))
+    (another (at message (c .before .before .before .before .before .before .before .before .component2 .ensures) (c
+    .before .before .before .before .before .before .before .misspelled2 .ensures) (c .before .before .before
+    .before .before .before .if2 .left))
+    (another (at message (c .before .before .before .before .before .component3 .ensures) (c .before .before .before
+    .before .misspelled3 .ensures) (c .before .before .before .if3 .left))
+    (this-one _ (at message (c .before .before .component4 .ensures) (c
+    .before .misspelled4 .ensures) (c .if4 .taken)))))
 
 component-requires-5 : tie.Need-component-requires-5
 component-requires-5 c κs = search needs
@@ -80,25 +94,48 @@ misspelled-requires-5 c κs = search needs
 returns-5 : tie.Need-returns-5
 unfolding allPlaces any
 returns-5 c =
-    let message = c .before .before .before .before .before .before .before .before .before .before .before .before .before .before .before .before .before .before .args .message .now in
-    another (at message (c .before .before .before .before .before .before .before .before .before .before .before .before .before .before .component .ensures) (c .before .before .before .before .before .before .before .before .before .before .before .before .before .misspelled .ensures) (c .before .before .before .before .before .before .before .before .before .before .before .before .if1 .left))
-    (another (at message (c .before .before .before .before .before .before .before .before .before .before .before .component2 .ensures) (c .before .before .before .before .before .before .before .before .before .before .misspelled2 .ensures) (c .before .before .before .before .before .before .before .before .before .if2 .left))
-    (another (at message (c .before .before .before .before .before .before .before .before .component3 .ensures) (c .before .before .before .before .before .before .before .misspelled3 .ensures) (c .before .before .before .before .before .before .if3 .left))
-    (another (at message (c .before .before .before .before .before .component4 .ensures) (c .before .before .before .before .misspelled4 .ensures) (c .before .before .before .if4 .left))
-    (this-one _ (at message (c .before .before .component5 .ensures) (c .before .misspelled5 .ensures) (c .if5 .taken))))))
+    let message = c .before .before .before .before .before .before .before .before .before .before .before .before
+    .before .before .before .before .before .before .args .message .now in
+    another (at message (c .before .before .before .before .before .before .before .before .before .before .before
+    .before .before .before .component .ensures) (c .before .before .before .before .before .before .before
+    .before .before .before .before .before .before .misspelled .ensures) (c .before .before .before .before
+    .before .before .before .before .before .before .before .before .if1 .left))
+    (another (at message (c .before .before .before .before .before .before .before .before .before .before
+    .before .component2 .ensures) (c .before .before .before .before .before .before .before .before .before
+    .before .misspelled2 .ensures) (c .before .before .before .before .before .before .before .before
+    .before .if2 .left))
+    (another (at message (c .before .before .before .before .before .before .before .before .component3 .ensures) (c
+    .before .before .before .before .before .before .before .misspelled3 .ensures) (c .before .before .before
+    .before .before .before .if3 .left))
+    (another (at message (c .before .before .before .before .before .component4 .ensures) (c .before .before .before
+    .before .misspelled4 .ensures) (c .before .before .before .if4 .left))
+    (this-one _ (at message (c .before .before .component5 .ensures) (c
+    .before .misspelled5 .ensures) (c .if5 .taken))))))
 
 keys-misspelled-requires : tie.Need-keys-misspelled-requires
-keys-misspelled-requires c κs = c .before .before .before .before .before .before .before .before .before .before .before .before .before .before .before .before .before .before .pre .1
+keys-misspelled-requires c κs = c .before .before .before .before .before .before .before .before .before .before
+    .before .before .before .before .before .before .before .before .pre .1
 
 returns-6 : tie.Need-returns-6
 unfolding allPlaces any
 returns-6 c =
-    let message = c .before .before .before .before .before .before .before .before .before .before .before .before .before .before .before .before .before .before .before .args .message .now in
-    another (at message (c .before .before .before .before .before .before .before .before .before .before .before .before .before .before .before .component .ensures) (c .before .before .before .before .before .before .before .before .before .before .before .before .before .before .misspelled .ensures) (c .before .before .before .before .before .before .before .before .before .before .before .before .before .if1 .left))
-    (another (at message (c .before .before .before .before .before .before .before .before .before .before .before .before .component2 .ensures) (c .before .before .before .before .before .before .before .before .before .before .before .misspelled2 .ensures) (c .before .before .before .before .before .before .before .before .before .before .if2 .left))
-    (another (at message (c .before .before .before .before .before .before .before .before .before .component3 .ensures) (c .before .before .before .before .before .before .before .before .misspelled3 .ensures) (c .before .before .before .before .before .before .before .if3 .left))
-    (another (at message (c .before .before .before .before .before .before .component4 .ensures) (c .before .before .before .before .before .misspelled4 .ensures) (c .before .before .before .before .if4 .left))
-    (another (at message (c .before .before .before .component5 .ensures) (c .before .before .misspelled5 .ensures) (c .before .if5 .left))
+    let message = c .before .before .before .before .before .before .before .before .before .before .before .before
+    .before .before .before .before .before .before .before .args .message .now in
+    another (at message (c .before .before .before .before .before .before .before .before .before .before .before
+    .before .before .before .before .component .ensures) (c .before .before .before .before .before .before
+    .before .before .before .before .before .before .before .before .misspelled .ensures) (c .before .before
+    .before .before .before .before .before .before .before .before .before .before .before .if1 .left))
+    (another (at message (c .before .before .before .before .before .before .before .before .before .before .before
+    .before .component2 .ensures) (c .before .before .before .before .before .before .before .before .before
+    .before .before .misspelled2 .ensures) (c .before .before .before .before .before .before .before .before
+    .before .before .if2 .left))
+    (another (at message (c .before .before .before .before .before .before .before .before
+    .before .component3 .ensures) (c .before .before .before .before .before .before .before
+    .before .misspelled3 .ensures) (c .before .before .before .before .before .before .before .if3 .left))
+    (another (at message (c .before .before .before .before .before .before .component4 .ensures) (c .before .before
+    .before .before .before .misspelled4 .ensures) (c .before .before .before .before .if4 .left))
+    (another (at message (c .before .before .before .component5 .ensures) (c .before
+    .before .misspelled5 .ensures) (c .before .if5 .left))
     (c .keys-misspelled .ensures)))))
 
 pub misspelled-spec : {M : Type 1} → statement M

@@ -1,4 +1,5 @@
--- `own_headers` has the headers so far beside each other in its table; the refusals from the next one on are those of all.
+-- `own_headers` has the headers so far beside each other in its table; the refusals from the next one on are those of
+-- all.
 use Prim.Native.Nat.{ℕ, _+_, _-_, _*_, _≤_, _<_}
 use mathlib.Core.Path.{_≡_, refl, ap, ap₂, sym, subst, _∙_}
 use mathlib.Core.List.{List, flatMap}
@@ -39,9 +40,11 @@ abbrev μ-loop : tie.MeasureT-loop
 -- after the call: the answer is that of the recipient's own entries
 answered : (c : tie.After-unprotected Inv-loop μ-loop) →
     let args = c .before .before .before .before .before .before .before .before .before .args in
-    let es = ownEntries (args .message .now) (recipientAt (drop (c .before .before .before .before .loop .i * 3) (args .of .now))) in
+    let es = ownEntries (args .message .now) (recipientAt (drop (c .before .before .before
+    .before .loop .i * 3) (args .of .now))) in
     (c .unprotected .result ≡ stageOf (first (objectOrder (args .message .now) es)) (length es))
-    × (c .unprotected .last .1 .1 .1 .0 ≡ collectedTable (c .before .before .before .before .loop .i * 32) es (c .before .before .before .before .loop .own))
+    × (c .unprotected .last .1 .1 .1 .0 ≡ collectedTable (c .before .before .before .before .loop .i * 32) es (c
+    .before .before .before .before .loop .own))
 answered c =
     let args = c .before .before .before .before .before .before .before .before .before .args in
     let message = args .message .now in
@@ -49,7 +52,8 @@ answered c =
       c .unprotected .ensures .0
           ∙ ap (λ (es : List Entry). stageOf (first (objectOrder message es)) (length es)) same,
       c .unprotected .ensures .1
-          ∙ ap (λ (es : List Entry). collectedTable (c .before .before .before .before .loop .i * 32) es (c .before .before .before .before .loop .own)) same,
+          ∙ ap (λ (es : List Entry). collectedTable (c .before .before .before .before .loop .i * 32) es (c .before
+          .before .before .before .loop .own)) same,
     )
 
 loop-holds : tie.Need-loop-holds Inv-loop μ-loop
@@ -96,14 +100,16 @@ same-length-2 c = search needs
 
 returns : tie.Need-returns Inv-loop μ-loop
 returns c =
-    let args = c .before .before .before .before .before .before .before .before .before .before .before .before .before .args in
+    let args = c .before .before .before .before .before .before .before .before .before .before .before .before
+    .before .args in
     let message = args .message .now in
     let loop = c .before .before .before .before .before .before .before .before .loop in
     let said = answered (c .before .before .before .before) in
     let r = recipientAt (drop (loop .i * 3) (args .of .now)) in
     let told = refused-is _ (first (tests message r)) (length (ownEntries message r)) (sym (c .enum-told .given .1) ∙ said .0) in
     let all = one-refuses (tests message) (λ r. object-nonzero message (ownEntries message r)) _ (args .number) (loop .i)
-    (args .of .now) (loop .inv .1 .1 .1 .1) (c .before .before .before .before .before .before .before .loop-test .taken) (told .0) (told .1) in (
+    (args .of .now) (loop .inv .1 .1 .1 .1) (c .before .before .before .before .before .before
+    .before .loop-test .taken) (told .0) (told .1) in (
       c .enum-told .given .1 ∙ refuses (args .number) (told .1) ∙ ap (λ (n : ℕ). stageOf n (args .number)) (sym all),
       subst (LeavesOwn (args .number) message (args .of .now) _ _) (sym (c .enum-told .given .1)) tt,
     )
@@ -122,12 +128,14 @@ loop-less c = search needs
 
 loop-again : tie.Need-loop-again Inv-loop μ-loop
 loop-again c =
-    let args = c .before .before .before .before .before .before .before .before .before .before .before .before .before .before .args in
+    let args = c .before .before .before .before .before .before .before .before .before .before .before .before
+    .before .before .args in
     let message = args .message .now in
     let loop = c .before .before .before .before .before .before .before .before .before .loop in
     let said = answered (c .before .before .before .before .before) in
     let r = recipientAt (drop (loop .i * 3) (args .of .now)) in
-    let told = passed-is _ (first (tests message r)) (length (ownEntries message r)) (sym (c .before .object .given .1) ∙ said .0) in
+    let told = passed-is _ (first (tests message r)) (length (ownEntries message r)) (sym (c
+    .before .object .given .1) ∙ said .0) in
     let short = few message (ownEntries message r) (told .0) in
     let test = c .before .before .before .before .before .before .before .before .loop-test .taken in (
       omega arith,

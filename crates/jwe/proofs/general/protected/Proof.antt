@@ -25,7 +25,8 @@ slice-aggregate-object c = search needs
 
 object-requires : tie.Need-object-requires
 unfolding listOf registered ascii flatten
-object-requires c κs = let start = c .before .before .before .before .before in (start .pre .0, (filled-list registered, start .pre .1))
+object-requires c κs = let start = c .before .before .before .before
+    .before in (start .pre .0, (filled-list registered, start .pre .1))
 
 enum-known-object : tie.Need-enum-known-object
 enum-known-object c = search needs
@@ -54,12 +55,14 @@ same-length-2 c = search needs
 returns-2 : tie.Need-returns-2
 unfolding listOf registered ascii flatten
 returns-2 c =
-    let args = c .before .before .before .before .before .before .before .before .before .before .before .before .before .args in
+    let args = c .before .before .before .before .before .before .before .before .before .before .before .before
+    .before .args in
     let header = args .header .now in
     let call = c .before .before .before .before .before .before .before .object in
     let at = c .before .before .before .before .before .before .before .before .before .before .skip-space .ensures in
     let stage = protected-stage header (names-of registered) at (call .ensures .0) in (
-      protected-hollow header (args .there) _ (sym (c .before .before .before .object2 .given .1) ∙ stage) (c .before .if1 .taken) (c .if2 .taken),
+      protected-hollow header (args .there) _ (sym (c .before .before .before .object2 .given .1) ∙ stage) (c
+          .before .if1 .taken) (c .if2 .taken),
       protected-table header (names-of registered) at _ (args .table .now) (call .ensures .1),
     )
 
@@ -69,12 +72,14 @@ same-length-3 c = search needs
 returns-3 : tie.Need-returns-3
 unfolding listOf registered ascii flatten
 returns-3 c =
-    let args = c .before .before .before .before .before .before .before .before .before .before .before .before .before .args in
+    let args = c .before .before .before .before .before .before .before .before .before .before .before .before
+    .before .args in
     let header = args .header .now in
     let call = c .before .before .before .before .before .before .before .object in
     let at = c .before .before .before .before .before .before .before .before .before .before .skip-space .ensures in
     let stage = protected-stage header (names-of registered) at (call .ensures .0) in (
-      protected-passed header (args .there) _ (sym (c .before .before .before .object2 .given .1) ∙ stage) (c .if2 .left),
+      protected-passed header (args .there) _ (sym (c .before .before
+          .before .object2 .given .1) ∙ stage) (c .if2 .left),
       protected-table header (names-of registered) at _ (args .table .now) (call .ensures .1),
     )
 
@@ -84,7 +89,8 @@ same-length-4 c = search needs
 returns-4 : tie.Need-returns-4
 unfolding listOf registered ascii flatten
 returns-4 c =
-    let args = c .before .before .before .before .before .before .before .before .before .before .before .before .args in
+    let args = c .before .before .before .before .before .before .before .before .before .before .before
+    .before .args in
     let header = args .header .now in
     let call = c .before .before .before .before .before .before .object in
     let at = c .before .before .before .before .before .before .before .before .before .skip-space .ensures in

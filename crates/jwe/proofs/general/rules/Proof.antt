@@ -1,4 +1,5 @@
--- `rules` judges one recipient after the other: the refusals from the next one on are those of all, and the first entries of the
+-- `rules` judges one recipient after the other: the refusals from the next one on are those of all, and the first
+-- entries of the
 -- table stay.
 use Prim.Native.Nat.{ℕ, _+_, _-_, _*_, _≤_, _<_}
 use mathlib.Core.Path.{_≡_, refl, ap, ap₂, sym, subst, _∙_}
@@ -52,7 +53,8 @@ Inv-loop header message known of number own counts table₀ front i₀ table i =
 abbrev μ-loop : tie.MeasureT-loop
 μ-loop header message known of number own counts table₀ front i₀ table i = number - i
 
--- once the own entries are copied behind the others: what the table has, that they fit, that it is as long, and what stays
+-- once the own entries are copied behind the others: what the table has, that they fit, that it is as long, and what
+-- stays
 copied : (c : tie.After-gather Inv-loop μ-loop) →
     let args = c .before .before .before .before .before .before .before .before .before .before .before .args in
     let es = entriesOf (args .front) (args .table .now) in
@@ -88,19 +90,24 @@ copied c =
 
 -- once it is judged: by the recipient's own tests
 answered : (c : tie.After-judge Inv-loop μ-loop) →
-    let args = c .before .before .before .before .before .before .before .before .before .before .before .before .before .before .before .before .before .args in
+    let args = c .before .before .before .before .before .before .before .before .before .before .before .before
+    .before .before .before .before .before .args in
     let es = entriesOf (args .front) (args .table .now) in
-    let r = recipientAt (drop (c .before .before .before .before .before .before .before .before .before .loop .i * 3) (args .of .now)) in
+    let r = recipientAt (drop (c .before .before .before .before .before .before .before .before
+    .before .loop .i * 3) (args .of .now)) in
     let last = c .before .before .before .before .before .before .gather .last .1 .1 .1 .0 in
     c .judge .result
     ≡ judgedOf (first (tests (names (args .known .now)) (args .header .now) (args .message .now) es r))
-    (modeIn (args .header .now) (args .message .now) (entriesOf (c .before .before .before .before .before .before .gather .result) last))
+    (modeIn (args .header .now) (args .message .now) (entriesOf (c .before .before .before .before .before
+    .before .gather .result) last))
 answered c =
-    let args = c .before .before .before .before .before .before .before .before .before .before .before .before .before .before .before .before .before .args in
+    let args = c .before .before .before .before .before .before .before .before .before .before .before .before
+    .before .before .before .before .before .args in
     let known = names (args .known .now) in
     let header = args .header .now in
     let message = args .message .now in
-    let mode = modeIn header message (entriesOf (c .before .before .before .before .before .before .gather .result) (c .before .before .before .before .before .before .gather .last .1 .1 .1 .0)) in
+    let mode = modeIn header message (entriesOf (c .before .before .before .before .before
+    .before .gather .result) (c .before .before .before .before .before .before .gather .last .1 .1 .1 .0)) in
     c .judge .ensures
     ∙ ap₂ (λ (ps : List Entry) (b : Bool). judgedOf (first (recipientOrder known header message ps b)) mode)
     (copied (c .before .before .before .before .before .before) .0)
@@ -127,11 +134,13 @@ key-requires c κs = search needs
 
 judge-requires : tie.Need-judge-requires Inv-loop μ-loop
 judge-requires c κs =
-    let start = c .before .before .before .before .before .before .before .before .before .before .before .before .before .before .before .before in
+    let start = c .before .before .before .before .before .before .before .before .before .before .before .before
+    .before .before .before .before in
     let args = start .args in
     let header = args .header .now in
     let message = args .message .now in
-    let r = recipientAt (drop (c .before .before .before .before .before .before .before .before .loop .i * 3) (args .of .now)) in
+    let r = recipientAt (drop (c .before .before .before .before .before .before .before
+    .before .loop .i * 3) (args .of .now)) in
     let has = copied (c .before .before .before .before .before) in (
       start .pre .0,
       (
@@ -156,17 +165,21 @@ same-length c = copied (c .before .before .before .before .before .before .befor
 
 returns : tie.Need-returns Inv-loop μ-loop
 returns c =
-    let args = c .before .before .before .before .before .before .before .before .before .before .before .before .before .before .before .before .before .before .before .before .args in
+    let args = c .before .before .before .before .before .before .before .before .before .before .before .before
+    .before .before .before .before .before .before .before .before .args in
     let known = names (args .known .now) in
     let header = args .header .now in
     let message = args .message .now in
     let es = entriesOf (args .front) (args .table .now) in
-    let loop = c .before .before .before .before .before .before .before .before .before .before .before .before .loop in
+    let loop = c .before .before .before .before .before .before .before .before .before .before .before
+    .before .loop in
     let r = recipientAt (drop (loop .i * 3) (args .of .now)) in
     let refusal = c .before .enum-told2 .given .1 in
-    let told = rule-refused _ (first (tests known header message es r)) _ (sym refusal ∙ answered (c .before .before .before)) in
+    let told = rule-refused _ (first (tests known header message es r)) _ (sym refusal ∙ answered (c .before .before
+    .before)) in
     let all = one-refuses (tests known header message es) (sound known header message es) _ (args .number) (loop .i)
-    (args .of .now) (loop .inv .1 .1 .1) (c .before .before .before .before .before .before .before .before .before .before .before .loop-test .taken) (told .0) (told .1) in (
+    (args .of .now) (loop .inv .1 .1 .1) (c .before .before .before .before .before .before .before .before .before
+    .before .before .loop-test .taken) (told .0) (told .1) in (
       c .refused .ensures ∙ ap refusedOf refusal ∙ refuses (args .number) (told .1)
           ∙ ap (λ (n : ℕ). stageOf n (args .number)) (sym all),
       copied (c .before .before .before .before .before .before .before .before .before) .1 .1 .1,
@@ -180,7 +193,8 @@ loop-less c = search needs
 
 loop-again : tie.Need-loop-again Inv-loop μ-loop
 loop-again c =
-    let args = c .before .before .before .before .before .before .before .before .before .before .before .before .before .before .before .before .before .before .before .args in
+    let args = c .before .before .before .before .before .before .before .before .before .before .before .before
+    .before .before .before .before .before .before .before .args in
     let known = names (args .known .now) in
     let header = args .header .now in
     let message = args .message .now in
@@ -188,14 +202,16 @@ loop-again c =
     let loop = c .before .before .before .before .before .before .before .before .before .before .before .loop in
     let r = recipientAt (drop (loop .i * 3) (args .of .now)) in
     let has = copied (c .before .before .before .before .before .before .before .before) in
-    let passed = mode-is _ (first (tests known header message es r)) _ (sym (c .enum-told .given .1) ∙ answered (c .before .before)) in (
+    let passed = mode-is _ (first (tests known header message es r)) _ (sym (c .enum-told .given .1) ∙ answered (c
+    .before .before)) in (
       omega arith,
       (
         has .1 .1 .0,
         (
           has .1 .1 .1,
           one-passes (tests known header message es) (sound known header message es) _ (args .number) (loop .i)
-              (args .of .now) (loop .inv .1 .1 .1) (c .before .before .before .before .before .before .before .before .before .before .loop-test .taken) passed,
+              (args .of .now) (loop .inv .1 .1 .1) (c .before .before .before .before .before .before .before
+              .before .before .before .loop-test .taken) passed,
         ),
       ),
     )

@@ -1,4 +1,5 @@
--- `shaped` hands up the refusals of the headers in their order; where all pass, the working table begins with the entries of the
+-- `shaped` hands up the refusals of the headers in their order; where all pass, the working table begins with the
+-- entries of the
 -- protected and the shared header, and what comes behind answers.
 use mathlib.Core.Path.{_≡_, refl, ap, sym, subst, _∙_}
 use mathlib.Core.List.{List, _++_}
@@ -16,61 +17,80 @@ use Rattle.headers.proofs.Stages.{passed-is, refused-is}
 use Rattle.jwe.specs.General.{sharedEntries}
 use Rattle.jwe.specs.Stages.{recipientsOf, textTests, protectedTests}
 use Rattle.jwe.proofs.JsonHeads.{judges-refused}
-use Rattle.jwe.proofs.JsonShaped.{Begun, begun, Collected, protected-as, protected-collected, shared-as, shared-collected}
-use Rattle.jwe.proofs.JsonShaped.{text, behind, front-printed, shaped-text, shaped-protected, shaped-shared, shaped-rest, judges}
+use Rattle.jwe.proofs.JsonShaped.{Begun, begun, Collected, protected-as, protected-collected, shared-as}
+use Rattle.jwe.proofs.JsonShaped.{shared-collected}
+use Rattle.jwe.proofs.JsonShaped.{text, behind, front-printed, shaped-text, shaped-protected, shaped-shared}
+use Rattle.jwe.proofs.JsonShaped.{shaped-rest, judges}
 use borrow.Author.Needs.{needs}
 use Rattle.jwe.proofs.general.shaped.Statement.{statement}
 use Rattle.jwe.proofs.general.shaped.Tie as tie
 
 -- where the header is decoded
 decodes : (c : tie.After-known-told) →
-    let args = c .before .before .before .before .before .before .before .before .before .before .before .before .before .args in
+    let args = c .before .before .before .before .before .before .before .before .before .before .before .before
+    .before .args in
     let es = entriesOf (args .count) (args .top .now) in
     let header = text (args .message .now) es in
     (first (textTests (present 1 es) header) ≡ 0)
-    × Begun header (args .text .now) (c .before .before .before .before .before .decoded .last .1 .1 .1 .0) (c .before .header .given .0 .0)
+    × Begun header (args .text .now) (c .before .before .before .before .before .decoded .last .1 .1 .1 .0) (c
+    .before .header .given .0 .0)
 decodes c =
-    let start = c .before .before .before .before .before .before .before .before .before .before .before .before .before in
+    let start = c .before .before .before .before .before .before .before .before .before .before .before .before
+    .before in
     let args = start .args in
     let message = args .message .now in
     let es = entriesOf (args .count) (args .top .now) in
     let answer = sym (c .before .header .given .1) ∙ c .before .before .before .before .before .decoded .ensures .0 in (
       passed-is _ (first (textTests (present 1 es) (text message es))) (length (text message es)) answer .0,
-      begun message es (args .text .now) _ _ answer (c .before .before .before .before .before .decoded .ensures .1) (start .pre .1 .1 .1 .1 .1 .1 .0),
+      begun message es (args .text .now) _ _ answer (c .before .before .before .before
+          .before .decoded .ensures .1) (start .pre .1 .1 .1 .1 .1 .1 .0),
     )
 
 -- where its entries are collected
 collects : (c : tie.After-known-told2) →
-    let args = c .before .before .before .before .before .before .before .before .before .before .before .before .before .before .before .before .before .before .before .before .before .args in
+    let args = c .before .before .before .before .before .before .before .before .before .before .before .before
+    .before .before .before .before .before .before .before .before .before .args in
     let es = entriesOf (args .count) (args .top .now) in
     let header = text (args .message .now) es in
     (first (protectedTests (present 1 es) header) ≡ 0)
-    × Collected (protectedEntries header) 0 (replicate 768 0) (c .before .before .before .before .protected .last .1 .1 .0) (c .before .own .given .0 .0)
+    × Collected (protectedEntries header) 0 (replicate 768 0) (c .before .before .before
+    .before .protected .last .1 .1 .0) (c .before .own .given .0 .0)
 collects c =
-    let args = c .before .before .before .before .before .before .before .before .before .before .before .before .before .before .before .before .before .before .before .before .before .args in
+    let args = c .before .before .before .before .before .before .before .before .before .before .before .before
+    .before .before .before .before .before .before .before .before .before .args in
     let es = entriesOf (args .count) (args .top .now) in
     let call = c .before .before .before .before .protected .ensures in
-    protected-collected (text (args .message .now) es) (present 1 es) _ _ (decodes (c .before .before .before .before .before .before .before .before) .1 .front)
-    (c .before .before .before .before .before .before .present .ensures) _ _ _ (sym (c .before .own .given .1) ∙ call .0) (call .1)
+    protected-collected (text (args .message .now) es) (present 1 es) _ _ (decodes (c .before .before .before
+    .before .before .before .before .before) .1 .front)
+    (c .before .before .before .before .before .before .present .ensures) _ _ _ (sym (c
+    .before .own .given .1) ∙ call .0) (call .1)
 
 -- where the shared header's are collected too: that it passes, how many there are, the table's length and its entries
 gathers : (c : tie.After-known-told3) →
-    let args = c .before .before .before .before .before .before .before .before .before .before .before .before .before .before .before .before .before .before .before .before .before .before .before .before .before .before .before .before .args in
+    let args = c .before .before .before .before .before .before .before .before .before .before .before .before
+    .before .before .before .before .before .before .before .before .before .before .before .before .before
+    .before .before .before .args in
     let message = args .message .now in
     let es = entriesOf (args .count) (args .top .now) in
-    let n = c .before .before .before .before .before .before .before .before .own .given .0 .0 + c .before .shared .given .0 .0 in
+    let n = c .before .before .before .before .before .before .before .before .own .given .0 .0 + c
+    .before .shared .given .0 .0 in
     let last = c .before .before .before .before .unprotected .last .1 .1 .1 .0 in
     (first (objectOrder message (sharedEntries message es)) ≡ 0)
     × ((n ≤ 64)
     × ((length last ≡ 768) × (entriesOf n last ≡ protectedEntries (text message es) ++ sharedEntries message es)))
 gathers c =
-    let args = c .before .before .before .before .before .before .before .before .before .before .before .before .before .before .before .before .before .before .before .before .before .before .before .before .before .before .before .before .args in
+    let args = c .before .before .before .before .before .before .before .before .before .before .before .before
+    .before .before .before .before .before .before .before .before .before .before .before .before .before
+    .before .before .before .args in
     let es = entriesOf (args .count) (args .top .now) in
     let call = c .before .before .before .before .unprotected in
     let own = collects (c .before .before .before .before .before .before .before) in
-    let shared = shared-collected (args .message .now) es _ (c .before .before .before .before .before .before .value-of .ensures .0) _ _ _ _
+    let shared = shared-collected (args .message .now) es _ (c .before .before .before .before .before
+    .before .value-of .ensures .0) _ _ _ _
     (sym (c .before .shared .given .1) ∙ call .ensures .0) (call .ensures .1) in
-    let long : length (c .before .before .before .before .before .before .before .before .before .before .before .protected .last .1 .1 .0) ≡ 768 = c .before .before .before .before .before .before .before .before .before .before .before .protected .kept .1 .1 .0 in (
+    let long : length (c .before .before .before .before .before .before .before .before .before .before
+    .before .protected .last .1 .1 .0) ≡ 768 = c .before .before .before .before .before .before .before .before
+    .before .before .before .protected .kept .1 .1 .0 in (
       shared .0,
       (
         omega (arith, own .1 .short, shared .1 .short),
@@ -80,7 +100,8 @@ gathers c =
 
 decoded-requires : tie.Need-decoded-requires
 decoded-requires c κs =
-    let pre = c .before .before .before .before .before .before .before .pre in (pre .1 .1 .0, (pre .1 .1 .1 .1 .1 .0, pre .1 .1 .1 .1 .1 .1 .0))
+    let pre = c .before .before .before .before .before .before
+    .before .pre in (pre .1 .1 .0, (pre .1 .1 .1 .1 .1 .0, pre .1 .1 .1 .1 .1 .1 .0))
 
 enum-known-header : tie.Need-enum-known-header
 enum-known-header c = search needs
@@ -96,7 +117,8 @@ same-length c = search needs
 
 returns : tie.Need-returns
 returns c =
-    let args = c .before .before .before .before .before .before .before .before .before .before .before .before .before .args in
+    let args = c .before .before .before .before .before .before .before .before .before .before .before .before
+    .before .args in
     let message = args .message .now in
     let es = entriesOf (args .count) (args .top .now) in
     let rs = recipientsOf (args .number) (args .of .now) in
@@ -120,7 +142,8 @@ slice-aggregate-protected-2 : tie.Need-slice-aggregate-protected-2
 slice-aggregate-protected-2 c = search needs
 
 protected-requires : tie.Need-protected-requires
-protected-requires c κs = let b = decodes (c .before .before .before) .1 in (omega (arith, ap length (b .front), b .small), omega arith)
+protected-requires c κs = let b = decodes (c .before .before
+    .before) .1 in (omega (arith, ap length (b .front), b .small), omega arith)
 
 enum-known-own : tie.Need-enum-known-own
 enum-known-own c = search needs
@@ -136,7 +159,8 @@ same-length-2 c = search needs
 
 returns-2 : tie.Need-returns-2
 returns-2 c =
-    let args = c .before .before .before .before .before .before .before .before .before .before .before .before .before .before .before .before .before .before .before .before .before .args in
+    let args = c .before .before .before .before .before .before .before .before .before .before .before .before
+    .before .before .before .before .before .before .before .before .before .args in
     let message = args .message .now in
     let es = entriesOf (args .count) (args .top .now) in
     let rs = recipientsOf (args .number) (args .of .now) in
@@ -145,10 +169,12 @@ returns-2 c =
     let refusal = c .before .enum-told2 .given .1 in
     let told = refused-is _ (first (protectedTests (present 1 es) header)) (length (protectedEntries header))
     (sym refusal ∙ c .before .before .before .before .protected .ensures .0
-    ∙ protected-as header (present 1 es) _ _ (text-is .1 .front) (c .before .before .before .before .before .before .present .ensures)) in
+    ∙ protected-as header (present 1 es) _ _ (text-is .1 .front) (c .before .before .before .before .before
+    .before .present .ensures)) in
     judges-refused message _ _ _ _ _ (c .handed2 .ensures) refusal
     (shaped-protected (names (args .known .now)) message es rs (args .recipient) (text-is .0) (told .0) (told .1)) (told .1)
-    (args .text .now) _ (args .table .now) _ (c .before .before .before .before .before .before .before .before .before .before .before .before .before .decoded .kept .1 .1 .1 .0) refl
+    (args .text .now) _ (args .table .now) _ (c .before .before .before .before .before .before .before .before
+    .before .before .before .before .before .decoded .kept .1 .1 .1 .0) refl
 
 value-of-requires : tie.Need-value-of-requires
 value-of-requires c κs = search needs
@@ -158,9 +184,17 @@ slice-aggregate-unprotected c = search needs
 
 unprotected-requires : tie.Need-unprotected-requires
 unprotected-requires c κs =
-    let start = c .before .before .before .before .before .before .before .before .before .before .before .before .before .before .before .before .before .before .before .before .before .before .before in
-    let has = collects (c .before .before) .1 in
-    (start .pre .0, omega (arith, has .short, c .before .before .before .before .before .before .protected .kept .1 .1 .0))
+    let start = c .before .before .before .before .before .before .before .before .before .before .before .before
+    .before .before .before .before .before .before .before .before .before .before .before in
+    let has = collects (c .before .before) .1 in (
+      start .pre .0,
+      omega (
+        arith,
+        has .short,
+        c .before .before .before .before .before
+            .before .protected .kept .1 .1 .0,
+      ),
+    )
 
 enum-known-shared : tie.Need-enum-known-shared
 enum-known-shared c = search needs
@@ -176,23 +210,32 @@ same-length-3 c = search needs
 
 returns-3 : tie.Need-returns-3
 returns-3 c =
-    let args = c .before .before .before .before .before .before .before .before .before .before .before .before .before .before .before .before .before .before .before .before .before .before .before .before .before .before .before .before .args in
+    let args = c .before .before .before .before .before .before .before .before .before .before .before .before
+    .before .before .before .before .before .before .before .before .before .before .before .before .before
+    .before .before .before .args in
     let message = args .message .now in
     let es = entriesOf (args .count) (args .top .now) in
     let rs = recipientsOf (args .number) (args .of .now) in
     let refusal = c .before .enum-told3 .given .1 in
     let told = refused-is _ (first (objectOrder message (sharedEntries message es))) (length (sharedEntries message es))
-    (sym refusal ∙ c .before .before .before .before .unprotected .ensures .0 ∙ shared-as message es _ (c .before .before .before .before .before .before .value-of .ensures .0)) in
+    (sym refusal ∙ c .before .before .before .before .unprotected .ensures .0 ∙ shared-as message es _ (c .before
+    .before .before .before .before .before .value-of .ensures .0)) in
     judges-refused message _ _ _ _ _ (c .handed3 .ensures) refusal
-    (shaped-shared (names (args .known .now)) message es rs (args .recipient) (decodes (c .before .before .before .before .before .before .before .before .before .before .before .before .before .before .before) .0) (collects (c .before .before .before .before .before .before .before) .0)
+    (shaped-shared (names (args .known .now)) message es rs (args .recipient) (decodes (c .before .before .before
+    .before .before .before .before .before .before .before .before .before .before .before
+    .before) .0) (collects (c .before .before .before .before .before .before .before) .0)
     (told .0) (told .1))
-    (told .1) (args .text .now) _ (args .table .now) _ (c .before .before .before .before .before .before .before .before .before .before .before .before .before .before .before .before .before .before .before .before .decoded .kept .1 .1 .1 .0) refl
+    (told .1) (args .text .now) _ (args .table .now) _ (c .before .before .before .before .before .before .before
+    .before .before .before .before .before .before .before .before .before .before .before .before
+    .before .decoded .kept .1 .1 .1 .0) refl
 
 slice-reshare-prefix-headed : tie.Need-slice-reshare-prefix-headed
-slice-reshare-prefix-headed c = decodes (c .before .before .before .before .before .before .before .before .before .before .before .before .before .before .before) .1 .fits
+slice-reshare-prefix-headed c = decodes (c .before .before .before .before .before .before .before .before .before
+    .before .before .before .before .before .before) .1 .fits
 
 slice-aggregate-headed : tie.Need-slice-aggregate-headed
-slice-aggregate-headed c = sym (length-take-le _ _ (decodes (c .before .before .before .before .before .before .before .before .before .before .before .before .before .before .before .before) .1 .fits))
+slice-aggregate-headed c = sym (length-take-le _ _ (decodes (c .before .before .before .before .before .before
+    .before .before .before .before .before .before .before .before .before .before) .1 .fits))
 
 slice-aggregate-headed-2 : tie.Need-slice-aggregate-headed-2
 slice-aggregate-headed-2 c = search needs
@@ -202,7 +245,9 @@ add-headed c = let has = gathers (c .before .before) in omega (arith, has .1 .0)
 
 headed-requires : tie.Need-headed-requires
 headed-requires c κs =
-    let start = c .before .before .before .before .before .before .before .before .before .before .before .before .before .before .before .before .before .before .before .before .before .before .before .before .before .before .before .before .before .before .before in
+    let start = c .before .before .before .before .before .before .before .before .before .before .before .before
+    .before .before .before .before .before .before .before .before .before .before .before .before .before
+    .before .before .before .before .before .before in
     let args = start .args in
     let message = args .message .now in
     let pre = start .pre in
@@ -228,8 +273,13 @@ headed-requires c κs =
                     subst
                         (λ (l : List ℕ).
                         Printed l message
-                        (entriesOf (c .before .before .before .before .before .before .before .before .before .before .before .own .given .0 .0 + c .before .before .before .before .shared .given .0 .0) (c .before .before .before .before .before .before .before .unprotected .last .1 .1 .1 .0)))
-                        (sym (decodes (c .before .before .before .before .before .before .before .before .before .before .before .before .before .before .before .before .before .before) .1 .front)) printed,
+                        (entriesOf (c .before .before .before .before .before .before .before .before .before
+                        .before .before .own .given .0 .0 + c .before .before .before
+                        .before .shared .given .0 .0) (c .before .before .before .before .before .before
+                        .before .unprotected .last .1 .1 .1 .0)))
+                        (sym (decodes (c .before .before .before .before .before .before .before .before .before
+                        .before .before .before .before .before .before .before .before
+                        .before) .1 .front)) printed,
                     pre .1 .1 .1 .1 .1 .1 .1,
                   ),
                 ),
@@ -242,25 +292,35 @@ headed-requires c κs =
 
 same-length-4 : tie.Need-same-length-4
 same-length-4 c =
-    decodes (c .before .before .before .before .before .before .before .before .before .before .before .before .before .before .before .before .before .before .before .before .before .before) .1 .long ∙ sym (c .before .before .before .before .before .before .before .before .before .before .before .before .before .before .before .before .before .before .before .before .before .before .before .before .before .before .before .before .before .before .before .before .before .before .before .pre .1 .1 .1 .1 .1 .1 .0)
+    decodes (c .before .before .before .before .before .before .before .before .before .before .before .before
+    .before .before .before .before .before .before .before .before .before .before) .1 .long ∙ sym (c .before
+    .before .before .before .before .before .before .before .before .before .before .before .before .before
+    .before .before .before .before .before .before .before .before .before .before .before .before .before
+    .before .before .before .before .before .before .before .before .pre .1 .1 .1 .1 .1 .1 .0)
 
 same-length-5 : tie.Need-same-length-5
 same-length-5 c = search needs
 
 returns-4 : tie.Need-returns-4
 returns-4 c =
-    let start = c .before .before .before .before .before .before .before .before .before .before .before .before .before .before .before .before .before .before .before .before .before .before .before .before .before .before .before .before .before .before .before .before .before .before .before in
+    let start = c .before .before .before .before .before .before .before .before .before .before .before .before
+    .before .before .before .before .before .before .before .before .before .before .before .before .before
+    .before .before .before .before .before .before .before .before .before .before in
     let args = start .args in
     let message = args .message .now in
     let es = entriesOf (args .count) (args .top .now) in
     let rs = recipientsOf (args .number) (args .of .now) in
     let known = names (args .known .now) in
-    let begins = decodes (c .before .before .before .before .before .before .before .before .before .before .before .before .before .before .before .before .before .before .before .before .before .before) in
+    let begins = decodes (c .before .before .before .before .before .before .before .before .before .before .before
+    .before .before .before .before .before .before .before .before .before .before .before) in
     let has = gathers (c .before .before .before .before .before .before .before) in
-    judges known message es rs (args .recipient) (c .before .before .before .headed .result) _ _ (args .text .now) _ (args .table .now)
+    judges known message es rs (args .recipient) (c .before .before
+    .before .headed .result) _ _ (args .text .now) _ (args .table .now)
     (c .before .before .before .headed .last .1 .1 .1 .1 .1 .1 .1 .1 .1 .1 .0) (begins .1 .front)
-    (has .1 .1 .1) (shaped-rest known message es rs (args .recipient) (begins .0) (collects (c .before .before .before .before .before .before .before .before .before .before .before .before .before .before) .0) (has .0))
-    (begins .1 .wrote) (begins .1 .long ∙ sym (start .pre .1 .1 .1 .1 .1 .1 .0)) (c .before .before .before .headed .ensures)
+    (has .1 .1 .1) (shaped-rest known message es rs (args .recipient) (begins .0) (collects (c .before .before
+    .before .before .before .before .before .before .before .before .before .before .before .before) .0) (has .0))
+    (begins .1 .wrote) (begins .1 .long ∙ sym (start .pre .1 .1 .1 .1 .1 .1 .0)) (c .before .before
+    .before .headed .ensures)
 
 pub shaped-spec : {M : Type 1} → statement M
 shaped-spec =

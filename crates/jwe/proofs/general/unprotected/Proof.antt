@@ -1,4 +1,5 @@
--- `unprotected` collects the object where one stands; the list in the source is the list of the registered names, by computing.
+-- `unprotected` collects the object where one stands; the list in the source is the list of the registered names, by
+-- computing.
 use mathlib.Core.List.{flatten}
 use Rattle.prelude.specs.Ascii.{ascii}
 use Rattle.names.specs.Names.{listOf}
@@ -23,7 +24,8 @@ slice-aggregate-object c = search needs
 
 object-requires : tie.Need-object-requires
 unfolding listOf registered ascii flatten
-object-requires c κs = let start = c .before .before .before .before .before in (start .pre .0, (filled-list registered, start .pre .1))
+object-requires c κs = let start = c .before .before .before .before
+    .before in (start .pre .0, (filled-list registered, start .pre .1))
 
 same-length : tie.Need-same-length
 same-length c = search needs
