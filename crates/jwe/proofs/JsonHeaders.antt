@@ -1,14 +1,14 @@
 -- The headers of a JSON message: one that is absent has no text and no entry; the protected one, where it is there and
 -- has no
 -- entry, passes 8 and 9, so that 10 may be asked after them.
-use mathlib.Core.Path.{_≡_, refl, ap, ap₂, sym, subst, _∙_}
+use mathlib.Core.Path.{_≡_, refl, ap, ap₂, sym, _∙_}
 use mathlib.Core.Bool.{Bool, true, false, cond, _&&_, _||_, true≢false}
 use mathlib.Core.List.{List, [], _∷_, _++_}
-use Prim.Native.Nat.{ℕ, _+_, _*_, _≤_, _<_}
+use Prim.Native.Nat.{ℕ, _*_, _≤_, _<_}
 use native.Mathlib.Omega.{arith}
 use native.Mathlib.Nat.{add-zero}
 use lib.ListN.{length, take, drop, take-append-drop, length-map}
-use lib.Dec.{eqb, leb, ltb}
+use lib.Dec.{eqb, ltb}
 use borrow.Author.Tests.{eq-eqb, ne-eqb, le-leb, ltb-false}
 use Rattle.prelude.specs.Buffer.{written}
 use Rattle.base64url.specs.Base64url.{octets, decoded}
@@ -20,8 +20,8 @@ use Rattle.rows.specs.Rows.{Entry, entryOf, entriesIn, numbered, present, value
 use Rattle.rows.specs.Tables.{flat, collectedTable}
 use Rattle.jose.specs.Registered.{registered}
 use Rattle.jose.specs.Refusals.{first}
-use Rattle.headers.specs.Components.{octetsAt, absent}
-use Rattle.headers.specs.Headers.{headerText, tooLong, textOrder, outermost, protectedEntries, membersOf}
+use Rattle.headers.specs.Components.{absent}
+use Rattle.headers.specs.Headers.{headerText, textOrder, outermost, protectedEntries, membersOf}
 use Rattle.headers.specs.Headers.{headerEntries, objectOrder}
 use Rattle.headers.specs.Answers.{stageOf, headerBuffer}
 use Rattle.headers.specs.declared.Stage.{Stage}

@@ -1,13 +1,11 @@
 -- From the own headers on: the first refusal, and the numbers that are handed out.
-use mathlib.Core.Path.{_≡_, refl, ap, ap₂, sym, subst, _∙_}
-use mathlib.Core.Bool.{Bool, true, false, cond}
+use mathlib.Core.Path.{_≡_, ap, ap₂, sym, subst, _∙_}
+use mathlib.Core.Bool.{Bool, cond}
 use mathlib.Core.List.{List, [], _∷_, _++_}
 use Prim.Native.Nat.{ℕ, _≤_, _<_}
-use native.Mathlib.Omega.{arith}
 use lib.ListN.{length}
 use lib.Dec.{leb}
 use borrow.Author.Tests.{le-leb, lt-leb}
-use Rattle.json.specs.Places.{Place}
 use Rattle.rows.specs.Rows.{Entry}
 use Rattle.jose.specs.Refusals.{Test, _if_, first}
 use Rattle.jose.specs.HeaderRules.{modeIn}

@@ -3,15 +3,13 @@
 -- other, and the first refusal.
 use mathlib.Core.Path.{_≡_, refl, ap, ap₂, sym, subst, _∙_}
 use mathlib.Core.Bool.{Bool, true, false, cond}
-use mathlib.Core.List.{List, [], _∷_, _++_}
+use mathlib.Core.List.{List, _++_}
 use Prim.Native.Nat.{ℕ, _+_, _*_, _≤_, _<_}
 use native.Mathlib.Omega.{arith}
 use lib.ListN.{length, take}
-use lib.Dec.{ltb}
 use borrow.Author.Tests.{ltb-false}
 use Rattle.prelude.specs.Buffer.{written}
 use Rattle.prelude.proofs.Writing.{written-length, begins}
-use Rattle.json.specs.Places.{Place}
 use Rattle.rows.specs.Rows.{Entry, present, valueOf}
 use Rattle.rows.specs.Prints.{Printed}
 use Rattle.rows.specs.Tables.{flat, entriesOf, collectedTable}
@@ -27,7 +25,7 @@ use Rattle.headers.proofs.Stages.{passed-is}
 use Rattle.shape.specs.Shape.{protected, unprotected, component, Recipient}
 use Rattle.jwe.specs.General.{sharedEntries, isHollow}
 use Rattle.jwe.specs.Judge.{Outcome, accepted}
-use Rattle.jwe.specs.Answers.{numbers, Judges}
+use Rattle.jwe.specs.Answers.{Judges}
 use Rattle.jwe.specs.Stages.{textTests, protectedTests, headedOrder, shapedOrder, headedOutcome, shapedOutcome}
 use Rattle.jwe.specs.Stages.{Heads}
 use Rattle.jwe.specs.declared.judged.Judged.{Judged}

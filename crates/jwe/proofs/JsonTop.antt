@@ -1,20 +1,20 @@
 -- The top level and the recipients of a JSON message as they stand in their tables, and the answer by that of what
 -- comes behind.
 use mathlib.Core.Path.{_≡_, refl, ap, ap₂, sym, subst, _∙_}
-use mathlib.Core.Bool.{Bool, true, false, cond, _||_, true≢false}
-use mathlib.Core.List.{List, [], _∷_, _++_, map, flatMap}
-use Prim.Native.Nat.{ℕ, _+_, _*_, _≤_, _<_}
+use mathlib.Core.Bool.{Bool, true, false, cond, _||_}
+use mathlib.Core.List.{List, [], _∷_, map, flatMap}
+use Prim.Native.Nat.{ℕ, _≤_}
 use native.Mathlib.Omega.{arith}
 use lib.ListN.{length, length-map}
 use lib.Dec.{ltb}
 use borrow.Author.Tests.{ltb-false}
 use Rattle.prelude.specs.Buffer.{written}
-use Rattle.json.specs.Places.{Place, Element}
+use Rattle.json.specs.Places.{Element}
 use Rattle.rows.specs.Any.{any}
 use Rattle.rows.specs.Rows.{Entry, present, repeated}
 use Rattle.rows.specs.Tables.{flat, entriesOf}
 use Rattle.rows.proofs.Entries.{entries-written}
-use Rattle.jose.specs.Refusals.{Test, _if_, first}
+use Rattle.jose.specs.Refusals.{_if_, first}
 use Rattle.headers.specs.Limits.{mostRecipients}
 use Rattle.headers.specs.Components.{misspelled}
 use Rattle.headers.specs.Headers.{unread, objectOrder}

@@ -1,20 +1,19 @@
 -- Own headers collected into one table, 32 entries apart: one more leaves those before it as they are.
-use mathlib.Core.Path.{_≡_, refl, ap, ap₂, sym, subst, _∙_}
+use mathlib.Core.Path.{_≡_, refl, ap, ap₂, sym, _∙_}
 use mathlib.Core.Bool.{Bool, cond}
-use mathlib.Core.List.{List, [], _∷_, _++_, append-assoc}
+use mathlib.Core.List.{List, _++_}
 use Prim.Native.Nat.{ℕ, _+_, _-_, _*_, _≤_, _<_}
 use native.Mathlib.Nat.{add-zero}
 use native.Mathlib.Omega.{arith}
 use lib.ListN.{length, take, drop, getD, set, length-take, length-drop, take-append-drop}
-use lib.Seq.{length-take-le, take-take, take-append-le, drop-append-le, getD-set-same, getD-set-other, getD-drop}
-use lib.Dec.{leb}
+use lib.Seq.{length-take-le, take-append-le, drop-append-le, getD-set-same, getD-set-other, getD-drop}
 use borrow.Author.Count.{below-none, below-more}
 use borrow.Author.Tests.{le-leb}
 use Rattle.prelude.specs.Buffer.{written}
 use Rattle.prelude.proofs.Writing.{written-length}
 use Rattle.rows.specs.Rows.{Entry}
 use Rattle.rows.specs.Tables.{flat, entriesOf, collectedTable}
-use Rattle.rows.proofs.Entries.{flat-of, flat-length, entries-length, entries-flat, entries-front}
+use Rattle.rows.proofs.Entries.{flat-of, flat-length, entries-length, entries-front}
 use Rattle.rows.proofs.Entries.{entries-written-from, entries-more}
 use Rattle.rows.specs.Prints.{Printed}
 use Rattle.rows.proofs.Printing.{entries-printed}

@@ -1,5 +1,5 @@
 -- `component` leaves the quotation marks out, where there is a value.
-use mathlib.Core.Path.{refl, sym, _∙_}
+use mathlib.Core.Path.{refl}
 use native.Mathlib.Omega.{arith}
 use Rattle.rows.specs.Rows.{valueOf}
 use Rattle.rows.specs.Tables.{entriesOf}

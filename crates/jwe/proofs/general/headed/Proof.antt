@@ -9,7 +9,6 @@ use lib.ListN.{length, drop}
 use lib.Seq.{length-take-le}
 use Rattle.prelude.specs.Buffer.{written}
 use Rattle.names.specs.Names.{names}
-use Rattle.rows.specs.Prints.{Printed}
 use Rattle.rows.specs.Rows.{Entry}
 use Rattle.rows.specs.Tables.{flat, entriesOf}
 use Rattle.rows.proofs.Entries.{flat-of, entries-length}
@@ -20,7 +19,7 @@ use Rattle.shape.specs.Shape.{Recipient}
 use Rattle.shape.specs.Recipients.{componentsIn}
 use Rattle.jwe.specs.General.{ownEntries}
 use Rattle.jwe.specs.Judge.{asked}
-use Rattle.jwe.specs.Stages.{recipientAt, recipientsOf, Owned, LeavesOwn, ownTests, ruleTests, headedOrder}
+use Rattle.jwe.specs.Stages.{recipientAt, recipientsOf, Owned, LeavesOwn, ownTests, ruleTests}
 use Rattle.jwe.specs.Stages.{headedOutcome}
 use Rattle.jwe.proofs.RecipientRows.{recipients-length, asked-at}
 use Rattle.jwe.proofs.OwnHeaders.{gathered, gathered-room, gathered-length}

@@ -1,8 +1,8 @@
 -- `judge` hands up the refusals of the top level, of the elements and of the components in their order; what stands in
 -- its
 -- tables then is the message's members and recipients.
-use mathlib.Core.Path.{_≡_, refl, ap, sym, subst, _∙_}
-use Prim.Native.Nat.{ℕ, _*_, _≤_, _<_}
+use mathlib.Core.Path.{_≡_, refl, sym, subst, _∙_}
+use Prim.Native.Nat.{_≤_}
 use native.Mathlib.Omega.{arith}
 use lib.ListN.{length, replicate}
 use Rattle.names.specs.Names.{names}

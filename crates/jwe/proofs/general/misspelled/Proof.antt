@@ -1,6 +1,6 @@
 -- `misspelled` asks the components of the top level, and then the keys.
 use mathlib.Core.Path.{_≡_, ap, sym, _∙_}
-use mathlib.Core.Bool.{Bool, true, false}
+use mathlib.Core.Bool.{Bool}
 use mathlib.Core.List.{List}
 use Prim.Native.Nat.{ℕ}
 use Rattle.json.specs.Places.{Place}

@@ -1,16 +1,11 @@
 -- `protected` collects the object that the header is; 10 after 8 and 9 is the same as before them.
-use mathlib.Core.Path.{_≡_, refl, sym, _∙_}
-use mathlib.Core.List.{List, flatten}
-use Prim.Native.Nat.{ℕ}
-use lib.ListN.{length}
+use mathlib.Core.Path.{sym, _∙_}
+use mathlib.Core.List.{flatten}
 use Rattle.prelude.specs.Ascii.{ascii}
 use Rattle.names.specs.Names.{listOf}
 use Rattle.names.proofs.Laws.{names-of}
 use Rattle.names.proofs.Contents.{filled-list}
 use Rattle.jose.specs.Registered.{registered}
-use Rattle.jose.specs.Refusals.{first}
-use Rattle.headers.specs.Headers.{protectedEntries, objectOrder}
-use Rattle.headers.specs.Answers.{stageOf}
 use Rattle.jwe.proofs.JsonHeaders.{protected-stage, protected-table}
 use Rattle.jwe.proofs.JsonHeaders.{protected-refused, protected-hollow, protected-passed, protected-absent}
 use borrow.Author.Needs.{needs}

@@ -1,7 +1,7 @@
 -- `rules` judges one recipient after the other: the refusals from the next one on are those of all, and the first
 -- entries of the
 -- table stay.
-use Prim.Native.Nat.{ℕ, _+_, _-_, _*_, _≤_, _<_}
+use Prim.Native.Nat.{ℕ, _+_, _-_, _*_, _≤_}
 use mathlib.Core.Path.{_≡_, refl, ap, ap₂, sym, subst, _∙_}
 use mathlib.Core.Bool.{Bool, true}
 use mathlib.Core.List.{List, flatMap, _++_}
