@@ -1,5 +1,3 @@
-<<<<<<< HEAD
-=======
 -- The refusals of a JSON message, stage by stage.
 pub mod JsonOrder
 -- Recipients as numbers of a table, and loops over them.
@@ -18,9 +16,6 @@ pub mod JsonHeads
 pub mod JsonShaped
 -- The top level and the recipients.
 pub mod JsonTop
--- Document 01's samples.
-pub mod Samples
->>>>>>> cd7c6af701fce65b4b32f98713593b9ebbcd655f
 -- The full stops of a compact message.
 pub mod Splitting
 -- The first refusal of a compact message, stage by stage.
