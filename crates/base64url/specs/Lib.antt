@@ -1,4 +1,3 @@
 pub mod Base64url
 pub mod Fault
 pub mod Answers
-pub mod Samples
