@@ -36,7 +36,6 @@ use Rattle.jwe.specs.General.{headersOrder, recipientsOrder, jsonOrder}
 use Rattle.jwe.specs.Judge.{order, refusal, compactOutcome, asked, jsonOutcome, outcome, accepted, refused, result, listAfter}
 use Rattle.gateway.specs.Samples.{M}
 
-
 -- Two recipients with headers of their own.
 abbrev two : List ℕ
 two =

@@ -71,17 +71,17 @@ samples =
     ∷ asks (read (M ++ ascii ".")) (4 ∷ [])
     ∷ asks (read []) (4 ∷ [])
     ∷ asks
-      (read (encoded (ascii "{\"alg\":\"dir\",\"\\u0061lg\":\"dir\",\"enc\":\"A128GCM\"}") ++ ascii "..AA.AQID.Ag"))
-      (9 ∷ [])
+    (read (encoded (ascii "{\"alg\":\"dir\",\"\\u0061lg\":\"dir\",\"enc\":\"A128GCM\"}") ++ ascii "..AA.AQID.Ag"))
+    (9 ∷ [])
     ∷ asks (read (ascii "{\"unprotected\":{\"alg\":\"dir\",\"enc\":\"A128GCM\"},\"aad\":\"AA\",\"ciphertext\":\"\"}"))
-      (0 ∷ 1 ∷ 1 ∷ 5
-      ∷ 0 ∷ 0 ∷ 0 ∷ 0 ∷ 0 ∷ 0 ∷ 52 ∷ 2 ∷ 70 ∷ 0 ∷ 0 ∷ 0
-      ∷ 0 ∷ 2
-      ∷ 1 ∷ 17 ∷ 3 ∷ 22 ∷ 5 ∷ 2
-      ∷ 1 ∷ 29 ∷ 3 ∷ 34 ∷ 9 ∷ 2
-      ∷ [])
+    (0 ∷ 1 ∷ 1 ∷ 5
+    ∷ 0 ∷ 0 ∷ 0 ∷ 0 ∷ 0 ∷ 0 ∷ 52 ∷ 2 ∷ 70 ∷ 0 ∷ 0 ∷ 0
+    ∷ 0 ∷ 2
+    ∷ 1 ∷ 17 ∷ 3 ∷ 22 ∷ 5 ∷ 2
+    ∷ 1 ∷ 29 ∷ 3 ∷ 34 ∷ 9 ∷ 2
+    ∷ [])
     ∷ asks
-      (read (ascii "{\"unprotected\":{\"alg\":\"dir\",\"enc\":\"A128GCM\"},\"aad\":\"AA\",\"ciphertext\":\"\",\"iv\":\"\"}"))
-      (10 ∷ [])
+    (read (ascii "{\"unprotected\":{\"alg\":\"dir\",\"enc\":\"A128GCM\"},\"aad\":\"AA\",\"ciphertext\":\"\",\"iv\":\"\"}"))
+    (10 ∷ [])
     ∷ asks (read (H ++ ascii ".AA.AA.AQID.Ag")) (18 ∷ [])
     ∷ []

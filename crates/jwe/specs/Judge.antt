@@ -28,8 +28,8 @@ order message known recipient headerLent listLent =
     ∷ 2 if ltb longest (length message)
     ∷ 3 if not (sound known)
     ∷ cond (opensObject message)
-      (jsonOrder message (names known) recipient)
-      (compactOrder message (names known) recipient)
+    (jsonOrder message (names known) recipient)
+    (compactOrder message (names known) recipient)
 
 unfoldable pub refusal : List ℕ → List ℕ → ℕ → ℕ → ℕ → ℕ
 refusal message known recipient headerLent listLent = first (order message known recipient headerLent listLent)
@@ -87,11 +87,11 @@ accepted message x =
     ∷ x .recipients
     ∷ modeIn (x .header) message (x .entries)
     ∷ place (x .components .protected)
-      (place (x .components .key)
-      (place (x .components .iv)
-      (place (x .components .aad)
-      (place (x .components .ciphertext)
-      (place (x .components .tag) (length (x .header) ∷ length (x .entries) ∷ []))))))
+    (place (x .components .key)
+    (place (x .components .iv)
+    (place (x .components .aad)
+    (place (x .components .ciphertext)
+    (place (x .components .tag) (length (x .header) ∷ length (x .entries) ∷ []))))))
 
 unfoldable pub refused : ℕ → List ℕ
 refused n = n ∷ 0 ∷ 0 ∷ 0 ∷ 0 ∷ 0 ∷ 0 ∷ 0 ∷ 0 ∷ 0 ∷ 0 ∷ 0 ∷ 0 ∷ 0 ∷ 0 ∷ 0 ∷ 0 ∷ 0 ∷ []

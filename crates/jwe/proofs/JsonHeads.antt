@@ -1,0 +1,102 @@
+-- From the own headers on: the first refusal, and the numbers that are handed out.
+use mathlib.Core.Path.{_≡_, ap, ap₂, sym, subst, _∙_}
+use mathlib.Core.Bool.{Bool, cond}
+use mathlib.Core.List.{List, [], _∷_, _++_}
+use Prim.Native.Nat.{ℕ, _≤_, _<_}
+use lib.ListN.{length}
+use lib.Dec.{leb}
+use borrow.Author.Tests.{le-leb, lt-leb}
+use Rattle.rows.specs.Rows.{Entry}
+use Rattle.jose.specs.Refusals.{Test, _if_, first}
+use Rattle.jose.specs.HeaderRules.{modeIn}
+use Rattle.headers.specs.Components as headers
+use Rattle.headers.specs.declared.Stage.{Stage}
+use Rattle.headers.specs.declared.Stage.the-variants.{Refused}
+use Rattle.shape.specs.Shape.{Recipient}
+use Rattle.jwe.specs.Judge.{Outcome, place, accepted}
+use Rattle.jwe.specs.Answers.{componentsOf, numbers, handed, Judges}
+use Rattle.jwe.specs.Stages.{ownTests, ruleTests, headedOrder, Heads}
+use Rattle.jwe.specs.declared.Components.{Components}
+use Rattle.jwe.specs.declared.judged.Judged.{Judged}
+use Rattle.jwe.proofs.JsonOrder.{stop, skip, own-nonzero, rule-nonzero}
+
+module _ (known : List (List ℕ)) (header message : List ℕ) (front : List Entry) (rs : List Recipient) (recipient : ℕ) where
+  abbrev order : List Test
+  order = headedOrder known header message front rs recipient
+
+  abbrev asks : List Test
+  asks = 19 if leb (length rs) recipient ∷ []
+
+  pub heads-own : {n : ℕ} → first (ownTests message rs) ≡ n → 0 < n → first order ≡ n
+  unfolding headedOrder
+  heads-own e h = stop (ownTests message rs) _ (own-nonzero message rs) e h
+
+  module _ (own : first (ownTests message rs) ≡ 0) where
+    past-own : first order ≡ first (ruleTests known header message front rs ++ asks)
+    unfolding headedOrder
+    past-own = skip (ownTests message rs) _ (own-nonzero message rs) own
+
+    pub heads-rule : {n : ℕ} → first (ruleTests known header message front rs) ≡ n → 0 < n → first order ≡ n
+    heads-rule e h =
+        past-own
+        ∙ stop (ruleTests known header message front rs) asks (rule-nonzero known header message front rs) e h
+
+    module _ (rule : first (ruleTests known header message front rs) ≡ 0) where
+      past-rule : first order ≡ first asks
+      past-rule =
+          past-own
+          ∙ skip (ruleTests known header message front rs) asks (rule-nonzero known header message front rs) rule
+
+      pub heads-none : length rs ≤ recipient → first order ≡ 19
+      unfolding first
+      heads-none h = past-rule ∙ ap (λ (b : Bool). cond {A = ℕ} b 19 0) (le-leb (length rs) recipient h)
+
+      pub heads-one : recipient < length rs → first order ≡ 0
+      unfolding first
+      heads-one h = past-rule ∙ ap (λ (b : Bool). cond {A = ℕ} b 19 0) (lt-leb (length rs) recipient h)
+
+-- A stage's refusal, handed up, is what is answered.
+
+module _ (message : List ℕ) (order : List Test) (x : Outcome) (n : ℕ) (j : Judged) (stage : Stage)
+    (up : j ≡ handed stage) (told : stage ≡ Refused n) (is : first order ≡ n) (some : 0 < n) where
+  pub heads-refused : (table₀ table : List ℕ) → length table ≡ length table₀ → Heads message order x j table₀ table
+  heads-refused table₀ table l =
+      subst (λ (a : Judged). Heads message order x a table₀ table) (sym (up ∙ ap handed told)) (is, some, l)
+
+  pub judges-refused : (text₀ text table₀ table : List ℕ) → length text ≡ length text₀ → length table ≡ length table₀ →
+      Judges message order x j text₀ text table₀ table
+  judges-refused text₀ text table₀ table k l =
+      subst (λ (a : Judged). Judges message order x a text₀ text table₀ table) (sym (up ∙ ap handed told))
+      (is, some, k, l)
+
+-- The numbers of a result
+
+laid : ℕ → ℕ → ℕ → headers.Components → ℕ → ℕ → List ℕ
+laid form count mode q size parameters =
+    0
+    ∷ form
+    ∷ count
+    ∷ mode
+    ∷ place (q .protected)
+    (place (q .key)
+    (place (q .iv) (place (q .aad) (place (q .ciphertext) (place (q .tag) (size ∷ parameters ∷ []))))))
+
+pub result-is : (message : List ℕ) (x : Outcome) (form count mode : ℕ) (q : Components) (size parameters : ℕ) →
+    form ≡ x .form → count ≡ x .recipients → mode ≡ modeIn (x .header) message (x .entries) →
+    componentsOf q ≡ x .components → size ≡ length (x .header) → parameters ≡ length (x .entries) →
+    numbers
+    (record {
+      number = 0;
+      form = form;
+      recipients = count;
+      mode = mode;
+      components = q;
+      header = size;
+      parameters = parameters;
+    })
+    ≡ accepted message x
+unfolding accepted laid
+result-is message x form count mode q size parameters f c m p s n =
+    ap₂ (λ (a b : ℕ). laid a b mode (componentsOf q) size parameters) f c
+    ∙ ap₂ (λ (a : ℕ) (b : headers.Components). laid (x .form) (x .recipients) a b size parameters) m p
+    ∙ ap₂ (λ (a b : ℕ). laid (x .form) (x .recipients) (modeIn (x .header) message (x .entries)) (x .components) a b) s n

@@ -1,0 +1,176 @@
+-- The top level and the recipients of a JSON message as they stand in their tables, and the answer by that of what
+-- comes behind.
+use mathlib.Core.Path.{_≡_, refl, ap, ap₂, sym, subst, _∙_}
+use mathlib.Core.Bool.{Bool, true, false, cond, _||_}
+use mathlib.Core.List.{List, [], _∷_, map, flatMap}
+use Prim.Native.Nat.{ℕ, _≤_}
+use native.Mathlib.Omega.{arith}
+use lib.ListN.{length, length-map}
+use lib.Dec.{ltb}
+use borrow.Author.Tests.{ltb-false}
+use Rattle.prelude.specs.Buffer.{written}
+use Rattle.json.specs.Places.{Element}
+use Rattle.rows.specs.Any.{any}
+use Rattle.rows.specs.Rows.{Entry, present, repeated}
+use Rattle.rows.specs.Tables.{flat, entriesOf}
+use Rattle.rows.proofs.Entries.{entries-written}
+use Rattle.jose.specs.Refusals.{_if_, first}
+use Rattle.headers.specs.Limits.{mostRecipients}
+use Rattle.headers.specs.Components.{misspelled}
+use Rattle.headers.specs.Headers.{unread, objectOrder}
+use Rattle.headers.specs.Answers.{stageOf}
+use Rattle.headers.specs.declared.Stage.the-variants.{Passed}
+use Rattle.headers.proofs.Stages.{passed-is}
+use Rattle.shape.specs.Shape.{protected, recipients, component, wrongTop, wrongElements, Recipient, recipientOf}
+use Rattle.shape.specs.Recipients.{topEntries, topOrder, elementsIn, elementEntries, elementOrder, elementsOrder}
+use Rattle.shape.specs.Recipients.{recipientsIn}
+use Rattle.shape.specs.Answers.{flatRecipients}
+use Rattle.jwe.specs.General.{allPlaces, anyMisspelled, jsonOrder}
+use Rattle.jwe.specs.Judge.{Outcome, accepted, jsonOutcome}
+use Rattle.jwe.specs.Answers.{Judges}
+use Rattle.jwe.specs.Stages.{recipientsOf, shapedOrder, shapedOutcome}
+use Rattle.jwe.specs.declared.judged.Judged.{Judged}
+use Rattle.jwe.specs.declared.judged.Judged.the-variants.{Accepted, Refused}
+use Rattle.jwe.proofs.JsonOrder.{json-rest, json-outcome}
+use Rattle.jwe.proofs.RecipientRows.{recipients-written}
+
+-- Where two tests pass, the second does.
+second : (k n rest : ℕ) (a b : Bool) → (k ≡ 0 → ⊥) → (n ≡ 0 → ⊥) → cond a k (cond b n rest) ≡ 0 → b ≡ false
+second k n rest true b h g e = absurd (h e)
+second k n rest false true h g e = absurd (g e)
+second k n rest false false h g e = refl
+
+-- The top level
+
+module _ (message : List ℕ) where
+  top-few : first (topOrder message) ≡ 0 → length (topEntries message) ≤ 32
+  unfolding topOrder objectOrder first
+  top-few e =
+      ltb-false 32 (length (topEntries message))
+      (second 7 8 (cond (repeated false message message (topEntries message)) 9 (cond (wrongTop message (topEntries message)) 10 0))
+      (unread message) (ltb 32 (length (topEntries message))) (λ (z : _≡_ {A = ℕ} 7 0). omega (arith, z))
+      (λ (z : _≡_ {A = ℕ} 8 0). omega (arith, z)) e)
+
+  pub top-is : (before last : List ℕ) (n : ℕ) →
+      Passed n ≡ stageOf (first (topOrder message)) (length (topEntries message)) →
+      last ≡ written 0 (flat (topEntries message)) before →
+      (first (topOrder message) ≡ 0) × ((n ≤ 32) × (entriesOf n last ≡ topEntries message))
+  top-is before last n a l =
+      let told = passed-is n (first (topOrder message)) (length (topEntries message)) a in (
+        told .0,
+        (
+          omega (arith, told .1, top-few (told .0)),
+          ap₂ entriesOf (told .1) l ∙ entries-written (topEntries message) before,
+        ),
+      )
+
+-- The recipients
+
+module _ (message : List ℕ) (es : List Entry) where
+  abbrev xs : List Element
+  xs = elementsIn message es
+
+  elements-few : first (elementsOrder message es) ≡ 0 → length (recipientsIn message es) ≤ 8
+  unfolding elementsOrder recipientsIn first
+  elements-few e = cases (present recipients es) e
+    where
+      counted : length (map (λ (x : Element). recipientOf (elementEntries message (x .start))) xs) ≡ length xs
+      counted = length-map xs (λ (x : Element). recipientOf (elementEntries message (x .start)))
+
+      cases : (b : Bool) →
+          first (cond b
+          (10 if wrongElements xs
+          ∷ 11 if ltb mostRecipients (length xs)
+          ∷ flatMap (λ (x : Element). elementOrder message (x .start)) xs)
+          [])
+          ≡ 0 →
+          length (cond b (map (λ (x : Element). recipientOf (elementEntries message (x .start))) xs) (recipientOf es ∷ [])) ≤ 8
+      cases true e =
+          let small : length xs ≤ 8 =
+          ltb-false 8 (length xs)
+          (second 10 11 (first (flatMap (λ (x : Element). elementOrder message (x .start)) xs)) (wrongElements xs) (ltb mostRecipients (length xs)) (λ (z : _≡_ {A = ℕ} 10 0). omega (arith, z))
+          (λ (z : _≡_ {A = ℕ} 11 0). omega (arith, z)) e) in
+          omega (arith, counted, small)
+      cases false e = omega arith
+
+  module _ (fs : List Entry) (same : fs ≡ es) where
+    pub elements-as : first (elementsOrder message fs) ≡ first (elementsOrder message es)
+    elements-as = ap (λ (l : List Entry). first (elementsOrder message l)) same
+
+    pub listed-is : (before last : List ℕ) (n : ℕ) →
+        Passed n ≡ stageOf (first (elementsOrder message fs)) (length (recipientsIn message fs)) →
+        last ≡ written 0 (flatRecipients (recipientsIn message fs)) before →
+        (first (elementsOrder message es) ≡ 0) × ((n ≤ 8) × (recipientsOf n last ≡ recipientsIn message es))
+    listed-is before last n a l =
+        let told = passed-is n (first (elementsOrder message es)) (length (recipientsIn message es))
+        (a ∙ ap (λ (l : List Entry). stageOf (first (elementsOrder message l)) (length (recipientsIn message l))) same) in (
+          told .0,
+          (
+            omega (arith, told .1, elements-few (told .0)),
+            ap₂ recipientsOf (told .1)
+                (l ∙ ap (λ (k : List Entry). written 0 (flatRecipients (recipientsIn message k)) before) same)
+                ∙ recipients-written (recipientsIn message es) before,
+          ),
+        )
+
+-- 5 on all components, by the entries and the recipients as they are known.
+pub misspelled-as : (message : List ℕ) (es fs : List Entry) (rs : List Recipient) → fs ≡ es → rs ≡ recipientsIn message es →
+    any (misspelled message) (allPlaces fs rs) ≡ anyMisspelled message es
+unfolding anyMisspelled
+misspelled-as message es fs rs e f =
+    ap₂ (λ (l : List Entry) (k : List Recipient). any (misspelled message) (allPlaces l k)) e f
+
+-- Where none is misspelled, the protected header is not.
+pub protected-sound : (message : List ℕ) (es : List Entry) (rs : List Recipient) →
+    any (misspelled message) (allPlaces es rs) ≡ false → misspelled message (component protected es) ≡ false
+unfolding allPlaces any
+protected-sound message es rs e = cases (misspelled message (component protected es)) _ e
+  where
+    cases : (a b : Bool) → (a || b) ≡ false → a ≡ false
+    cases true b e = e
+    cases false b e = refl
+
+-- The answer, by that of what comes behind.
+module _ (message : List ℕ) (known : List (List ℕ)) (recipient : ℕ) (top : first (topOrder message) ≡ 0)
+    (elements : first (elementsOrder message (topEntries message)) ≡ 0)
+    (sound : anyMisspelled message (topEntries message) ≡ false) where
+  abbrev es : List Entry
+  es = topEntries message
+
+  abbrev rs : List Recipient
+  rs = recipientsIn message es
+
+  pub judges-json : (j : Judged) (fs : List Entry) (ps : List Recipient) (text₀ text table₀ table : List ℕ) → fs ≡ es →
+      ps ≡ rs →
+      Judges message (shapedOrder known message fs ps recipient) (shapedOutcome message fs ps recipient) j text₀ text table₀ table →
+      Judges message (jsonOrder message known recipient) (jsonOutcome message recipient) j text₀ text table₀ table
+  judges-json j fs ps text₀ text table₀ table e f h =
+      cases j
+      (subst
+      (λ (l : List Recipient).
+      Judges message (shapedOrder known message es l recipient) (shapedOutcome message es l recipient) j text₀ text table₀
+      table)
+      f
+      (subst
+      (λ (l : List Entry).
+      Judges message (shapedOrder known message l ps recipient) (shapedOutcome message l ps recipient) j text₀ text table₀
+      table)
+      e h))
+    where
+      same : first (jsonOrder message known recipient) ≡ first (shapedOrder known message es rs recipient)
+      same = json-rest message known recipient top elements sound
+
+      x : shapedOutcome message es rs recipient ≡ jsonOutcome message recipient
+      x = sym (json-outcome message known recipient)
+
+      cases : (a : Judged) →
+          Judges message (shapedOrder known message es rs recipient) (shapedOutcome message es rs recipient) a text₀ text
+          table₀ table →
+          Judges message (jsonOrder message known recipient) (jsonOutcome message recipient) a text₀ text table₀ table
+      cases (Accepted r) k = (
+        same ∙ k .0,
+        k .1 ∙ ap (accepted message) x,
+        k .2 ∙ ap (λ (o : Outcome). written 0 (o .header) text₀) x,
+        k .3 ∙ ap (λ (o : Outcome). written 0 (flat (o .entries)) table₀) x,
+      )
+      cases (Refused n) k = (same ∙ k .0, k .1, k .2, k .3)

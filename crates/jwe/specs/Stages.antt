@@ -1,0 +1,123 @@
+-- The JSON serialization's tables and refusals, stage by stage, as the code comes to them.
+use mathlib.Core.Path.{_≡_}
+use mathlib.Core.List.{List, [], _∷_, _++_, flatMap}
+use mathlib.Core.Bool.{Bool, cond}
+use Prim.Native.Nat.{ℕ, zero, suc, _*_, _≤_, _<_}
+use lib.ListN.{length, drop, getD}
+use lib.Dec.{eqb, leb}
+use Rattle.prelude.specs.Buffer.{written}
+use Rattle.rows.specs.Rows.{Entry, present}
+use Rattle.rows.specs.Tables.{flat, entriesOf}
+use Rattle.jose.specs.Refusals.{Test, _if_, first}
+use Rattle.jose.specs.HeaderRules.{recipientOrder}
+use Rattle.headers.specs.Headers.{headerText, textOrder, outermost, protectedEntries, objectOrder}
+use Rattle.headers.specs.declared.Stage.{Stage}
+use Rattle.headers.specs.declared.Stage.the-variants.{Passed, Refused}
+use Rattle.shape.specs.Shape.{protected, recipients, component, Recipient}
+use Rattle.shape.specs.Recipients.{componentsIn}
+use Rattle.jwe.specs.General.{ownEntries, parameters, isHollow, protectedOrder, headersOrder, recipientsOrder}
+use Rattle.jwe.specs.Judge.{Outcome, accepted, asked}
+use Rattle.jwe.specs.Answers.{numbers}
+use Rattle.jose.specs.declared.judge.Judged as jose
+use Rattle.jose.specs.declared.judge.Judged.the-variants as recipient
+use Rattle.jwe.specs.declared.judged.Judged.{Judged}
+use Rattle.jwe.specs.declared.judged.Judged.the-variants as message
+
+-- The recipients of a table
+
+-- The first, of three numbers: where its own header stands, its key's start and length.
+abbrev pub recipientAt : List ℕ → Recipient
+recipientAt t = record { header = getD t 0 0; key = record { start = getD t 1 0; size = getD t 2 0 } }
+
+-- The first n.
+unfoldable pub recipientsOf : ℕ → List ℕ → List Recipient
+recipientsOf zero t = []
+recipientsOf (suc n) t = recipientAt t ∷ recipientsOf n (drop 3 t)
+
+-- Their own headers, collected into a table 32 entries apart, with how many each has; k is below the number of
+-- recipients.
+abbrev pub OwnAt : List ℕ → List ℕ → List ℕ → List ℕ → ℕ → Type 0
+OwnAt message of own counts k =
+    (getD counts k 0 ≤ 32)
+    × (entriesOf (getD counts k 0) (drop (k * 256) own) ≡ ownEntries message (recipientAt (drop (k * 3) of)))
+
+abbrev pub Owned : ℕ → List ℕ → List ℕ → List ℕ → List ℕ → Type 0
+Owned number message of own counts = (k : ℕ) → k < number → OwnAt message of own counts k
+
+-- What collecting them leaves where it passes.
+abbrev pub LeavesOwn : ℕ → List ℕ → List ℕ → List ℕ → List ℕ → Stage → Type 0
+LeavesOwn number message of own counts (Passed n) = Owned number message of own counts
+LeavesOwn number message of own counts (Refused n) = Unit {0}
+
+-- Refusals
+
+-- 6 and 7 on the protected header, if there is one.
+unfoldable pub textTests : Bool → List ℕ → List Test
+textTests there header = cond there (textOrder header) []
+
+-- 10 where it has no member; 8 and 9 on it.
+unfoldable pub protectedTests : Bool → List ℕ → List Test
+protectedTests there header =
+    cond there (10 if isHollow (outermost header) ∷ []) [] ++ objectOrder header (protectedEntries header)
+
+-- 8 and 9 on each recipient's own header.
+unfoldable pub ownTests : List ℕ → List Recipient → List Test
+ownTests message rs = flatMap (λ r. objectOrder message (ownEntries message r)) rs
+
+-- 12 to 18 on each recipient, whose parameters are some that are all recipients', and its own.
+unfoldable pub ruleTests : List (List ℕ) → List ℕ → List ℕ → List Entry → List Recipient → List Test
+ruleTests known header message front rs =
+    flatMap (λ r. recipientOrder known header message (front ++ ownEntries message r) (eqb (r .key .size) 0)) rs
+
+-- From the own headers on.
+unfoldable pub headedOrder : List (List ℕ) → List ℕ → List ℕ → List Entry → List Recipient → ℕ → List Test
+headedOrder known header message front rs recipient =
+    ownTests message rs ++ (ruleTests known header message front rs ++ (19 if leb (length rs) recipient ∷ []))
+
+-- From the protected header on.
+unfoldable pub shapedOrder : List (List ℕ) → List ℕ → List Entry → List Recipient → ℕ → List Test
+shapedOrder known message es rs recipient =
+    let header = headerText message (component protected es) in
+    protectedOrder es header
+    ++ (headersOrder header message es rs
+    ++ (recipientsOrder known header message es rs
+    ++ (19 if leb (length rs) recipient ∷ [])))
+
+-- What is handed out
+
+-- By the top level, the header, the parameters that are all recipients', and the recipients.
+unfoldable pub headedOutcome : List ℕ → List ℕ → List Entry → List Entry → List Recipient → ℕ → Outcome
+headedOutcome header message es front rs recipient =
+    let r = asked rs recipient in
+    record {
+      form = cond (present recipients es) 2 1;
+      recipients = length rs;
+      components = componentsIn es r;
+      header = header;
+      entries = front ++ ownEntries message r;
+    }
+
+-- By the top level and the recipients.
+unfoldable pub shapedOutcome : List ℕ → List Entry → List Recipient → ℕ → Outcome
+shapedOutcome message es rs recipient =
+    let r = asked rs recipient in
+    let header = headerText message (component protected es) in
+    record {
+      form = cond (present recipients es) 2 1;
+      recipients = length rs;
+      components = componentsIn es r;
+      header = header;
+      entries = parameters header message es r;
+    }
+
+-- As Answers' Judges, the header having been decoded before.
+abbrev pub Heads : List ℕ → List Test → Outcome → Judged → List ℕ → List ℕ → Type 0
+Heads text order x (message.Accepted r) table₀ table =
+    (first order ≡ 0) × (numbers r ≡ accepted text x) × (table ≡ written 0 (flat (x .entries)) table₀)
+Heads text order x (message.Refused n) table₀ table =
+    (first order ≡ n) × (0 < n) × (length table ≡ length table₀)
+
+-- The refusal of a recipient, handed up.
+abbrev pub refusedOf : jose.Judged → Stage
+refusedOf (recipient.Mode m) = Refused 0
+refusedOf (recipient.Refused n) = Refused n
