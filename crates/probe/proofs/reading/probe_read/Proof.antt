@@ -1,0 +1,77 @@
+-- `probe_read` hands out what `read` promises: accepted, the numbers of its result; refused, the number alone.
+use borrow.Author.Needs.{needs}
+use Rattle.probe.proofs.HandedOut.{too-little, numbers-small, reads-accepted, reads-refused}
+use Rattle.probe.proofs.reading.probe_read.Statement.{statement}
+use Rattle.probe.proofs.reading.probe_read.Tie as tie
+
+-- Back from behind `read` to the start.
+abbrev start-of : tie.After-read → tie.Start
+start-of c = c .before .before .before .before .before .before .before .before .before
+
+returns : tie.Need-returns
+returns c =
+    let given = c .before .before .before .before .before .before .args in
+    too-little (given .message .now) (given .known .now) (given .recipient) (given .header .now) (given .list .now)
+    (given .result .now) (c .if1 .taken)
+
+read-requires : tie.Need-read-requires
+read-requires c κs = search needs
+
+put-result-requires : tie.Need-put-result-requires
+put-result-requires c κs =
+    let call = c .before .before .before .before .before .before .before in
+    let given = start-of call .args in (
+      numbers-small (given .message .now) (given .known .now) (given .recipient) (given .header .now) (given .list .now)
+          (given .result .now) (call .read .result) (call .read .ensures .0),
+      call .before .before .before .if1 .left,
+    )
+
+same-length : tie.Need-same-length
+same-length c = search needs
+
+same-length-2 : tie.Need-same-length-2
+same-length-2 c = search needs
+
+same-length-3 : tie.Need-same-length-3
+same-length-3 c = search needs
+
+returns-2 : tie.Need-returns-2
+returns-2 c =
+    let put = c .before .before in
+    let asked = put .before .before in
+    let call = asked .before .before .before .before .before .before in
+    let given = start-of call .args in
+    let promised = call .read .ensures in
+    reads-accepted (given .message .now) (given .known .now) (given .recipient) (given .header .now) (given .list .now)
+    (given .result .now) (call .read .result) (promised .0) (call .before .before .before .if1 .left) _ _ (promised .1 .0)
+    (promised .1 .1) (asked .if2 .taken) _ (put .put-result .ensures)
+
+same-length-4 : tie.Need-same-length-4
+same-length-4 c = search needs
+
+same-length-5 : tie.Need-same-length-5
+same-length-5 c = search needs
+
+returns-3 : tie.Need-returns-3
+returns-3 c =
+    let call = c .before .before .before .before .before .before in
+    let given = start-of call .args in
+    let promised = call .read .ensures in
+    reads-refused (given .message .now) (given .known .now) (given .recipient) (given .header .now) (given .list .now)
+    (given .result .now) (call .read .result) (promised .0) (call .before .before .before .if1 .left) _ _ (promised .1 .0)
+    (promised .1 .1) (c .if2 .left)
+
+pub probe-read-spec : {M : Type 1} → statement M
+probe-read-spec =
+    tie.close
+    (tie.spec
+    returns
+    read-requires
+    put-result-requires
+    same-length
+    same-length-2
+    same-length-3
+    returns-2
+    same-length-4
+    same-length-5
+    returns-3)
