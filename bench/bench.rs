@@ -1,8 +1,7 @@
 //! Measures check, decode and encode of 16 MiB beside plain Rust table loops in the same process, and a copy for scale; then
-//! judging JSON texts of 16 MiB beside a plain Rust recursive descent. Deterministic input; ours and the peer take turns, so
+//! judging JSON texts of 16 MiB beside a plain Rust recursive descent, and reading messages beside plain Rust. Deterministic input; ours and the peer take turns, so
 //! that both meet the same machine.
 
-#[cfg(probe_read)]
 mod jwe;
 mod validator;
 
@@ -384,6 +383,5 @@ fn main() {
             &format!(" {:>9.3} {:>9.2}", 1e3 / best, base / best),
         );
     }
-    #[cfg(probe_read)]
     jwe::measure();
 }
