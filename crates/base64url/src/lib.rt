@@ -402,7 +402,7 @@ fn encode_block(octets: &[u8], out: &mut [u8], at: usize) -> usize
 }
 
 // The text of octets, likewise.
-fn encode_at(octets: &[u8], out: &mut [u8], at: usize) -> usize
+pub fn encode_at(octets: &[u8], out: &mut [u8], at: usize) -> usize
     requires { ⌜ at + length (encoded (now octets)) ≤ length (now out) ⌝ }
     ensures { λ r. ⌜ r ≡ at + length (encoded (now (octets .entry))) ⌝ }
     ensures { λ _. ⌜ now (out .exit) ≡ written at (encoded (now (octets .entry))) (now (out .entry)) ⌝ }

@@ -9,9 +9,9 @@ use mathlib.Core.List.{List, map}
 use Prim.Native.Nat.{ℕ, _≤_, _<_}
 use lib.ListN.{length, getD}
 use Rattle.prelude.specs.Buffer.{written}
-use Rattle.json.specs.Places.{placedText, emptiedText}
-use Rattle.json.specs.Readings.{Reading}
-use Rattle.json.proofs.Theorems as json
+use Rattle.grammar.specs.Places.{placedText, emptiedText}
+use Rattle.grammar.specs.Readings.{Reading}
+use Rattle.grammar.proofs.Theorems as json
 use Rattle.jwe.specs.Judge.{refusal, refused, result, headerAfter, listAfter}
 use Rattle.meets.specs.Meets.{Meets, count}
 use Rattle.meets.specs.Handed.{Rows, entries, Applies}

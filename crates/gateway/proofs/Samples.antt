@@ -8,16 +8,16 @@ use Rattle.base64url.specs.Fault.{firstOutside, spareBits, fault}
 use Rattle.base64url.specs.Answers.{decodeAnswer}
 use Rattle.names.specs.Names.{names, sound, limited, filled, total, cut, numberIn}
 use Rattle.parts.specs.Parts.{part, seek, seekIn, holds}
-use Rattle.json.specs.Utf8.{utf8, utf8After, follow, encode}
-use Rattle.json.specs.Spellings.{undo, undoFrom, adds, next, equal, has, alike, fingerprint}
-use Rattle.json.specs.Reader.{passOver, skip, turn, scanString, stringAt, digitsAt, intAt, perhapsAt, fractionAt}
-use Rattle.json.specs.Reader.{exponentAt, numberAt, wordAt, beforeAt, entryAt, entriesAt, rowsAt, nestedAt, rowsIn}
-use Rattle.json.specs.Reader.{valueWith, valueAt, membersAt, elementsOf, elementsAt, readText, opensObject}
+use Rattle.grammar.specs.Utf8.{utf8, utf8After, follow, encode}
+use Rattle.grammar.specs.Spellings.{undo, undoFrom, adds, next, equal, has, alike, fingerprint}
+use Rattle.grammar.specs.Reader.{passOver, skip, turn, scanString, stringAt, digitsAt, intAt, perhapsAt, fractionAt}
+use Rattle.grammar.specs.Reader.{exponentAt, numberAt, wordAt, beforeAt, entryAt, entriesAt, rowsAt, nestedAt, rowsIn}
+use Rattle.grammar.specs.Reader.{valueWith, valueAt, membersAt, elementsOf, elementsAt, readText, opensObject}
 use Rattle.rows.specs.Any.{any, anyPair}
 use Rattle.rows.specs.Rows.{entriesIn, present, valueOf, repeated}
 use Rattle.rows.specs.Tables.{listed}
 use Rattle.jose.specs.Registered.{registered, kindAsked}
-use Rattle.jose.specs.Algorithms.{algs, algName, encs, encName, algNames, encNames, zipNames, nth}
+use Rattle.algorithms.specs.Algorithms.{algs, algName, encs, encName, algNames, encNames, zipNames, nth}
 use Rattle.jose.specs.Refusals.{first}
 use Rattle.jose.specs.HeaderRules.{incomplete, wrongCrit, modeIn, recipientOrder}
 use Rattle.headers.specs.Components.{misspelled}

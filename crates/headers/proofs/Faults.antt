@@ -8,7 +8,7 @@ use Rattle.base64url.specs.Answers.{ofFault, checkAnswer}
 use Rattle.base64url.specs.declared.Checked.{Checked}
 use Rattle.base64url.specs.declared.Checked.the-variants.{Sound, Faulty}
 use Rattle.parts.specs.Parts.{part}
-use Rattle.json.specs.Places.{Place}
+use Rattle.grammar.specs.Places.{Place}
 use Rattle.headers.specs.Components.{misspelled}
 
 abbrev pub isFaulty : Checked → Bool

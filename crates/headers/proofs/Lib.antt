@@ -1,5 +1,6 @@
--- For callers: what a stage's answer tells.
+-- For callers: what a stage's answer tells, and what a table holds.
 pub mod Stages
+pub mod Collected
 -- For the proofs of the functions.
 pub mod Faults
 pub mod Bounds

@@ -10,7 +10,7 @@ use lib.Dec.{ltb}
 use borrow.Author.Tests.{ltb-false, le-leb}
 use Rattle.prelude.specs.Buffer.{written}
 use Rattle.prelude.proofs.Writing.{written-length}
-use Rattle.json.specs.Places.{Member}
+use Rattle.grammar.specs.Places.{Member}
 use Rattle.json.specs.Members.{collectedOf}
 use Rattle.json.specs.declared.member.Collected.{Collected}
 use Rattle.json.specs.declared.member.Collected.the-variants.{Rows, More}

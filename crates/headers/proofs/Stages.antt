@@ -1,15 +1,18 @@
--- For callers of a stage: what its answer tells of its refusals, and that their numbers are none of them 0, so that
--- orders can be put one behind the other (jose's `first-append`).
-use mathlib.Core.Path.{_≡_, refl}
+-- For callers of a stage, and of the rules on a recipient: what the answer tells of the refusals, and that their numbers
+-- are none of them 0, so that orders can be put one behind the other (jose's `first-append`).
+use mathlib.Core.Path.{_≡_, refl, _∙_}
 use mathlib.Core.Bool.{Bool, true, false, cond}
-use mathlib.Core.List.{List}
+use mathlib.Core.List.{List, _++_}
 use Prim.Native.Nat.{ℕ, _<_}
 use native.Mathlib.Omega.{arith}
 use lib.Dec.{eqb}
 use borrow.Author.Tests.{eqb-true, eqb-false}
 use Rattle.rows.specs.Rows.{Entry}
-use Rattle.jose.proofs.Refusals.{nonzero}
-use Rattle.headers.specs.Headers.{textOrder, objectOrder}
+use Rattle.jose.specs.Judged.{judgedOf}
+use Rattle.jose.specs.declared.judge.Judged.the-variants as ruled
+use Rattle.jose.specs.Refusals.{Test, first}
+use Rattle.jose.proofs.Refusals.{nonzero, first-stop}
+use Rattle.headers.specs.Headers.{tooLong, unread, textOrder, objectOrder}
 use Rattle.headers.specs.Answers.{stageOf}
 use Rattle.headers.specs.declared.Stage.the-variants.{Passed, Refused}
 
@@ -32,6 +35,24 @@ module _ (n refusal passes : ℕ) where
       cases true t e = let z : _≡_ {A = ℕ} 0 1 = cc in absurd (omega arith)
       cases false t e = let same : refusal ≡ n = cc in (same, omega (arith, eqb-false refusal 0 t))
 
+-- The answer of the rules.
+module _ (n k p : ℕ) where
+  pub ruled-mode : ruled.Mode n ≡ judgedOf k p → (k ≡ 0) × (n ≡ p)
+  unfolding judgedOf
+  ruled-mode e = cases (eqb k 0) refl e
+    where
+      cases : (b : Bool) → eqb k 0 ≡ b → ruled.Mode n ≡ cond b (ruled.Mode p) (ruled.Refused k) → (k ≡ 0) × (n ≡ p)
+      cases true t e = (eqb-true k 0 t, cc)
+      cases false t e = let z : _≡_ {A = ℕ} 0 1 = cc in absurd (omega arith)
+
+  pub ruled-refused : ruled.Refused n ≡ judgedOf k p → (k ≡ n) × (0 < n)
+  unfolding judgedOf
+  ruled-refused e = cases (eqb k 0) refl e
+    where
+      cases : (b : Bool) → eqb k 0 ≡ b → ruled.Refused n ≡ cond b (ruled.Mode p) (ruled.Refused k) → (k ≡ n) × (0 < n)
+      cases true t e = let z : _≡_ {A = ℕ} 0 1 = cc in absurd (omega arith)
+      cases false t e = let same : k ≡ n = cc in (same, omega (arith, eqb-false k 0 t))
+
 pub text-nonzero : (header : List ℕ) → nonzero (textOrder header) ≡ true
 unfolding textOrder
 text-nonzero header = refl
@@ -39,3 +60,16 @@ text-nonzero header = refl
 pub object-nonzero : (s : List ℕ) (es : List Entry) → nonzero (objectOrder s es) ≡ true
 unfolding objectOrder
 object-nonzero s es = refl
+
+-- A list of tests that refuses, and whatever tests behind it.
+pub stopped : (xs ys : List Test) → nonzero xs ≡ true → (n : ℕ) → first xs ≡ n → 0 < n → first (xs ++ ys) ≡ n
+stopped xs ys p n e h = first-stop xs ys p (λ z. omega (arith, z, e, h)) ∙ e
+
+-- A header whose text passes 6 is within its room.
+pub not-long : (header : List ℕ) → first (textOrder header) ≡ 0 → tooLong header ≡ false
+unfolding first textOrder
+not-long header = cases (tooLong header) (unread header)
+  where
+    cases : (b c : Bool) → _≡_ {A = ℕ} (cond b 6 (cond c 7 0)) 0 → b ≡ false
+    cases true c e = absurd (omega arith)
+    cases false c e = refl

@@ -14,8 +14,8 @@ use Rattle.base64url.specs.Answers.{ofFault, decodeAnswer, decodeInto, decodeBu
 use Rattle.base64url.specs.declared.Decoded.{Decoded}
 use Rattle.base64url.specs.declared.Decoded.the-variants.{Octets, Misspelled, Short}
 use Rattle.parts.specs.Parts.{part}
-use Rattle.json.specs.Places.{Place}
-use Rattle.json.specs.Reader.{Answer, nothing, found, readText}
+use Rattle.grammar.specs.Places.{Place}
+use Rattle.grammar.specs.Reader.{Answer, nothing, found, readText}
 use Rattle.json.specs.Ends.{foundOf}
 use Rattle.json.specs.declared.Found.{Found}
 use Rattle.json.specs.declared.Found.the-variants.{Value, Nothing}
@@ -140,7 +140,7 @@ abbrev pub noValue : Found → Bool
 noValue (Value end kind) = false
 noValue Nothing = true
 
-by-reading : (a : Answer) → noValue (foundOf a) ≡ isNothing a
+pub by-reading : (a : Answer) → noValue (foundOf a) ≡ isNothing a
 by-reading nothing = refl
 by-reading (found e k) = refl
 

@@ -6,7 +6,7 @@ use Prim.Native.Nat.{ℕ}
 use lib.ListN.{length}
 use lib.Dec.{eqb}
 use Rattle.prelude.specs.Buffer.{written}
-use Rattle.json.specs.Places as json
+use Rattle.grammar.specs.Places as json
 use Rattle.json.specs.declared.member.Place.{Place}
 use Rattle.headers.specs.Headers.{tooLong}
 use Rattle.headers.specs.declared.Stage.{Stage}

@@ -1,11 +1,12 @@
 -- The components of a message by their places in it, and refusal 5.
-use mathlib.Core.List.{List, [], _∷_}
+use mathlib.Core.List.{List, [], _∷_, _++_}
 use mathlib.Core.Bool.{Bool, true, false}
 use Prim.Native.Nat.{ℕ}
+use Rattle.base64url.specs.Base64url.{encoded}
 use Rattle.base64url.specs.Fault.{fault}
 use Rattle.base64url.specs.Answers.{ofFault}
 use Rattle.parts.specs.Parts.{part}
-use Rattle.json.specs.Places.{Place}
+use Rattle.grammar.specs.Places.{Place}
 
 -- The octets at a place of the message.
 abbrev pub octetsAt : List ℕ → Place → List ℕ
@@ -31,3 +32,16 @@ places q = q .protected ∷ q .key ∷ q .iv ∷ q .aad ∷ q .ciphertext ∷ q 
 -- 5: a component is not base64url.
 unfoldable pub misspelled : List ℕ → Place → Bool
 misspelled message q = ofFault (fault (octetsAt message q)) false true
+
+-- The compact serialization (RFC 7516, section 7.1): BASE64URL(UTF8(JWE Protected Header)) || '.' ||
+-- BASE64URL(JWE Encrypted Key) || '.' || BASE64URL(JWE Initialization Vector) || '.' || BASE64URL(JWE Ciphertext) || '.' ||
+-- BASE64URL(JWE Authentication Tag)
+
+-- .
+abbrev pub fullStop : ℕ
+fullStop = 46
+
+abbrev pub dotted : List ℕ → List ℕ → List ℕ → List ℕ → List ℕ → List ℕ
+dotted header key iv ciphertext tag =
+    encoded header
+    ++ (fullStop ∷ (encoded key ++ (fullStop ∷ (encoded iv ++ (fullStop ∷ (encoded ciphertext ++ (fullStop ∷ encoded tag)))))))

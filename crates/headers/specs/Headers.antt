@@ -5,8 +5,8 @@ use Prim.Native.Nat.{ℕ}
 use lib.ListN.{length}
 use lib.Dec.{eqb, ltb}
 use Rattle.base64url.specs.Base64url.{decoded}
-use Rattle.json.specs.Places.{Place, Member}
-use Rattle.json.specs.Reader.{Answer, nothing, found, skipSpace, membersAt, readText}
+use Rattle.grammar.specs.Places.{Place, Member}
+use Rattle.grammar.specs.Reader.{Answer, nothing, found, skipSpace, membersAt, readText}
 use Rattle.rows.specs.Rows.{Entry, entriesIn, repeated}
 use Rattle.jose.specs.Registered.{registered}
 use Rattle.jose.specs.Refusals.{Test, _if_}

@@ -4,16 +4,17 @@ ghost use mathlib.Core.Bool.{true, false};
 ghost use Prim.Native.Nat.{_+_, _*_, _≤_};
 ghost use lib.ListN.{length};
 ghost use Rattle.names.specs.Names.{names, filled};
-ghost use Rattle.json.specs.Reader.{membersAt};
+ghost use Rattle.grammar.specs.Reader.{membersAt};
 ghost use Rattle.rows.specs.Rows.{entriesIn};
 ghost use Rattle.rows.specs.Tables.{collectedTable};
 ghost use Rattle.jose.specs.Refusals.{first};
 ghost use Rattle.headers.specs.Components.{misspelled};
-ghost use Rattle.headers.specs.Headers.{headerText, textOrder, objectOrder};
+ghost use Rattle.headers.specs.Headers.{headerText, textOrder, protectedEntries, objectOrder};
 ghost use Rattle.headers.specs.Answers.{placeOf, stageOf, headerBuffer};
 use base64url::Checked;
 use base64url::Decoded;
 use json::Found;
+use json::Position;
 use json::member::Collected;
 use json::member::Place;
 
@@ -59,6 +60,18 @@ pub fn object(
         return Stage::Refused(9);
     }
     Stage::Passed(count)
+}
+
+// 8 and 9 on the decoded protected header: its parameters as entries at the start of the table, and how many they are.
+pub fn protected_entries(header: &[u8], table: &mut [u32]) -> Stage
+    requires { ⌜ length (now header) ≤ 16777216 ⌝ }
+    requires { ⌜ 256 ≤ length (now table) ⌝ }
+    ensures { λ r. ⌜ r ≡ stageOf (first (objectOrder (now (header .entry)) (protectedEntries (now (header .entry))))) (length (protectedEntries (now (header .entry)))) ⌝ }
+    ensures { λ _. ⌜ now (table .exit) ≡ collectedTable 0 (protectedEntries (now (header .entry))) (now (table .entry)) ⌝ }
+{
+    let list = jose::lists::REGISTERED;
+    let start = Position { at: 0 }.skip_space(header);
+    object(header, start.at, 0, &list, table, 0)
 }
 
 // 6 and 7 on the protected header, whose encoded text at a place of the message has no fault: it is decoded into the

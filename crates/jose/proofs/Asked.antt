@@ -12,7 +12,7 @@ use Rattle.names.specs.Names.{numberIn}
 use Rattle.rows.specs.Rows.{Entry, spelledValue, valueIn}
 use Rattle.rows.specs.Tables.{firstOf, entriesOf}
 use Rattle.rows.proofs.Entries.{entry-at, entries-done}
-use Rattle.jose.specs.Algorithms.{algs, algNames, encNames, zipNames, nth, modeOf}
+use Rattle.algorithms.specs.Algorithms.{algs, algNames, encNames, zipNames, nth, modeOf}
 use Rattle.jose.specs.Registered.{alg, enc, zip, crit, jwk, x5c, object, array, string, anyKind, kindAsked}
 use Rattle.jose.specs.HeaderRules.{wrongKind, unlisted, unprotected, modeIn}
 use Rattle.jose.proofs.InTable.{text-header, text-message}

@@ -4,9 +4,9 @@ use mathlib.Core.List.{List, [], _∷_}
 use Prim.Native.Nat.{ℕ, zero, suc, _-_, _<_}
 use native.Mathlib.Omega.{arith}
 use lib.ListN.{length}
-use Rattle.json.specs.Grammar.{square}
-use Rattle.json.specs.Places.{Element, Member}
-use Rattle.json.specs.Reader.{step, entryAt, valueAt, asElement, elementsOf, elementsAt}
+use Rattle.grammar.specs.Grammar.{square}
+use Rattle.grammar.specs.Places.{Element, Member}
+use Rattle.grammar.specs.Reader.{step, entryAt, valueAt, asElement, elementsOf, elementsAt}
 use Rattle.json.specs.Members.{firstIn, memberOf, fiveOf, numbers}
 use Rattle.json.specs.declared.Position.{Position}
 use Rattle.json.specs.declared.member.Row.{Row}

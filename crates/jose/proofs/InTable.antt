@@ -9,8 +9,8 @@ use lib.Seq.{getD-drop}
 use lib.Dec.{eqb}
 use borrow.Author.Tests.{eq-eqb, ne-eqb}
 use Rattle.parts.specs.Parts.{part}
-use Rattle.json.specs.Reader.{elementsAt}
-use Rattle.json.specs.Spellings.{alike}
+use Rattle.grammar.specs.Reader.{elementsAt}
+use Rattle.grammar.specs.Spellings.{alike}
 use Rattle.rows.specs.Rows.{Entry, textOf}
 use Rattle.rows.specs.Tables.{firstOf}
 use Rattle.jose.specs.Registered.{crit}

@@ -1,7 +1,6 @@
 -- The first test that fails; for crates above.
 pub mod Refusals
 -- For the proofs of the functions.
-pub mod Numbered
 pub mod Asked
 pub mod Elements
 pub mod InTable

@@ -4,9 +4,9 @@ use mathlib.Core.Path.{_≡_, refl, ap, sym, _∙_}
 use mathlib.Core.Bool.{Bool, true, false, _||_}
 use mathlib.Core.List.{List, [], _∷_}
 use Prim.Native.Nat.{ℕ, _-_, _<_}
-use Rattle.json.specs.Grammar.{square}
-use Rattle.json.specs.Places.{Element}
-use Rattle.json.specs.Reader.{entryAt, valueAt}
+use Rattle.grammar.specs.Grammar.{square}
+use Rattle.grammar.specs.Places.{Element}
+use Rattle.grammar.specs.Reader.{entryAt, valueAt}
 use Rattle.json.specs.Members.{memberOf}
 use Rattle.json.specs.declared.Position.{Position}
 use Rattle.json.specs.declared.member.Row.{Row}

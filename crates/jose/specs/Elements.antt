@@ -1,9 +1,9 @@
 -- The elements of an array one after the other, as the code walks them.
 use mathlib.Core.List.{List}
 use Prim.Native.Nat.{ℕ}
-use Rattle.json.specs.Grammar.{square}
-use Rattle.json.specs.Places.{Element}
-use Rattle.json.specs.Reader.{elementsOf, rowsAt, valueAt}
+use Rattle.grammar.specs.Grammar.{square}
+use Rattle.grammar.specs.Places.{Element}
+use Rattle.grammar.specs.Reader.{elementsOf, rowsAt, valueAt}
 use Rattle.json.specs.declared.member.Row.{Row}
 use Rattle.jose.specs.HeaderRules.{levels}
 

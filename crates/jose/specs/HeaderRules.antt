@@ -6,12 +6,12 @@ use Prim.Native.Nat.{ℕ, _+_, _-_}
 use lib.Dec.{eqb}
 use Rattle.parts.specs.Parts.{part}
 use Rattle.names.specs.Names.{numberIn}
-use Rattle.json.specs.Places.{Element}
-use Rattle.json.specs.Reader.{elementsAt}
-use Rattle.json.specs.Spellings.{alike}
+use Rattle.grammar.specs.Places.{Element}
+use Rattle.grammar.specs.Reader.{elementsAt}
+use Rattle.grammar.specs.Spellings.{alike}
 use Rattle.rows.specs.Any.{any, anyPair}
 use Rattle.rows.specs.Rows.{Entry, textOf, nameIn, valueIn, numbered, present, repeated}
-use Rattle.jose.specs.Algorithms.{algs, algNames, encNames, zipNames, nth, modeOf}
+use Rattle.algorithms.specs.Algorithms.{algs, algNames, encNames, zipNames, nth, modeOf}
 use Rattle.jose.specs.Registered.{registered, alg, enc, zip, crit, string, anyKind, kindAsked}
 use Rattle.jose.specs.Refusals.{Test, _if_}
 

@@ -1,4 +1,3 @@
-pub mod Algorithms
 pub mod Registered
 pub mod Refusals
 pub mod HeaderRules

@@ -4,7 +4,7 @@ ghost use mathlib.Core.Path.{_≡_};
 ghost use mathlib.Core.Bool.{true};
 ghost use Prim.Native.Nat.{_+_, _-_, _*_, _≤_};
 ghost use lib.ListN.{length, drop};
-ghost use Rattle.json.specs.Reader.{elementsAt};
+ghost use Rattle.grammar.specs.Reader.{elementsAt};
 ghost use Rattle.names.specs.Names.{names, filled};
 ghost use Rattle.rows.specs.Any.{any, anyPair};
 ghost use Rattle.rows.specs.Tables.{firstOf, entriesOf};
@@ -81,7 +81,7 @@ fn some_unknown(s: &[u8], known: &[u8], at: usize) -> bool
 fn same(s: &[u8], a: Row, b: Row) -> bool
     ensures { λ r. ⌜ r ≡ sameElement (now (s .entry)) (elementOf a) (elementOf b) ⌝ }
 {
-    json::spelling::alike(spelled(s, a), spelled(s, b))
+    spelling::alike(spelled(s, a), spelled(s, b))
 }
 
 // Whether one of the elements from a position on, at most so many, says what an element says.
@@ -135,9 +135,9 @@ fn says(header: &[u8], message: &[u8], table: &[u32], i: usize, w: &[u8]) -> boo
     let start = table[at + 1] as usize;
     let len = table[at + 2] as usize;
     if table[at] == 0 {
-        return json::spelling::alike(parts::part(header, start, len), w);
+        return spelling::alike(parts::part(header, start, len), w);
     }
-    json::spelling::alike(parts::part(message, start, len), w)
+    spelling::alike(parts::part(message, start, len), w)
 }
 
 // Whether some entry's name does.

@@ -7,11 +7,11 @@ ghost use Rattle.names.specs.Names.{names, filled, numberIn};
 ghost use Rattle.rows.specs.Any.{any};
 ghost use Rattle.rows.specs.Rows.{valueIn};
 ghost use Rattle.rows.specs.Tables.{firstOf, entriesOf};
-ghost use Rattle.jose.specs.Algorithms.{algs, algNames, nth, modeOf};
+ghost use Rattle.algorithms.specs.Algorithms.{algs, algNames, nth, modeOf};
 ghost use Rattle.jose.specs.Registered.{kindAsked};
 ghost use Rattle.jose.specs.HeaderRules.{incomplete, wrongKind, unlisted, unprotected, modeIn};
-use crate::algorithms::Alg;
-use crate::algorithms::NamedAlg;
+use algorithms::Alg;
+use algorithms::NamedAlg;
 use crate::lists::ALG;
 use crate::lists::CRIT;
 use crate::lists::ENC;
@@ -107,15 +107,15 @@ fn unlisted_at(header: &[u8], message: &[u8], table: &[u32], i: usize) -> bool
 {
     let number = table[i * 8 + 6];
     if number == ALG {
-        let list = crate::lists::ALGS;
+        let list = algorithms::ALGS;
         return number_in(&list, header, message, table, i) == 0;
     }
     if number == ENC {
-        let list = crate::lists::ENCS;
+        let list = algorithms::ENCS;
         return number_in(&list, header, message, table, i) == 0;
     }
     if number == ZIP {
-        let list = crate::lists::ZIPS;
+        let list = algorithms::ZIPS;
         return number_in(&list, header, message, table, i) == 0;
     }
     false
@@ -170,7 +170,7 @@ fn mode_at(header: &[u8], message: &[u8], table: &[u32], i: usize) -> u32
     requires { ⌜ i * 8 + 8 ≤ length (now table) ⌝ }
     ensures { λ r. ⌜ r ≡ modeOf (nth algs (numberIn algNames (valueIn (now (header .entry)) (now (message .entry)) (firstOf (drop (i * 8) (now (table .entry))))))) ⌝ }
 {
-    let list = crate::lists::ALGS;
+    let list = algorithms::ALGS;
     let NamedAlg::Alg(alg) = Alg::numbered(number_in(&list, header, message, table, i)) else {
         return 0;
     };

@@ -7,12 +7,13 @@ use native.Mathlib.Omega.{arith}
 use lib.ListN.{length}
 use lib.Dec.{eqb}
 use borrow.Author.Tests.{eq-eqb, ne-eqb}
-use Rattle.json.specs.Grammar.{quote, comma}
-use Rattle.json.specs.Reader.{End, refused, ended, found, octetAt, step, skipSpace, between, stringAt, entryOf}
+use Rattle.grammar.specs.Grammar.{quote, comma}
+use Rattle.grammar.specs.Reader.{End, refused, ended, found, octetAt, step, skipSpace, between, stringAt, entryOf}
 use Rattle.json.specs.Members.{nextFrom, memberOf}
 use Rattle.json.specs.declared.Position.{Position}
 use Rattle.json.specs.declared.member.Member.the-variants.{Here}
-use Rattle.json.proofs.StringParts.{class-inside, scan}
+use Rattle.grammar.proofs.Here.{class-inside}
+use Rattle.json.proofs.StringParts.{scan}
 
 module _ (s : List ℕ) (at after c : ℕ) (ha : after ≡ skipSpace s at) (hc : c ≡ octetAt s after) where
   stands : (b : Bool) → eqb c comma ≡ b

@@ -8,17 +8,17 @@ use native.Mathlib.Omega.{arith}
 use lib.ListN.{length}
 use lib.Dec.{eqb}
 use borrow.Author.Tests.{eqb-true}
-use Rattle.json.specs.Grammar.{Bracket, curly, square, comma, closing}
-use Rattle.json.specs.Places as places
-use Rattle.json.specs.Reader.{Answer, nothing, refused, octetAt, step, skipSpace, stringAt, Entry, entryOf}
-use Rattle.json.specs.Reader.{entryAt, beforeAt, rowsAfter, rowsAt, rowsIn, valueWith, valueAt, nestedWithin}
-use Rattle.json.specs.Reader.{membersAt, elementsOf, elementsAt}
+use Rattle.grammar.specs.Grammar.{Bracket, curly, square, comma, closing}
+use Rattle.grammar.specs.Places as places
+use Rattle.grammar.specs.Reader.{Answer, nothing, refused, octetAt, step, skipSpace, stringAt, Entry, entryOf}
+use Rattle.grammar.specs.Reader.{entryAt, beforeAt, rowsAfter, rowsAt, rowsIn, valueWith, valueAt, nestedWithin}
+use Rattle.grammar.specs.Reader.{membersAt, elementsOf, elementsAt}
 use Rattle.json.specs.Members.{nextFrom, rowOf, memberOf, numbers, fiveOf}
 use Rattle.json.specs.declared.Position.{Position}
 use Rattle.json.specs.declared.member.Row.{Row}
 use Rattle.json.specs.declared.member.Member.the-variants.{Here, End}
-use Rattle.json.proofs.Here.{octet-end}
-use Rattle.json.proofs.Turns.{rows-turn, member-no-name, value-is}
+use Rattle.grammar.proofs.Here.{octet-end}
+use Rattle.grammar.proofs.Turns.{rows-turn, member-no-name, value-is}
 use Rattle.json.proofs.StringParts.{string-not}
 
 -- What an answer of the code says of the entry

@@ -9,7 +9,7 @@ use lib.Seq.{take-suc, drop-cons, take-at, drop-at, take-all, drop-drop}
 use borrow.Author.Tests.{le-leb, lt-leb}
 use Rattle.prelude.specs.Buffer.{written}
 use Rattle.prelude.proofs.Writing.{written-length}
-use Rattle.json.specs.Places as places
+use Rattle.grammar.specs.Places as places
 use Rattle.json.specs.Members.{numbers, flat, collectedOf}
 use Rattle.json.specs.declared.member.Collected.the-variants.{Rows, More}
 

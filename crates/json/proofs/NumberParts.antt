@@ -5,9 +5,9 @@ use mathlib.Core.List.{List}
 use Prim.Native.Nat.{ℕ}
 use native.Mathlib.Omega.{arith}
 use lib.Dec.{eqb}
-use Rattle.json.specs.Grammar.{isDigit, isNonzero, isMinus, isPoint, isE, isPlusMinus}
-use Rattle.json.specs.Reader.{End, refused, ended, andThen, octetAt, step, skip, perhapsAt, digitsAt, intAt}
-use Rattle.json.specs.Reader.{fractionAt, exponentAt, numberAt}
+use Rattle.grammar.specs.Grammar.{isDigit, isNonzero, isMinus, isPoint, isE, isPlusMinus}
+use Rattle.grammar.specs.Reader.{End, refused, ended, andThen, octetAt, step, skip, perhapsAt, digitsAt, intAt}
+use Rattle.grammar.specs.Reader.{fractionAt, exponentAt, numberAt}
 use Rattle.json.specs.Ends.{endsOf}
 use Rattle.json.specs.declared.Position.{Position}
 use Rattle.json.specs.declared.Ends.the-variants.{At, Refused}

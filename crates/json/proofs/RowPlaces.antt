@@ -7,11 +7,11 @@ use native.Mathlib.Nat.{le-of-suc-le-suc, not-suc-le-zero}
 use native.Mathlib.Omega.{arith}
 use lib.ListN.{length, take, drop, getD, List·getD-append}
 use Rattle.prelude.specs.Buffer.{written}
-use Rattle.json.specs.Grammar.{Bracket, curly}
-use Rattle.json.specs.Places.{Member}
-use Rattle.json.specs.Reader.{membersAt}
+use Rattle.grammar.specs.Grammar.{Bracket, curly}
+use Rattle.grammar.specs.Places.{Member}
+use Rattle.grammar.specs.Reader.{membersAt}
 use Rattle.json.specs.Members.{numbers, flat}
-use Rattle.json.specs.Bounds.{Every, Inside, RowAt}
+use Rattle.grammar.specs.Bounds.{Every, Inside, RowAt}
 use Rattle.json.proofs.MemberTable.{flat-length}
 use Rattle.json.proofs.Within.{every-take, members-within}
 

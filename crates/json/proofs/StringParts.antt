@@ -11,18 +11,18 @@ use lib.Dec.{T, eqb, leb, ltb}
 use borrow.Author.Tests.{lt-ltb, le-ltb, ltb-true, ltb-false, leb-true, eqb-true, eq-eqb, ne-eqb}
 use Rattle.prelude.proofs.Lists.{drop-next}
 use Rattle.prelude.proofs.Numbers.{below}
-use Rattle.json.specs.Grammar.{quote, backslash, letterU, among, isDigit, isUnescaped, isEscape, isHex}
-use Rattle.json.specs.Strings.{hexDigit, hexMore, isHigh, isLow}
-use Rattle.json.specs.Reader.{End, refused, ended, Scan, between, escaping, digit, Turn, broken, closed, goOn}
-use Rattle.json.specs.Reader.{octetAt, step, skip, passOver, turn, afterUnit, afterChar, scanString, stringAt}
+use Rattle.grammar.specs.Grammar.{quote, backslash, letterU, among, isDigit, isUnescaped, isEscape, isHex}
+use Rattle.grammar.specs.Strings.{hexDigit, hexMore, isHigh, isLow}
+use Rattle.grammar.specs.Reader.{End, refused, ended, Scan, between, escaping, digit, Turn, broken, closed, goOn}
+use Rattle.grammar.specs.Reader.{octetAt, step, skip, passOver, turn, afterUnit, afterChar, scanString, stringAt}
 use Rattle.json.specs.Ends.{hexAt, resumed, Beyond, escapeOf, Plain}
 use Rattle.json.specs.declared.string.Hex.{Hex}
 use Rattle.json.specs.declared.string.Escape.{Escape}
 use Rattle.json.specs.declared.string.Escape.the-variants.{Next, Wrong}
 use Rattle.json.specs.declared.string.Hex.the-variants.{More, Wrong as NoHex}
 use Rattle.json.specs.declared.Position.{Position}
-use Rattle.json.proofs.Scan.{T→true, all, among-all}
-use Rattle.json.proofs.Here.{octet-here, octet-end, step-inside, step-end, skip-end, skip-next, skip-stop}
+use Rattle.grammar.proofs.Scan.{T→true, all, among-all}
+use Rattle.grammar.proofs.Here.{octet-here, octet-end, step-inside, step-end, class-inside, skip-end, skip-next, skip-stop}
 
 -- What is left after a turn that ends before position p.
 unfoldable pub resume : List ℕ → ℕ → Turn → End
@@ -64,15 +64,6 @@ scan-turn s x at = cases (ltb at (length s)) refl
         let h = ltb-false at (length s) e in
         ap (λ (t : List ℕ). scanString x t at) (drop-of-length-le s {i = at} h)
         ∙ sym (ap (resume s (step s at)) (ap (turn x) (sym (octet-end s at h)) ∙ turn-end x))
-
--- A position whose octet is in a class that leaves 256 out is inside the text.
-pub class-inside : (p : ℕ → Bool) (s : List ℕ) (at : ℕ) → p 256 ≡ false → p (octetAt s at) ≡ true → at < length s
-class-inside p s at never here = cases (ltb at (length s)) refl
-  where
-    cases : (b : Bool) → ltb at (length s) ≡ b → at < length s
-    cases true e = ltb-true at (length s) e
-    cases false e =
-        absurd (true≢false (sym here ∙ ap p (sym (octet-end s at (ltb-false at (length s) e))) ∙ never))
 
 pub class-steps : (p : ℕ → Bool) (s : List ℕ) (at : ℕ) → p 256 ≡ false → p (octetAt s at) ≡ true → step s at ≡ at + 1
 class-steps p s at never here = sym (step-inside s at (class-inside p s at never here))

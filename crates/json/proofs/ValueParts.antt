@@ -9,18 +9,18 @@ use lib.ListN.{length, drop, getD, drop-of-length-le}
 use lib.Dec.{eqb}
 use borrow.Author.Tests.{eq-eqb, ne-eqb}
 use Rattle.prelude.proofs.Lists.{drop-next}
-use Rattle.json.specs.Grammar.{colon, Bracket, curly, square, opening, letters, literal-true, literal-false}
-use Rattle.json.specs.Grammar.{literal-null}
-use Rattle.json.specs.Utf8.{utf8}
-use Rattle.json.specs.Reader.{End, refused, ended, octetAt, step, skipSpace, stringAt, numberAt, wordAt}
-use Rattle.json.specs.Reader.{Answer, nothing, found, ofKind, Before, colonAt, beforeAt, valueAfter, entryAt}
-use Rattle.json.specs.Reader.{closeOr, afterEntry, entriesAt, isNumberStart, valueWith, valueAt}
-use Rattle.json.specs.Reader.{nestedWithin, wholly, readText}
+use Rattle.grammar.specs.Grammar.{colon, Bracket, curly, square, opening, letters, literal-true, literal-false}
+use Rattle.grammar.specs.Grammar.{literal-null}
+use Rattle.grammar.specs.Utf8.{utf8}
+use Rattle.grammar.specs.Reader.{End, refused, ended, octetAt, step, skipSpace, stringAt, numberAt, wordAt}
+use Rattle.grammar.specs.Reader.{Answer, nothing, found, ofKind, Before, colonAt, beforeAt, valueAfter, entryAt}
+use Rattle.grammar.specs.Reader.{closeOr, afterEntry, entriesAt, isNumberStart, valueWith, valueAt}
+use Rattle.grammar.specs.Reader.{nestedWithin, wholly, readText}
 use Rattle.json.specs.Ends.{endsOf, foundOf, endsOfKind, valueIn}
 use Rattle.json.specs.declared.Position.{Position}
 use Rattle.json.specs.declared.Ends.{Ends}
 use Rattle.json.specs.declared.Found.the-variants.{Value, Nothing}
-use Rattle.json.proofs.Turns.{entries-none, entries-turn, value-is}
+use Rattle.grammar.proofs.Turns.{entries-none, entries-turn, value-is}
 
 -- what an answer of the code says of the reader's
 

@@ -9,20 +9,20 @@ use native.Mathlib.Omega.{arith}
 use lib.ListN.{length, take}
 use lib.Dec.{eqb}
 use Rattle.prelude.specs.Buffer.{AllBelow}
-use Rattle.json.specs.Grammar.{quote, colon, comma, isSpace, letterT, letterF, letterN, Literal, literal-true}
-use Rattle.json.specs.Grammar.{literal-false, literal-null, letters, Bracket, curly, square, opening, closing}
-use Rattle.json.specs.Places.{Place, kindNested, Member}
-use Rattle.json.specs.Reader.{octetAt, step, skipSpace, End, refused, ended, stringAt, numberAt, wordAt, Answer}
-use Rattle.json.specs.Reader.{nothing, found, ofKind, Before, colonAt, beforeAt, Entry, entryOf, valueAfter}
-use Rattle.json.specs.Reader.{entryAt, closeOr, afterEntry, entriesAt, rowsAfter, rowsAt, nestedAt, rowsIn}
-use Rattle.json.specs.Reader.{isNumberStart, valueWith, valueAt, membersAt, elementsOf, elementsAt}
+use Rattle.grammar.specs.Grammar.{quote, colon, comma, isSpace, letterT, letterF, letterN, Literal, literal-true}
+use Rattle.grammar.specs.Grammar.{literal-false, literal-null, letters, Bracket, curly, square, opening, closing}
+use Rattle.grammar.specs.Places.{Place, kindNested, Member}
+use Rattle.grammar.specs.Reader.{octetAt, step, skipSpace, End, refused, ended, stringAt, numberAt, wordAt, Answer}
+use Rattle.grammar.specs.Reader.{nothing, found, ofKind, Before, colonAt, beforeAt, Entry, entryOf, valueAfter}
+use Rattle.grammar.specs.Reader.{entryAt, closeOr, afterEntry, entriesAt, rowsAfter, rowsAt, nestedAt, rowsIn}
+use Rattle.grammar.specs.Reader.{isNumberStart, valueWith, valueAt, membersAt, elementsOf, elementsAt}
 use Rattle.json.specs.Members.{nextFrom, rowOf, memberOf, flat}
 use Rattle.json.specs.declared.Position.{Position}
 use Rattle.json.specs.declared.member.Row.{Row}
 use Rattle.json.specs.declared.member.Member.the-variants.{Here}
-use Rattle.json.specs.Bounds.{Every, Within, nameFrom, Inside, InsideElement}
-use Rattle.json.proofs.Endings.{either, Ended, step-on, step-in, skip-on, skip-in, seen, behind, string-in}
-use Rattle.json.proofs.Endings.{number-in, letters-in}
+use Rattle.grammar.specs.Bounds.{Every, Within, nameFrom, Inside, InsideElement}
+use Rattle.grammar.proofs.Endings.{either, Ended, step-on, step-in, skip-on, skip-in, seen, behind, string-in}
+use Rattle.grammar.proofs.Endings.{number-in, letters-in}
 
 -- Answers of readers of values, and of objects and arrays past their opening bracket.
 

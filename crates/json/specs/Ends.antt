@@ -5,10 +5,10 @@ use mathlib.Core.Bool.{Bool, true, cond}
 use mathlib.Core.List.{List}
 use mathlib.Core.Option.{Option, none, some}
 use lib.ListN.{length, drop, getD}
-use Rattle.json.specs.Grammar.{isUnescaped, isHex}
-use Rattle.json.specs.Strings.{hexMore}
-use Rattle.json.specs.Reader.{octetAt, step, End, refused, ended, Turn, broken, closed, goOn, between, escaping, digit, scanString}
-use Rattle.json.specs.Reader.{Answer, nothing, found, Before}
+use Rattle.grammar.specs.Grammar.{isUnescaped, isHex}
+use Rattle.grammar.specs.Strings.{hexMore}
+use Rattle.grammar.specs.Reader.{octetAt, step, End, refused, ended, Turn, broken, closed, goOn, between, escaping, digit, scanString}
+use Rattle.grammar.specs.Reader.{Answer, nothing, found, Before}
 use Rattle.json.specs.declared.Position.{Position}
 use Rattle.json.specs.declared.Ends.{Ends}
 use Rattle.json.specs.declared.Ends.the-variants.{At, Refused}

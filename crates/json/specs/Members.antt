@@ -5,9 +5,9 @@ use mathlib.Core.List.{List, [], _∷_, _++_}
 use mathlib.Core.Option.{Option, none, some}
 use lib.ListN.{length}
 use lib.Dec.{eqb, leb}
-use Rattle.json.specs.Grammar.{comma}
-use Rattle.json.specs.Places as places
-use Rattle.json.specs.Reader.{octetAt, step, skipSpace, Entry}
+use Rattle.grammar.specs.Grammar.{comma}
+use Rattle.grammar.specs.Places as places
+use Rattle.grammar.specs.Reader.{octetAt, step, skipSpace, Entry}
 use Rattle.json.specs.declared.Position.{Position}
 use Rattle.json.specs.declared.member.Place.{Place}
 use Rattle.json.specs.declared.member.Row.{Row}

@@ -1,15 +1,13 @@
 // JSON by RFC 8259, read in place: positions in a text, and readers that answer where a part ends. What each answers stands
 // in specs/Reader.antt, which specs/Grammar.antt and proofs/Theorems.antt tie to the RFC's grammar.
 ghost use mathlib.Core.Path.{_≡_};
-ghost use Rattle.json.specs.Grammar.{isSpace, isDigit};
-ghost use Rattle.json.specs.Reader.{octetAt, step, skip, skipSpace, opensObject, readText};
+ghost use Rattle.grammar.specs.Grammar.{isSpace, isDigit};
+ghost use Rattle.grammar.specs.Reader.{octetAt, step, skip, skipSpace, opensObject, readText};
 ghost use Rattle.json.specs.Ends.{foundOf};
 
 pub mod member;
 mod number;
-pub mod spelling;
 mod string;
-mod utf8;
 mod value;
 
 // A position in a text: it moves by methods that take it and give the next one.

@@ -3,8 +3,8 @@ ghost use mathlib.Core.Path.{_≡_};
 ghost use Prim.Native.Nat.{_+_, _-_, _≤_};
 ghost use lib.ListN.{length, take};
 ghost use Rattle.prelude.specs.Buffer.{written};
-ghost use Rattle.json.specs.Grammar.{curly, square};
-ghost use Rattle.json.specs.Reader.{entryAt, valueAt, membersAt, elementsAt};
+ghost use Rattle.grammar.specs.Grammar.{curly, square};
+ghost use Rattle.grammar.specs.Reader.{entryAt, valueAt, membersAt};
 ghost use Rattle.json.specs.Members.{firstIn, memberOf, nextFrom, fiveOf, flat, collectedOf};
 use crate::Ends;
 use crate::Found;
@@ -148,24 +148,5 @@ impl Position {
             left -= 1;
         }
         Collected::Rows(count)
-    }
-
-    // How many elements the array that begins here has.
-    pub fn count(self, s: &[u8], levels: u32) -> usize
-        ensures { λ r. ⌜ r ≡ length (elementsAt levels (now (s .entry)) (self .at)) ⌝ }
-    {
-        let mut p = self.step(s).skip_space(s);
-        let mut count: usize = 0;
-        let mut left = s.len();
-        while 0 < left {
-            let found = p.element(s, levels);
-            let Member::Here(_, next) = found else {
-                return count;
-            };
-            count += 1;
-            p = next;
-            left -= 1;
-        }
-        count
     }
 }

@@ -1,7 +1,7 @@
 // Numbers (RFC 8259 section 6), part by part.
 ghost use mathlib.Core.Path.{_≡_};
-ghost use Rattle.json.specs.Grammar.{isDigit, isMinus, isPlusMinus};
-ghost use Rattle.json.specs.Reader.{perhapsAt, digitsAt, intAt, fractionAt, exponentAt, numberAt};
+ghost use Rattle.grammar.specs.Grammar.{isDigit, isMinus, isPlusMinus};
+ghost use Rattle.grammar.specs.Reader.{perhapsAt, digitsAt, intAt, fractionAt, exponentAt, numberAt};
 ghost use Rattle.json.specs.Ends.{endsOf};
 use crate::Ends;
 use crate::Position;

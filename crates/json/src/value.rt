@@ -1,7 +1,7 @@
 // Values (RFC 8259 section 3): objects, arrays and what stands in them, down to so many levels.
 ghost use mathlib.Core.Path.{_≡_};
-ghost use Rattle.json.specs.Grammar.{curly, square};
-ghost use Rattle.json.specs.Reader.{wordAt, beforeAt, isNumberStart, valueAt, nestedWithin};
+ghost use Rattle.grammar.specs.Grammar.{curly, square};
+ghost use Rattle.grammar.specs.Reader.{wordAt, beforeAt, isNumberStart, valueAt, nestedWithin};
 ghost use Rattle.json.specs.Ends.{endsOf, valueIn, endsOfKind, foundOf};
 use crate::Ends;
 use crate::Found;

@@ -3,17 +3,16 @@ use mathlib.Core.Path.{_≡_, refl, ap, _∙_}
 use mathlib.Core.Bool.{Bool, true, false, not}
 use mathlib.Core.List.{List, [], _∷_, _++_}
 use Prim.Native.Nat.{ℕ, _≤_, _<_}
-use native.Mathlib.Omega.{arith}
 use lib.Dec.{eqb, leb}
 use borrow.Author.Tests.{le-leb, lt-leb}
 use Rattle.rows.specs.Any.{any}
 use Rattle.rows.specs.Rows.{Entry}
 use Rattle.jose.specs.Refusals.{Test, _if_, first}
 use Rattle.jose.specs.HeaderRules.{recipientOrder}
-use Rattle.jose.proofs.Refusals.{nonzero, first-fails, first-passes, first-skip, first-stop}
+use Rattle.jose.proofs.Refusals.{nonzero, first-fails, first-passes, first-skip}
 use Rattle.headers.specs.Components.{places, misspelled}
 use Rattle.headers.specs.Headers.{headerText, textOrder, protectedEntries, objectOrder}
-use Rattle.headers.proofs.Stages.{text-nonzero, object-nonzero}
+use Rattle.headers.proofs.Stages.{text-nonzero, object-nonzero, stopped}
 use Rattle.jwe.specs.Compact.{fourStops, compactComponents, compactOrder}
 
 -- No rule has the number 0.
@@ -21,10 +20,6 @@ pub rules-nonzero : (known : List (List ℕ)) (header message : List ℕ) (es : 
     nonzero (recipientOrder known header message es noKey) ≡ true
 unfolding recipientOrder
 rules-nonzero known header message es noKey = refl
-
--- A list of tests that refuses, and whatever tests behind it.
-stopped : (xs ys : List Test) → nonzero xs ≡ true → (n : ℕ) → first xs ≡ n → 0 < n → first (xs ++ ys) ≡ n
-stopped xs ys p n e h = first-stop xs ys p (λ z. omega (arith, z, e, h)) ∙ e
 
 -- The decoded protected header, and its parameters.
 

@@ -13,8 +13,8 @@ use borrow.Author.Tests.{eq-eqb, ne-eqb, le-leb, ltb-false}
 use Rattle.prelude.specs.Buffer.{written}
 use Rattle.base64url.specs.Base64url.{octets, decoded}
 use Rattle.parts.specs.Parts.{part}
-use Rattle.json.specs.Places.{Place, Member}
-use Rattle.json.specs.Reader.{skipSpace, membersAt}
+use Rattle.grammar.specs.Places.{Place, Member}
+use Rattle.grammar.specs.Reader.{skipSpace, membersAt}
 use Rattle.rows.specs.Any.{any, anyPair}
 use Rattle.rows.specs.Rows.{Entry, entryOf, entriesIn, numbered, present, valueOf, repeated}
 use Rattle.rows.specs.Tables.{flat, collectedTable}

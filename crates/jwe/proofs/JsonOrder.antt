@@ -8,7 +8,7 @@ use Prim.Native.Nat.{ℕ, _<_}
 use native.Mathlib.Omega.{arith}
 use lib.ListN.{length}
 use lib.Dec.{eqb, leb, ltb}
-use Rattle.json.specs.Places.{Element}
+use Rattle.grammar.specs.Places.{Element}
 use Rattle.rows.specs.Rows.{Entry, present}
 use Rattle.jose.specs.Refusals.{Test, _if_, first}
 use Rattle.jose.specs.HeaderRules.{recipientOrder}

@@ -8,7 +8,7 @@ use Prim.Native.Nat.{ℕ, _+_, _-_, _*_}
 use lib.ListN.{drop, getD}
 use lib.Seq.{getD-drop}
 use borrow.Author.Tests.{eq-eqb, ne-eqb}
-use Rattle.json.specs.Places.{Place}
+use Rattle.grammar.specs.Places.{Place}
 use Rattle.headers.specs.Components.{absent, Components}
 use Rattle.shape.specs.Shape.{inner}
 use Rattle.jwe.specs.Stages.{recipientAt}

@@ -9,7 +9,7 @@ use lib.ListN.{length, length-map}
 use lib.Dec.{ltb}
 use borrow.Author.Tests.{ltb-false}
 use Rattle.prelude.specs.Buffer.{written}
-use Rattle.json.specs.Places.{Element}
+use Rattle.grammar.specs.Places.{Element}
 use Rattle.rows.specs.Any.{any}
 use Rattle.rows.specs.Rows.{Entry, present, repeated}
 use Rattle.rows.specs.Tables.{flat, entriesOf}

@@ -10,7 +10,7 @@ use borrow.Author.Tests.{lt-ltb, le-ltb, eq-eqb, ne-eqb}
 use Rattle.prelude.specs.Buffer.{written}
 use Rattle.prelude.proofs.Writing.{begins}
 use Rattle.names.specs.Names.{names, sound}
-use Rattle.json.specs.Reader.{opensObject}
+use Rattle.grammar.specs.Reader.{opensObject}
 use Rattle.rows.specs.Rows.{Entry}
 use Rattle.rows.specs.Tables.{flat, listed, entriesOf}
 use Rattle.rows.proofs.Entries.{flat-length, entries-written}

@@ -9,7 +9,7 @@ use native.Mathlib.Omega.{arith}
 use lib.ListN.{length, drop, drop-of-length-le}
 use lib.Seq.{drop-drop}
 use Rattle.prelude.specs.Buffer.{written}
-use Rattle.json.specs.Places.{Place}
+use Rattle.grammar.specs.Places.{Place}
 use Rattle.rows.specs.Any.{any}
 use Rattle.jose.specs.Refusals.{Test, first}
 use Rattle.jose.proofs.Refusals.{nonzero}

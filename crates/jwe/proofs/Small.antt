@@ -10,8 +10,8 @@ use lib.Dec.{eqb, ltb}
 use borrow.Author.Tests.{eqb-true, ltb-false}
 use Rattle.prelude.specs.Buffer.{AllBelow}
 use Rattle.json.specs.declared.member.Place.{Place}
-use Rattle.json.proofs.Endings.{either}
-use Rattle.json.specs.Reader.{opensObject}
+use Rattle.grammar.proofs.Endings.{either}
+use Rattle.grammar.specs.Reader.{opensObject}
 use Rattle.names.specs.Names.{names, sound}
 use Rattle.jose.specs.Refusals.{_if_, first}
 use Rattle.headers.specs.Limits.{longest, headerRoom, listRoom}

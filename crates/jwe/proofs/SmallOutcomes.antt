@@ -13,29 +13,30 @@ use Rattle.prelude.specs.Buffer.{AllBelow}
 use Rattle.base64url.proofs.Laws.{decoded-length}
 use Rattle.parts.specs.Parts.{part, seek}
 use Rattle.parts.proofs.Laws.{seek-bounds}
-use Rattle.json.specs.Grammar.{curly, square}
-use Rattle.json.specs.Places.{Place, Member, Element}
-use Rattle.json.specs.Bounds.{Every, Inside}
-use Rattle.json.specs.Reader.{step, skipSpace, membersAt, elementsAt, opensObject}
-use Rattle.json.proofs.Endings.{either}
+use Rattle.grammar.specs.Grammar.{curly, square}
+use Rattle.grammar.specs.Places.{Place, Member, Element}
+use Rattle.grammar.specs.Bounds.{Every, Inside}
+use Rattle.grammar.specs.Reader.{step, skipSpace, membersAt, elementsAt, opensObject}
+use Rattle.grammar.proofs.Endings.{either}
 use Rattle.json.proofs.Within.{members-within}
 use Rattle.json.proofs.MemberRows.{rows-at-most, members-first, elements-first}
 use Rattle.names.specs.Names.{numberIn}
 use Rattle.rows.specs.Rows.{Entry, entryOf, entriesIn, valueIn, numbered, present, valueOf}
 use Rattle.jose.specs.Registered.{registered, alg}
-use Rattle.jose.specs.Algorithms.{algs, algNames, mode, nth, modeOf}
+use Rattle.algorithms.specs.Algorithms.{algs, algNames, mode, nth, modeOf}
 use Rattle.jose.specs.HeaderRules.{levels, modeIn}
-use Rattle.jose.specs.declared.algorithms.Alg.{Alg}
-use Rattle.jose.specs.declared.algorithms.Alg.the-variants.{Rsa15, RsaOaep, RsaOaep256, A128Kw, A192Kw, A256Kw}
-use Rattle.jose.specs.declared.algorithms.Alg.the-variants.{A128GcmKw, A192GcmKw, A256GcmKw, Pbes2A128Kw}
-use Rattle.jose.specs.declared.algorithms.Alg.the-variants.{Pbes2A192Kw, Pbes2A256Kw, EcdhEs, EcdhEsA128Kw}
-use Rattle.jose.specs.declared.algorithms.Alg.the-variants.{EcdhEsA192Kw, EcdhEsA256Kw, Dir}
+use Rattle.algorithms.specs.declared.Alg.{Alg}
+use Rattle.algorithms.specs.declared.Alg.the-variants.{Rsa15, RsaOaep, RsaOaep256, A128Kw, A192Kw, A256Kw}
+use Rattle.algorithms.specs.declared.Alg.the-variants.{A128GcmKw, A192GcmKw, A256GcmKw, Pbes2A128Kw}
+use Rattle.algorithms.specs.declared.Alg.the-variants.{Pbes2A192Kw, Pbes2A256Kw, EcdhEs, EcdhEsA128Kw}
+use Rattle.algorithms.specs.declared.Alg.the-variants.{EcdhEsA192Kw, EcdhEsA256Kw, Dir}
 use Rattle.headers.specs.Components.{octetsAt, absent, places}
 use Rattle.headers.specs.Headers.{headerText, outermost, protectedEntries, membersOf, headerEntries}
 use Rattle.shape.specs.Shape.{memberNames, memberEntries, protected, encryptedKey, recipients, iv, aad, ciphertext, tag}
 use Rattle.shape.specs.Shape.{unprotected, inner, component, Recipient, recipientOf}
 use Rattle.shape.specs.Recipients.{topEntries, elementsIn, elementEntries, recipientsIn, componentsIn}
-use Rattle.jwe.specs.Compact.{fullStop, after, stops, between, compactComponents}
+use Rattle.headers.specs.Components.{fullStop}
+use Rattle.jwe.specs.Compact.{after, stops, between, compactComponents}
 use Rattle.jwe.specs.General.{sharedEntries, ownEntries, parameters}
 use Rattle.jwe.specs.Judge.{Outcome, compactOutcome, asked, jsonOutcome, outcome, place, accepted}
 

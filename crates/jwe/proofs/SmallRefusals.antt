@@ -6,8 +6,8 @@ use mathlib.Core.List.{List, [], _∷_, _++_, flatMap}
 use Prim.Native.Nat.{ℕ, _≤_, zero-le}
 use lib.Dec.{ltb}
 use borrow.Author.Tests.{ltb-false}
-use Rattle.json.specs.Reader.{opensObject}
-use Rattle.json.specs.Places.{Element}
+use Rattle.grammar.specs.Reader.{opensObject}
+use Rattle.grammar.specs.Places.{Element}
 use Rattle.names.specs.Names.{names}
 use Rattle.rows.specs.Any.{any}
 use Rattle.rows.specs.Rows.{Entry, present}

@@ -11,7 +11,8 @@ use Rattle.parts.specs.Parts.{seek}
 use Rattle.json.specs.declared.member.Place.{Place}
 use Rattle.rows.specs.Any.{any}
 use Rattle.headers.specs.Components as headers
-use Rattle.jwe.specs.Compact.{fullStop, after, Stops, stops, fourStops, between, compactComponents}
+use Rattle.headers.specs.Components.{fullStop}
+use Rattle.jwe.specs.Compact.{after, Stops, stops, fourStops, between, compactComponents}
 use Rattle.jwe.specs.Answers.{codePlace, codeComponents, componentsOf, splitOf}
 use Rattle.jwe.specs.declared.Components.{Components}
 use Rattle.jwe.specs.declared.compact.FullStops.{FullStops}

@@ -5,7 +5,7 @@ use mathlib.Core.List.{List, [], _∷_}
 use Prim.Native.Nat.{ℕ, _<_}
 use lib.ListN.{length}
 use Rattle.prelude.specs.Buffer.{written}
-use Rattle.json.specs.Places as json
+use Rattle.grammar.specs.Places as json
 use Rattle.json.specs.declared.member.Place.{Place}
 use Rattle.headers.specs.Components as headers
 use Rattle.headers.specs.Answers.{placeOf}

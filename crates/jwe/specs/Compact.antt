@@ -5,16 +5,12 @@ use Prim.Native.Nat.{ℕ, _+_, _-_}
 use lib.ListN.{length}
 use lib.Dec.{eqb, leb, ltb}
 use Rattle.parts.specs.Parts.{seek}
-use Rattle.json.specs.Places.{Place}
+use Rattle.grammar.specs.Places.{Place}
 use Rattle.rows.specs.Any.{any}
 use Rattle.jose.specs.Refusals.{Test, _if_}
 use Rattle.jose.specs.HeaderRules.{recipientOrder}
-use Rattle.headers.specs.Components.{absent, Components, places, misspelled}
+use Rattle.headers.specs.Components.{fullStop, absent, Components, places, misspelled}
 use Rattle.headers.specs.Headers.{headerText, textOrder, protectedEntries, objectOrder}
-
--- .
-abbrev pub fullStop : ℕ
-fullStop = 46
 
 -- The position of the first full stop after a position.
 abbrev pub after : List ℕ → ℕ → ℕ

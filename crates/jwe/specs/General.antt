@@ -5,7 +5,7 @@ use mathlib.Core.Bool.{Bool, true, false, cond}
 use Prim.Native.Nat.{ℕ}
 use lib.ListN.{length}
 use lib.Dec.{eqb, leb}
-use Rattle.json.specs.Places.{Place, Member}
+use Rattle.grammar.specs.Places.{Place, Member}
 use Rattle.rows.specs.Any.{any}
 use Rattle.rows.specs.Rows.{Entry, present, valueOf}
 use Rattle.jose.specs.Refusals.{Test, _if_}

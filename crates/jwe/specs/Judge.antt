@@ -7,8 +7,8 @@ use lib.ListN.{length}
 use lib.Dec.{eqb, ltb}
 use Rattle.prelude.specs.Buffer.{written}
 use Rattle.names.specs.Names.{names, sound}
-use Rattle.json.specs.Places.{Place}
-use Rattle.json.specs.Reader.{opensObject}
+use Rattle.grammar.specs.Places.{Place}
+use Rattle.grammar.specs.Reader.{opensObject}
 use Rattle.rows.specs.Rows.{Entry, present}
 use Rattle.rows.specs.Tables.{listed}
 use Rattle.jose.specs.Refusals.{Test, _if_, first}

@@ -5,11 +5,7 @@ ghost use Prim.Native.Nat.{_+_, _≤_};
 ghost use lib.ListN.{length};
 ghost use Rattle.names.specs.Names.{names, filled};
 ghost use Rattle.rows.specs.Any.{any};
-ghost use Rattle.rows.specs.Tables.{collectedTable};
-ghost use Rattle.jose.specs.Refusals.{first};
 ghost use Rattle.headers.specs.Components.{misspelled, places};
-ghost use Rattle.headers.specs.Headers.{protectedEntries, objectOrder};
-ghost use Rattle.headers.specs.Answers.{stageOf};
 ghost use Rattle.jwe.specs.Compact.{between, fourStops, compactComponents, compactOrder};
 ghost use Rattle.jwe.specs.Judge.{compactOutcome};
 ghost use Rattle.jwe.specs.Answers.{codePlace, codeComponents, componentsOf, splitOf, Judges};
@@ -19,7 +15,6 @@ use crate::judged::Judged;
 use crate::judged::handed;
 use crate::judged::ruled_out;
 use headers::Stage;
-use json::Position;
 use json::member::Place;
 
 // The components between full stops, or that there are not exactly four full stops.
@@ -91,18 +86,6 @@ pub fn misspelled(message: &[u8], q: Components) -> bool
     headers::misspelled(message, q.tag)
 }
 
-// 8 and 9 on the decoded protected header: its parameters as entries at the start of the table, and how many they are.
-pub fn protected_entries(header: &[u8], table: &mut [u32]) -> Stage
-    requires { ⌜ length (now header) ≤ 16777216 ⌝ }
-    requires { ⌜ 256 ≤ length (now table) ⌝ }
-    ensures { λ r. ⌜ r ≡ stageOf (first (objectOrder (now (header .entry)) (protectedEntries (now (header .entry))))) (length (protectedEntries (now (header .entry)))) ⌝ }
-    ensures { λ _. ⌜ now (table .exit) ≡ collectedTable 0 (protectedEntries (now (header .entry))) (now (table .entry)) ⌝ }
-{
-    let list = jose::lists::REGISTERED;
-    let start = Position { at: 0 }.skip_space(header);
-    headers::object(header, start.at, 0, &list, table, 0)
-}
-
 // 6 to 19, on components that have passed 4 and 5.
 fn judge_header(
     message: &[u8],
@@ -124,7 +107,7 @@ fn judge_header(
     let Stage::Passed(n) = decoded else {
         return handed(decoded);
     };
-    let collected = protected_entries(&text[..n], table);
+    let collected = headers::protected_entries(&text[..n], table);
     let Stage::Passed(count) = collected else {
         return handed(collected);
     };

@@ -4,7 +4,7 @@ ghost use mathlib.Core.Bool.{true, cond};
 ghost use Prim.Native.Nat.{_≤_};
 ghost use lib.ListN.{length};
 ghost use Rattle.names.specs.Names.{names, filled};
-ghost use Rattle.json.specs.Reader.{opensObject};
+ghost use Rattle.grammar.specs.Reader.{opensObject};
 ghost use Rattle.jwe.specs.Compact.{compactOrder};
 ghost use Rattle.jwe.specs.General.{jsonOrder};
 ghost use Rattle.jwe.specs.Judge.{outcome, result, refused, headerAfter, listAfter};

@@ -10,9 +10,9 @@ use lib.Dec.{ltb}
 use borrow.Author.Tests.{ltb-false, le-ltb}
 use Rattle.names.specs.Names.{names, sound}
 use Rattle.names.proofs.Laws.{sound-exactly, names-of}
-use Rattle.json.specs.Reader.{opensObject}
-use Rattle.json.proofs.Parse.{true→T}
-use Rattle.json.proofs.Scan.{T→true}
+use Rattle.grammar.specs.Reader.{opensObject}
+use Rattle.grammar.proofs.Parse.{true→T}
+use Rattle.grammar.proofs.Scan.{T→true}
 use Rattle.rows.specs.Any.{any}
 use Rattle.jose.specs.Refusals.{Test, _if_, first}
 use Rattle.jwe.specs.Compact.{compactOrder}

@@ -10,10 +10,10 @@ use Rattle.prelude.specs.Ascii.{ascii}
 use Rattle.prelude.specs.Buffer.{written}
 use Rattle.base64url.specs.Base64url.{encoded}
 use Rattle.names.specs.Names.{names}
-use Rattle.json.specs.Places.{Placed, Parts, placedText, partsOf, Member, emptiedText}
-use Rattle.json.specs.Reader.{opensObject}
-use Rattle.json.specs.Readings.{Reading, octetsAt, Shown, EverywhereIn}
-use Rattle.json.proofs.Theorems.{one-reading, read-shows}
+use Rattle.grammar.specs.Places.{Placed, Parts, placedText, partsOf, Member, emptiedText}
+use Rattle.grammar.specs.Reader.{opensObject}
+use Rattle.grammar.specs.Readings.{Reading, octetsAt, Shown, EverywhereIn}
+use Rattle.grammar.proofs.Theorems.{one-reading, read-shows}
 use Rattle.rows.specs.Rows.{Entry, repeated}
 use Rattle.jose.specs.Refusals.{first}
 use Rattle.headers.specs.Headers.{outermost}

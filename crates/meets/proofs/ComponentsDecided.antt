@@ -14,9 +14,9 @@ use Rattle.base64url.specs.Fault.{Fault, none, at, fault}
 use Rattle.base64url.specs.Answers.{ofFault}
 use Rattle.base64url.proofs.Laws.{accepted-exactly, spelled-once}
 use Rattle.parts.proofs.Laws.{part-fits}
-use Rattle.json.specs.Grammar.{leavesChars, Value, nested, empty, string, number, literal}
-use Rattle.json.specs.Places.{Place}
-use Rattle.json.specs.Bounds.{Every}
+use Rattle.grammar.specs.Grammar.{leavesChars, Value, nested, empty, string, number, literal}
+use Rattle.grammar.specs.Places.{Place}
+use Rattle.grammar.specs.Bounds.{Every}
 use Rattle.headers.specs.Components.{octetsAt, absent, misspelled}
 use Rattle.headers.specs.Headers.{headerText}
 use Rattle.shape.specs.Shape.{inner}

@@ -9,12 +9,12 @@ use lib.ListN.{length}
 use lib.Dec.{eqb}
 use borrow.Author.Tests.{eqb-true, not-false}
 use Rattle.prelude.specs.Ascii.{ascii}
-use Rattle.json.specs.Grammar.{Str, Value, string}
-use Rattle.json.specs.Places.{Element, kind}
-use Rattle.json.specs.Strings.{SayAlike, HasOctets}
-use Rattle.json.specs.Spellings.{equal}
-use Rattle.json.specs.Reader.{elementsAt}
-use Rattle.json.specs.Bounds.{Every}
+use Rattle.grammar.specs.Grammar.{Str, Value, string}
+use Rattle.grammar.specs.Places.{Element, kind}
+use Rattle.grammar.specs.Strings.{SayAlike, HasOctets}
+use Rattle.grammar.specs.Spellings.{equal}
+use Rattle.grammar.specs.Reader.{elementsAt}
+use Rattle.grammar.specs.Bounds.{Every}
 use Rattle.names.specs.Names.{numberIn}
 use Rattle.rows.specs.Any.{any, anyPair}
 use Rattle.rows.specs.Rows.{Entry, textOf, nameIn, numbered}

@@ -7,7 +7,7 @@ use mathlib.Core.List.{List, [], _∷_, _++_}
 use Prim.Native.Nat.{ℕ}
 use lib.Dec.{eqb}
 use borrow.Author.Tests.{not-true, not-false, eqb-true, eqb-false, eq-eqb}
-use Rattle.json.specs.Bounds.{Every}
+use Rattle.grammar.specs.Bounds.{Every}
 use Rattle.rows.specs.Any.{any, anyPair}
 use Rattle.jose.specs.Refusals.{Test, first}
 use Rattle.meets.specs.Members.{Some}

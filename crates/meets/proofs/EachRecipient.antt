@@ -7,7 +7,7 @@ use mathlib.Core.List.{List, []}
 use Prim.Native.Nat.{ℕ}
 use lib.Dec.{eqb}
 use Rattle.prelude.specs.Ascii.{ascii}
-use Rattle.json.specs.Bounds.{Every}
+use Rattle.grammar.specs.Bounds.{Every}
 use Rattle.rows.specs.Rows.{Entry, present, valueOf}
 use Rattle.jose.specs.Refusals.{first}
 use Rattle.jose.specs.Registered.{registered}

@@ -5,11 +5,11 @@ use mathlib.Core.Logic.{inl, inr}
 use mathlib.Core.List.{List, [], _∷_}
 use Prim.Native.Nat.{ℕ}
 use lib.Dec.{eqb}
-use Rattle.json.specs.Grammar.{Str, Value}
-use Rattle.json.specs.Places.{kind}
-use Rattle.json.specs.Places as places
-use Rattle.json.specs.Strings.{SayAlike, HasOctets}
-use Rattle.json.specs.Bounds.{Every}
+use Rattle.grammar.specs.Grammar.{Str, Value}
+use Rattle.grammar.specs.Places.{kind}
+use Rattle.grammar.specs.Places as places
+use Rattle.grammar.specs.Strings.{SayAlike, HasOctets}
+use Rattle.grammar.specs.Bounds.{Every}
 use Rattle.names.specs.Names.{numberIn}
 use Rattle.rows.specs.Any.{any, anyPair}
 use Rattle.rows.specs.Rows.{Entry, textOf, entryOf, entriesIn, nameIn, valueIn, numbered}

@@ -11,13 +11,13 @@ use Rattle.prelude.specs.Buffer.{AllBelow}
 use Rattle.prelude.proofs.Numbers.{below}
 use Rattle.base64url.specs.Base64url.{alphabet, character, sextets, encoded}
 use Rattle.base64url.proofs.Groups.{sextets-below}
-use Rattle.json.specs.Grammar.{isSpace}
-use Rattle.json.specs.Utf8.{utf8}
-use Rattle.json.specs.Reader.{octetAt, passOver, skip, skipSpace, Answer, nothing, found, wholly, valueAt, opensObject}
-use Rattle.json.specs.Reader.{readText}
-use Rattle.json.specs.Readings.{Reading}
-use Rattle.json.proofs.Theorems.{read-complete}
-use Rattle.json.proofs.Scan.{T→true}
+use Rattle.grammar.specs.Grammar.{isSpace}
+use Rattle.grammar.specs.Utf8.{utf8}
+use Rattle.grammar.specs.Reader.{octetAt, passOver, skip, skipSpace, Answer, nothing, found, wholly, valueAt, opensObject}
+use Rattle.grammar.specs.Reader.{readText}
+use Rattle.grammar.specs.Readings.{Reading}
+use Rattle.grammar.proofs.Theorems.{read-complete}
+use Rattle.grammar.proofs.Scan.{T→true}
 use Rattle.meets.specs.Meets.{Compact}
 
 -- An octet that is neither space nor an opening curly bracket.

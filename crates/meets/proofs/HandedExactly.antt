@@ -9,8 +9,8 @@ use lib.Dec.{eqb}
 use borrow.Author.Tests.{eq-eqb}
 use Rattle.prelude.specs.Buffer.{written}
 use Rattle.names.specs.Names.{names}
-use Rattle.json.specs.Places.{placedText, partsOf}
-use Rattle.json.specs.Reader.{opensObject}
+use Rattle.grammar.specs.Places.{placedText, partsOf}
+use Rattle.grammar.specs.Reader.{opensObject}
 use Rattle.rows.specs.Rows.{Entry}
 use Rattle.rows.specs.Tables.{listed}
 use Rattle.jose.specs.Refusals.{first}

@@ -9,9 +9,9 @@ use lib.ListN.{length, length-append}
 use lib.Dec.{ltb}
 use borrow.Author.Tests.{ltb-false}
 use Rattle.names.specs.Names.{names, sound}
-use Rattle.json.specs.Places.{Place}
-use Rattle.json.specs.Bounds.{Every}
-use Rattle.json.specs.Reader.{opensObject}
+use Rattle.grammar.specs.Places.{Place}
+use Rattle.grammar.specs.Bounds.{Every}
+use Rattle.grammar.specs.Reader.{opensObject}
 use Rattle.rows.specs.Any.{any}
 use Rattle.rows.specs.Rows.{Entry, numbered, present, valueOf}
 use Rattle.rows.specs.Tables.{six, listed}

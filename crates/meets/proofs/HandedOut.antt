@@ -4,11 +4,11 @@ use mathlib.Core.Path.{_≡_, refl, ap, ap₂, sym, subst, _∙_}
 use mathlib.Core.List.{List, [], _∷_, _++_, flatMap, append-nil}
 use Prim.Native.Nat.{ℕ, suc, _+_}
 use lib.ListN.{length, length-append}
-use Rattle.json.specs.Places.{Member, Placed, item, placedText, kindOf, startOf, partsOf, members}
-use Rattle.json.specs.Reader.{membersAt, elementsAt}
-use Rattle.json.specs.Places.{elements}
-use Rattle.json.specs.Readings.{Reading, Shown, Everywhere}
-use Rattle.json.proofs.Theorems.{read-complete, read-shows}
+use Rattle.grammar.specs.Places.{Member, Placed, item, placedText, kindOf, startOf, partsOf, members}
+use Rattle.grammar.specs.Reader.{membersAt, elementsAt}
+use Rattle.grammar.specs.Places.{elements}
+use Rattle.grammar.specs.Readings.{Reading, Shown, Everywhere}
+use Rattle.grammar.proofs.Theorems.{read-complete, read-shows}
 use Rattle.rows.specs.Rows.{Entry, entriesIn}
 use Rattle.rows.specs.Tables.{listed, six}
 use Rattle.headers.specs.Headers.{headerText, outermost, protectedEntries}

@@ -17,10 +17,10 @@ use Rattle.base64url.proofs.Groups.{sextets-below}
 use Rattle.base64url.proofs.Laws.{decode-encode}
 use Rattle.parts.specs.Parts.{seek}
 use Rattle.parts.proofs.Laws.{seek-first}
-use Rattle.json.specs.Grammar.{isSpace}
-use Rattle.json.specs.Utf8.{Range, within, Row, rows, fits, fitsOne, Character, spelling, Utf8}
-use Rattle.json.specs.Reader.{octetAt, passOver, skip, opensObject}
-use Rattle.json.proofs.Scan.{T→true, both-T}
+use Rattle.grammar.specs.Grammar.{isSpace}
+use Rattle.grammar.specs.Utf8.{Range, within, Row, rows, fits, fitsOne, Character, spelling, Utf8}
+use Rattle.grammar.specs.Reader.{octetAt, passOver, skip, opensObject}
+use Rattle.grammar.proofs.Scan.{T→true, both-T}
 use Rattle.meets.specs.Meets.{Octets}
 use Rattle.meets.proofs.SpelledDecided.{outside-encoded, stop-outside}
 

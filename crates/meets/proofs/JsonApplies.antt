@@ -9,11 +9,11 @@ use native.Mathlib.Omega.{arith}
 use lib.ListN.{length, length-map}
 use borrow.Author.Tests.{not-false, eqb-true}
 use Rattle.prelude.specs.Ascii.{ascii}
-use Rattle.json.specs.Places.{Place, Placed, Parts, placedText, startOf, kindOf, partsOf, Element, elementOf, elements}
-use Rattle.json.specs.Reader.{elementsAt}
-use Rattle.json.specs.Bounds.{Every}
-use Rattle.json.specs.Readings.{Reading, Shown, Everywhere, EverywhereIn}
-use Rattle.json.proofs.Theorems.{read-shows}
+use Rattle.grammar.specs.Places.{Place, Placed, Parts, placedText, startOf, kindOf, partsOf, Element, elementOf, elements}
+use Rattle.grammar.specs.Reader.{elementsAt}
+use Rattle.grammar.specs.Bounds.{Every}
+use Rattle.grammar.specs.Readings.{Reading, Shown, Everywhere, EverywhereIn}
+use Rattle.grammar.proofs.Theorems.{read-shows}
 use Rattle.rows.specs.Any.{any}
 use Rattle.rows.specs.Rows.{Entry, valueOf, repeated}
 use Rattle.jose.specs.HeaderRules.{isEmpty}

@@ -10,7 +10,7 @@ use native.Mathlib.Omega.{arith}
 use lib.ListN.{length}
 use borrow.Author.Tests.{leb-false, lt-leb}
 use Rattle.prelude.specs.Ascii.{ascii}
-use Rattle.json.specs.Readings.{Reading}
+use Rattle.grammar.specs.Readings.{Reading}
 use Rattle.rows.specs.Rows.{Entry, present, valueOf}
 use Rattle.jose.specs.Refusals.{first}
 use Rattle.jose.specs.Registered.{registered}

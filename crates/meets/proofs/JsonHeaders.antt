@@ -14,10 +14,10 @@ use Rattle.base64url.specs.Base64url.{sextets, encoded, decoded}
 use Rattle.base64url.proofs.Laws.{decode-encode}
 use Rattle.parts.specs.Parts as parts
 use Rattle.parts.proofs.Laws.{part-fits}
-use Rattle.json.specs.Places.{Place, Placed, item, Parts, startOf, sizeOf, kindOf, Member}
-use Rattle.json.specs.Reader.{octetAt, step, skipSpace, rowsAt, rowsIn, membersAt}
-use Rattle.json.specs.Bounds as bounds
-use Rattle.json.specs.Readings.{octetsAt, Shown, EverywhereIn}
+use Rattle.grammar.specs.Places.{Place, Placed, item, Parts, startOf, sizeOf, kindOf, Member}
+use Rattle.grammar.specs.Reader.{octetAt, step, skipSpace, rowsAt, rowsIn, membersAt}
+use Rattle.grammar.specs.Bounds as bounds
+use Rattle.grammar.specs.Readings.{octetsAt, Shown, EverywhereIn}
 use Rattle.json.proofs.Within.{value-within}
 use Rattle.rows.specs.Any.{any}
 use Rattle.rows.specs.Rows.{Entry, valueOf}

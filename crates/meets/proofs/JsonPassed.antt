@@ -6,8 +6,8 @@ use Prim.Native.Nat.{ℕ, _≤_, _<_}
 use lib.ListN.{length}
 use lib.Dec.{leb, ltb}
 use borrow.Author.Tests.{leb-false, ltb-false}
-use Rattle.json.specs.Places.{Element}
-use Rattle.json.specs.Bounds.{Every}
+use Rattle.grammar.specs.Places.{Element}
+use Rattle.grammar.specs.Bounds.{Every}
 use Rattle.rows.specs.Any.{any}
 use Rattle.rows.specs.Rows.{Entry, present, repeated}
 use Rattle.jose.specs.Refusals.{Test, _if_, first}

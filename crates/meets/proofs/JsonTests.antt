@@ -7,7 +7,7 @@ use mathlib.Core.List.{List, [], _∷_, _++_, flatMap}
 use Prim.Native.Nat.{ℕ}
 use lib.ListN.{length}
 use lib.Dec.{eqb, leb}
-use Rattle.json.specs.Bounds.{Every}
+use Rattle.grammar.specs.Bounds.{Every}
 use Rattle.rows.specs.Any.{any}
 use Rattle.rows.specs.Rows.{Entry}
 use Rattle.jose.specs.Refusals.{Test, _if_, first}

@@ -6,21 +6,21 @@ use mathlib.Core.List.{List, [], _∷_, map}
 use Prim.Native.Nat.{ℕ}
 use lib.Dec.{T, eqb}
 use Rattle.prelude.specs.Ascii.{ascii}
-use Rattle.json.specs.Grammar.{Str, Value}
-use Rattle.json.specs.Strings.{says, SayAlike, HasOctets}
-use Rattle.json.specs.Spellings.{adds, next, undoFrom, undo, equal, has, sayable}
-use Rattle.json.specs.Utf8.{points}
-use Rattle.json.specs.Bounds.{Every}
-use Rattle.json.proofs.Theorems.{says-octets}
+use Rattle.grammar.specs.Grammar.{Str, Value}
+use Rattle.grammar.specs.Strings.{says, SayAlike, HasOctets}
+use Rattle.grammar.specs.Spellings.{adds, next, undoFrom, undo, equal, has, sayable}
+use Rattle.grammar.specs.Utf8.{points}
+use Rattle.grammar.specs.Bounds.{Every}
+use Rattle.grammar.proofs.Theorems.{says-octets}
 use Rattle.names.specs.Names.{numberIn}
 use Rattle.names.proofs.Laws.{number-alike}
 use Rattle.rows.specs.Rows.{Entry, textOf, valueIn, numbered}
-use Rattle.jose.specs.declared.algorithms.Alg.{Alg}
-use Rattle.jose.specs.declared.algorithms.Alg.the-variants.{Rsa15, RsaOaep, RsaOaep256, A128Kw, A192Kw, A256Kw}
-use Rattle.jose.specs.declared.algorithms.Alg.the-variants.{A128GcmKw, A192GcmKw, A256GcmKw, Pbes2A128Kw}
-use Rattle.jose.specs.declared.algorithms.Alg.the-variants.{Pbes2A192Kw, Pbes2A256Kw, EcdhEs, EcdhEsA128Kw}
-use Rattle.jose.specs.declared.algorithms.Alg.the-variants.{EcdhEsA192Kw, EcdhEsA256Kw, Dir}
-use Rattle.jose.specs.Algorithms.{algs, algName, mode, algNames, nth, modeOf}
+use Rattle.algorithms.specs.declared.Alg.{Alg}
+use Rattle.algorithms.specs.declared.Alg.the-variants.{Rsa15, RsaOaep, RsaOaep256, A128Kw, A192Kw, A256Kw}
+use Rattle.algorithms.specs.declared.Alg.the-variants.{A128GcmKw, A192GcmKw, A256GcmKw, Pbes2A128Kw}
+use Rattle.algorithms.specs.declared.Alg.the-variants.{Pbes2A192Kw, Pbes2A256Kw, EcdhEs, EcdhEsA128Kw}
+use Rattle.algorithms.specs.declared.Alg.the-variants.{EcdhEsA192Kw, EcdhEsA256Kw, Dir}
+use Rattle.algorithms.specs.Algorithms.{algs, algName, mode, algNames, nth, modeOf}
 use Rattle.jose.specs.Registered.{registered, alg}
 use Rattle.jose.specs.HeaderRules.{modeIn, keyless, wrongKey}
 use Rattle.meets.specs.Members.{Member, namesOf, Some, Among, Distinct, Absent}

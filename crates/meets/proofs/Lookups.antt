@@ -8,14 +8,14 @@ use Prim.Native.Nat.{ℕ, _≤_}
 use native.Mathlib.Omega.{arith}
 use lib.Dec.{T, eqb}
 use borrow.Author.Tests.{ne-eqb}
-use Rattle.json.specs.Grammar.{Str, Value}
-use Rattle.json.specs.Places.{Place}
-use Rattle.json.specs.Strings.{says, SayAlike, HasOctets}
-use Rattle.json.specs.Utf8.{points}
-use Rattle.json.specs.Spellings.{sayable}
-use Rattle.json.specs.Bounds.{Every}
-use Rattle.json.specs.Reader.{membersAt}
-use Rattle.json.proofs.Theorems.{says-octets}
+use Rattle.grammar.specs.Grammar.{Str, Value}
+use Rattle.grammar.specs.Places.{Place}
+use Rattle.grammar.specs.Strings.{says, SayAlike, HasOctets}
+use Rattle.grammar.specs.Utf8.{points}
+use Rattle.grammar.specs.Spellings.{sayable}
+use Rattle.grammar.specs.Bounds.{Every}
+use Rattle.grammar.specs.Reader.{membersAt}
+use Rattle.grammar.proofs.Theorems.{says-octets}
 use Rattle.rows.specs.Any.{any}
 use Rattle.rows.specs.Rows.{Entry, numbered, present, valueOf}
 use Rattle.headers.specs.Components.{absent}

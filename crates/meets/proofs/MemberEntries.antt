@@ -8,15 +8,15 @@ use native.Mathlib.Omega.{arith}
 use lib.ListN.{length, length-append}
 use lib.Dec.{eqb}
 use Rattle.prelude.specs.Ascii.{ascii}
-use Rattle.json.specs.Grammar.{leavesStr, colon, comma, leavesSign, leavesValue, Bracket, curly, square, opening}
-use Rattle.json.specs.Grammar.{Label, Value, nested, empty, string, number, literal, Entries, last, more, leavesLabel}
-use Rattle.json.specs.Places.{kind, place, placeName, placed, placedEntries, Placed, item, kindOf, startOf}
-use Rattle.json.specs.Places.{partsOf, members, Parts, done}
-use Rattle.json.specs.Places as places
-use Rattle.json.specs.Bounds.{Every}
-use Rattle.json.specs.Readings.{Shown, Everywhere, Reading}
-use Rattle.json.specs.Reader.{membersAt, skipSpace}
-use Rattle.json.specs.Spellings.{adds, next, undoFrom, undo, equal, has}
+use Rattle.grammar.specs.Grammar.{leavesStr, colon, comma, leavesSign, leavesValue, Bracket, curly, square, opening}
+use Rattle.grammar.specs.Grammar.{Label, Value, nested, empty, string, number, literal, Entries, last, more, leavesLabel}
+use Rattle.grammar.specs.Places.{kind, place, placeName, placed, placedEntries, Placed, item, kindOf, startOf}
+use Rattle.grammar.specs.Places.{partsOf, members, Parts, done}
+use Rattle.grammar.specs.Places as places
+use Rattle.grammar.specs.Bounds.{Every}
+use Rattle.grammar.specs.Readings.{Shown, Everywhere, Reading}
+use Rattle.grammar.specs.Reader.{membersAt, skipSpace}
+use Rattle.grammar.specs.Spellings.{adds, next, undoFrom, undo, equal, has}
 use Rattle.names.specs.Names.{numberIn}
 use Rattle.rows.specs.Any.{any}
 use Rattle.rows.specs.Rows.{Entry, textOf, entriesIn, entryOf}

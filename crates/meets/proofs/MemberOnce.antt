@@ -7,10 +7,10 @@ use mathlib.Core.Logic.{inl, inr}
 use Prim.Native.Nat.{ℕ, zero, suc}
 use Rattle.prelude.specs.Ascii.{ascii}
 use Rattle.parts.specs.Parts as parts
-use Rattle.json.specs.Places.{Place, Placed, Parts, done, part, partsOf, Member, members}
-use Rattle.json.specs.Spellings.{equal, alike}
-use Rattle.json.proofs.Spellings.{equal-same}
-use Rattle.json.proofs.Scan.{T→true}
+use Rattle.grammar.specs.Places.{Place, Placed, Parts, done, part, partsOf, Member, members}
+use Rattle.grammar.specs.Spellings.{equal, alike}
+use Rattle.grammar.proofs.Spellings.{equal-same}
+use Rattle.grammar.proofs.Scan.{T→true}
 use Rattle.rows.specs.Any.{any, anyPair}
 use Rattle.rows.specs.Rows.{entriesIn, same, repeated}
 use Rattle.meets.specs.Handed.{NameAt, MemberAt, NoMember, PartAt, RowsOf, RecipientAt}

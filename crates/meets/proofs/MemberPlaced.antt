@@ -10,13 +10,13 @@ use native.Mathlib.Omega.{arith}
 use lib.ListN.{length, getD}
 use lib.Dec.{eqb}
 use borrow.Author.Tests.{eqb-true, eqb-false, ne-eqb}
-use Rattle.json.specs.Places.{Place, Placed, item, Parts, done, part, startOf, sizeOf, kindOf, partsOf, memberOf}
-use Rattle.json.specs.Places.{members, Element, elementOf, elements}
-use Rattle.json.specs.Bounds.{Every}
-use Rattle.json.specs.Readings.{Shown, Everywhere, EverywhereIn}
+use Rattle.grammar.specs.Places.{Place, Placed, item, Parts, done, part, startOf, sizeOf, kindOf, partsOf, memberOf}
+use Rattle.grammar.specs.Places.{members, Element, elementOf, elements}
+use Rattle.grammar.specs.Bounds.{Every}
+use Rattle.grammar.specs.Readings.{Shown, Everywhere, EverywhereIn}
 use Rattle.rows.specs.Any.{any}
 use Rattle.rows.specs.Rows.{Entry, entryOf, entriesIn, present, valueOf}
-use Rattle.json.specs.Reader.{membersAt}
+use Rattle.grammar.specs.Reader.{membersAt}
 use Rattle.headers.specs.Headers.{membersOf}
 use Rattle.shape.specs.Shape.{memberNames}
 use Rattle.meets.specs.Handed.{NameAt, MemberAt, NoMember, PartAt, RowsOf}

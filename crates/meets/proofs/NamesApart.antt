@@ -8,9 +8,9 @@ use native.Mathlib.Omega.{arith}
 use lib.ListN.{length}
 use lib.Dec.{ltb}
 use borrow.Author.Tests.{eq-eqb, ltb-false, le-ltb}
-use Rattle.json.specs.Grammar.{Str}
-use Rattle.json.specs.Strings.{SayAlike}
-use Rattle.json.specs.Spellings.{alike}
+use Rattle.grammar.specs.Grammar.{Str}
+use Rattle.grammar.specs.Strings.{SayAlike}
+use Rattle.grammar.specs.Spellings.{alike}
 use Rattle.rows.specs.Any.{any, anyPair}
 use Rattle.rows.specs.Rows.{Entry, nameIn, apart, same, repeated}
 use Rattle.jose.specs.Refusals.{first}

@@ -8,13 +8,13 @@ use native.Mathlib.Omega.{arith}
 use lib.Dec.{T}
 use lib.ListN.{length, getD}
 use Rattle.prelude.specs.Ascii.{ascii}
-use Rattle.json.specs.Grammar.{Str}
-use Rattle.json.specs.Strings.{HasOctets}
-use Rattle.json.specs.Spellings.{equal}
-use Rattle.json.proofs.Spellings.{equal-same}
-use Rattle.json.proofs.Scan.{T→true, both-T, false-of}
+use Rattle.grammar.specs.Grammar.{Str}
+use Rattle.grammar.specs.Strings.{HasOctets}
+use Rattle.grammar.specs.Spellings.{equal}
+use Rattle.grammar.proofs.Spellings.{equal-same}
+use Rattle.grammar.proofs.Scan.{T→true, both-T, false-of}
 use Rattle.names.specs.Names.{numberIn, any}
-use Rattle.jose.specs.Algorithms.{algs, algName, algNames, encs, encName, encNames}
+use Rattle.algorithms.specs.Algorithms.{algs, algName, algNames, encs, encName, encNames}
 use Rattle.jose.specs.Registered.{registered}
 use Rattle.shape.specs.Shape.{memberNames}
 use Rattle.meets.proofs.Saying.{Spells, number-first}

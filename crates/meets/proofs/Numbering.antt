@@ -6,14 +6,14 @@ use mathlib.Core.List.{List}
 use Prim.Native.Nat.{ℕ}
 use lib.Dec.{eqb}
 use borrow.Author.Tests.{eqb-true, eqb-false, ne-eqb}
-use Rattle.json.specs.Grammar.{Str}
-use Rattle.json.specs.Strings.{HasOctets}
-use Rattle.json.specs.Spellings.{undo, equal, sayable}
-use Rattle.json.specs.Bounds.{Every}
-use Rattle.json.proofs.Theorems.{says-octets}
-use Rattle.json.proofs.Spellings.{undo-spelling, equal-sound, equal-same}
-use Rattle.json.proofs.Scan.{T→true}
-use Rattle.json.proofs.Parse.{true→T}
+use Rattle.grammar.specs.Grammar.{Str}
+use Rattle.grammar.specs.Strings.{HasOctets}
+use Rattle.grammar.specs.Spellings.{undo, equal, sayable}
+use Rattle.grammar.specs.Bounds.{Every}
+use Rattle.grammar.proofs.Theorems.{says-octets}
+use Rattle.grammar.proofs.Spellings.{undo-spelling, equal-sound, equal-same}
+use Rattle.grammar.proofs.Scan.{T→true}
+use Rattle.grammar.proofs.Parse.{true→T}
 use Rattle.names.specs.Names.{numberIn}
 use Rattle.names.specs.Names as names
 use Rattle.names.proofs.Laws.{number-alike}

@@ -6,7 +6,7 @@ use mathlib.Core.Logic.{_↔_}
 use mathlib.Core.List.{List, [], _∷_, _++_, map, flatMap}
 use Prim.Native.Nat.{ℕ}
 use lib.Dec.{eqb}
-use Rattle.json.specs.Bounds.{Every}
+use Rattle.grammar.specs.Bounds.{Every}
 use Rattle.rows.specs.Any.{any}
 use Rattle.jose.specs.Refusals.{Test, _if_, first}
 use Rattle.meets.proofs.Zip.{Zip}

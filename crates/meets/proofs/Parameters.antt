@@ -9,13 +9,13 @@ use native.Mathlib.Omega.{arith}
 use lib.Dec.{eqb, leb}
 use borrow.Author.Tests.{eqb-true, eq-eqb}
 use Rattle.prelude.specs.Ascii.{ascii}
-use Rattle.json.specs.Places.{kind}
-use Rattle.json.specs.Strings.{HasOctets}
-use Rattle.json.specs.Spellings.{adds, next, undoFrom, undo, equal, has}
+use Rattle.grammar.specs.Places.{kind}
+use Rattle.grammar.specs.Strings.{HasOctets}
+use Rattle.grammar.specs.Spellings.{adds, next, undoFrom, undo, equal, has}
 use Rattle.names.specs.Names.{numberIn}
 use Rattle.rows.specs.Any.{any}
 use Rattle.rows.specs.Rows.{Entry, valueIn, numbered, present}
-use Rattle.jose.specs.Algorithms.{algNames, encNames, zipNames}
+use Rattle.algorithms.specs.Algorithms.{algNames, encNames, zipNames}
 use Rattle.jose.specs.Registered.{registered, alg, enc, zip, jwk, x5c, crit, object, array, string, anyKind, kindAsked}
 use Rattle.jose.specs.HeaderRules.{incomplete, wrongKind, unlisted, unprotected}
 use Rattle.meets.specs.Members.{Member, Among}

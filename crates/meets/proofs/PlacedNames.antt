@@ -12,18 +12,18 @@ use lib.Dec.{T, leb}
 use lib.ListN.{length, take, drop, length-append, length-take, length-drop}
 use Rattle.parts.specs.Parts as parts
 use Rattle.parts.proofs.Laws.{part-fits}
-use Rattle.json.specs.Grammar.{comma, octets, leavesSign, Str, leavesChars}
-use Rattle.json.specs.Grammar.{Bracket, curly, square, opening, Label, Value, nested, empty, string, number}
-use Rattle.json.specs.Grammar.{literal, Entries, last, more, leavesLabel, leavesValue}
-use Rattle.json.specs.Places.{kindNested, place, placeName, Place, Placed, item, Parts}
-use Rattle.json.specs.Places.{done, part, placed, placedEntries, placedText, kindOf, startOf, partsOf}
-use Rattle.json.specs.Strings.{says, HasOctets, everyLabel, every, everyEntries}
-use Rattle.json.specs.Utf8.{points, encodes}
-use Rattle.json.specs.Spellings.{undo, sayable}
-use Rattle.json.specs.Readings.{Reading, octetsAt, Everywhere, EverywhereIn, NameStands, StringsStand, StringsStandIn}
-use Rattle.json.proofs.Theorems.{read-stands, read-says}
-use Rattle.json.proofs.Spellings.{undo-spelling}
-use Rattle.json.proofs.Scan.{both-T}
+use Rattle.grammar.specs.Grammar.{comma, octets, leavesSign, Str, leavesChars}
+use Rattle.grammar.specs.Grammar.{Bracket, curly, square, opening, Label, Value, nested, empty, string, number}
+use Rattle.grammar.specs.Grammar.{literal, Entries, last, more, leavesLabel, leavesValue}
+use Rattle.grammar.specs.Places.{kindNested, place, placeName, Place, Placed, item, Parts}
+use Rattle.grammar.specs.Places.{done, part, placed, placedEntries, placedText, kindOf, startOf, partsOf}
+use Rattle.grammar.specs.Strings.{says, HasOctets, everyLabel, every, everyEntries}
+use Rattle.grammar.specs.Utf8.{points, encodes}
+use Rattle.grammar.specs.Spellings.{undo, sayable}
+use Rattle.grammar.specs.Readings.{Reading, octetsAt, Everywhere, EverywhereIn, NameStands, StringsStand, StringsStandIn}
+use Rattle.grammar.proofs.Theorems.{read-stands, read-says}
+use Rattle.grammar.proofs.Spellings.{undo-spelling}
+use Rattle.grammar.proofs.Scan.{both-T}
 use Rattle.meets.specs.Handed.{NameAt}
 use Rattle.meets.proofs.Saying.{Spells}
 

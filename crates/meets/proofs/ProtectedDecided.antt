@@ -9,9 +9,9 @@ use native.Mathlib.Omega.{arith}
 use lib.ListN.{length}
 use borrow.Author.Tests.{ltb-false, le-ltb}
 use Rattle.prelude.specs.Ascii.{ascii}
-use Rattle.json.specs.Grammar.{string}
-use Rattle.json.specs.Places as places
-use Rattle.json.specs.Reader.{passOver, skip, rowsAt, rowsIn, membersAt}
+use Rattle.grammar.specs.Grammar.{string}
+use Rattle.grammar.specs.Places as places
+use Rattle.grammar.specs.Reader.{passOver, skip, rowsAt, rowsIn, membersAt}
 use Rattle.rows.specs.Any.{any}
 use Rattle.rows.specs.Rows.{Entry, present, valueOf}
 use Rattle.jose.specs.Refusals.{Test, _if_, first}

@@ -10,11 +10,11 @@ use lib.ListN.{length, length-map}
 use lib.Dec.{ltb}
 use borrow.Author.Tests.{ltb-false, le-ltb}
 use Rattle.prelude.specs.Ascii.{ascii}
-use Rattle.json.specs.Grammar.{Value}
-use Rattle.json.specs.Places.{kind, Place, Element}
-use Rattle.json.specs.Strings.{HasOctets}
-use Rattle.json.specs.Bounds.{Every}
-use Rattle.json.specs.Reader.{elementsAt}
+use Rattle.grammar.specs.Grammar.{Value}
+use Rattle.grammar.specs.Places.{kind, Place, Element}
+use Rattle.grammar.specs.Strings.{HasOctets}
+use Rattle.grammar.specs.Bounds.{Every}
+use Rattle.grammar.specs.Reader.{elementsAt}
 use Rattle.rows.specs.Any.{any}
 use Rattle.rows.specs.Rows.{Entry, present, valueOf}
 use Rattle.jose.specs.Refusals.{Test, _if_, first}

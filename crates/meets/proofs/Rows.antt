@@ -12,23 +12,23 @@ use lib.Dec.{T}
 use lib.ListN.{length}
 use borrow.Author.Tests.{eq-eqb}
 use Rattle.parts.specs.Parts.{part}
-use Rattle.json.specs.Grammar.{colon, comma, isSpace, octets, Sign, leavesSign, leavesChars, leavesStr, Bracket, curly}
-use Rattle.json.specs.Grammar.{square, opening, closing, Label, Value, nested, empty, string, number, literal, Entries}
-use Rattle.json.specs.Grammar.{Literal, literal-true, literal-false, literal-null, last, more, leavesLabel, leavesValue}
-use Rattle.json.specs.Grammar.{leavesEntries}
-use Rattle.json.specs.Places.{kind, kindNested, kindLiteral, leading, place, placeName, Placed, item, Parts, done}
-use Rattle.json.specs.Places.{placed, placedEntries, kindOf, startOf, partsOf, members, elements}
-use Rattle.json.specs.Places as places
-use Rattle.json.specs.Strings.{everyLabel, every, everyEntries}
-use Rattle.json.specs.Spellings.{sayable}
-use Rattle.json.specs.Reader.{octetAt, step, skipSpace, Answer, nothing, found, readText, rowsAt, rowsIn, valueAt}
-use Rattle.json.specs.Reader.{membersAt, elementsAt}
-use Rattle.json.specs.Readings.{Reading, Shown, Everywhere, EverywhereIn, StringsStand, StringsStandIn}
-use Rattle.json.proofs.Theorems.{read-sound, read-complete}
-use Rattle.json.proofs.Parse.{At, at, scan}
-use Rattle.json.proofs.Scan.{both-T, scan-octets}
-use Rattle.json.proofs.Complete.{sign-onto}
-use Rattle.json.proofs.Positions.{Rest, rest-along, rest-next, octet-cons, step-cons, skip-scan, rest-scan}
+use Rattle.grammar.specs.Grammar.{colon, comma, isSpace, octets, Sign, leavesSign, leavesChars, leavesStr, Bracket, curly}
+use Rattle.grammar.specs.Grammar.{square, opening, closing, Label, Value, nested, empty, string, number, literal, Entries}
+use Rattle.grammar.specs.Grammar.{Literal, literal-true, literal-false, literal-null, last, more, leavesLabel, leavesValue}
+use Rattle.grammar.specs.Grammar.{leavesEntries}
+use Rattle.grammar.specs.Places.{kind, kindNested, kindLiteral, leading, place, placeName, Placed, item, Parts, done}
+use Rattle.grammar.specs.Places.{placed, placedEntries, kindOf, startOf, partsOf, members, elements}
+use Rattle.grammar.specs.Places as places
+use Rattle.grammar.specs.Strings.{everyLabel, every, everyEntries}
+use Rattle.grammar.specs.Spellings.{sayable}
+use Rattle.grammar.specs.Reader.{octetAt, step, skipSpace, Answer, nothing, found, readText, rowsAt, rowsIn, valueAt}
+use Rattle.grammar.specs.Reader.{membersAt, elementsAt}
+use Rattle.grammar.specs.Readings.{Reading, Shown, Everywhere, EverywhereIn, StringsStand, StringsStandIn}
+use Rattle.grammar.proofs.Theorems.{read-sound, read-complete}
+use Rattle.grammar.proofs.Parse.{At, at, scan}
+use Rattle.grammar.proofs.Scan.{both-T, scan-octets}
+use Rattle.grammar.proofs.Complete.{sign-onto}
+use Rattle.grammar.proofs.Positions.{Rest, rest-along, rest-next, octet-cons, step-cons, skip-scan, rest-scan}
 use Rattle.headers.specs.Headers.{isNothing, unread, outermost}
 use Rattle.shape.specs.Shape.{hollow}
 use Rattle.meets.specs.Members.{Member, memberOf, elementOf, membersIn, elementsIn, membersOf, elementsOf}

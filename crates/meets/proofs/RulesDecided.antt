@@ -5,9 +5,9 @@ use mathlib.Core.Bool.{Bool, true}
 use mathlib.Core.Logic.{_↔_}
 use mathlib.Core.List.{List, [], _∷_, _++_}
 use Prim.Native.Nat.{ℕ}
-use Rattle.json.specs.Grammar.{Str}
-use Rattle.json.specs.Strings.{SayAlike}
-use Rattle.json.specs.Bounds.{Every}
+use Rattle.grammar.specs.Grammar.{Str}
+use Rattle.grammar.specs.Strings.{SayAlike}
+use Rattle.grammar.specs.Bounds.{Every}
 use Rattle.rows.specs.Any.{any}
 use Rattle.rows.specs.Rows.{Entry}
 use Rattle.jose.specs.Registered.{registered}

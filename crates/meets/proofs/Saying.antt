@@ -8,13 +8,13 @@ use native.Mathlib.Omega.{arith}
 use lib.Dec.{T}
 use lib.ListN.{length, getD}
 use Rattle.parts.specs.Parts.{part}
-use Rattle.json.specs.Grammar.{Str, leavesChars, string}
-use Rattle.json.specs.Places as places
-use Rattle.json.specs.Strings.{SayAlike, HasOctets}
-use Rattle.json.specs.Spellings.{alike, has, sayable}
-use Rattle.json.proofs.Theorems.{alike-decides, has-decides}
-use Rattle.json.proofs.Parse.{true→T}
-use Rattle.json.proofs.Scan.{T→true}
+use Rattle.grammar.specs.Grammar.{Str, leavesChars, string}
+use Rattle.grammar.specs.Places as places
+use Rattle.grammar.specs.Strings.{SayAlike, HasOctets}
+use Rattle.grammar.specs.Spellings.{alike, has, sayable}
+use Rattle.grammar.proofs.Theorems.{alike-decides, has-decides}
+use Rattle.grammar.proofs.Parse.{true→T}
+use Rattle.grammar.proofs.Scan.{T→true}
 use Rattle.names.specs.Names.{numberIn, any}
 use Rattle.names.proofs.Laws.{number-none, number-is, number-earlier}
 use Rattle.meets.specs.Members.{Member, Among}

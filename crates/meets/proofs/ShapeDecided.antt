@@ -9,11 +9,11 @@ use lib.ListN.{length}
 use lib.Dec.{eqb}
 use borrow.Author.Tests.{eqb-true, eq-eqb}
 use Rattle.prelude.specs.Ascii.{ascii}
-use Rattle.json.specs.Grammar.{Value}
-use Rattle.json.specs.Places.{kind, Place, Element}
-use Rattle.json.specs.Strings.{HasOctets}
-use Rattle.json.specs.Bounds.{Every}
-use Rattle.json.specs.Reader.{elementsAt}
+use Rattle.grammar.specs.Grammar.{Value}
+use Rattle.grammar.specs.Places.{kind, Place, Element}
+use Rattle.grammar.specs.Strings.{HasOctets}
+use Rattle.grammar.specs.Bounds.{Every}
+use Rattle.grammar.specs.Reader.{elementsAt}
 use Rattle.rows.specs.Any.{any}
 use Rattle.rows.specs.Rows.{Entry, numbered, present, valueOf}
 use Rattle.jose.specs.HeaderRules.{isEmpty}

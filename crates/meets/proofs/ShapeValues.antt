@@ -10,11 +10,11 @@ use lib.ListN.{length}
 use lib.Dec.{eqb, leb}
 use borrow.Author.Tests.{eqb-true, eq-eqb}
 use Rattle.parts.specs.Parts.{part, holds}
-use Rattle.json.specs.Grammar.{quote, backslash, among, Octet, isUnescaped, Char, unescaped, escape, unicode}
-use Rattle.json.specs.Grammar.{leavesChar, Str, leavesChars, curly, Value, string}
-use Rattle.json.specs.Places.{kind}
-use Rattle.json.specs.Bounds.{Every}
-use Rattle.json.proofs.Scan.{both-T, false-of}
+use Rattle.grammar.specs.Grammar.{quote, backslash, among, Octet, isUnescaped, Char, unescaped, escape, unicode}
+use Rattle.grammar.specs.Grammar.{leavesChar, Str, leavesChars, curly, Value, string}
+use Rattle.grammar.specs.Places.{kind}
+use Rattle.grammar.specs.Bounds.{Every}
+use Rattle.grammar.proofs.Scan.{both-T, false-of}
 use Rattle.shape.specs.Shape.{hollow}
 use Rattle.meets.specs.Meets.{Unescaped, Plain, Filled, Header}
 use Rattle.meets.proofs.Standing.{Stands, string-stands, kind-string, is-string}

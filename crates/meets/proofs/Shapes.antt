@@ -8,10 +8,10 @@ use Prim.Native.Nat.{ℕ}
 use lib.Dec.{eqb}
 use borrow.Author.Tests.{eqb-true, eq-eqb}
 use Rattle.prelude.specs.Ascii.{ascii}
-use Rattle.json.specs.Grammar.{Str, Value}
-use Rattle.json.specs.Places.{kind}
-use Rattle.json.specs.Strings.{HasOctets}
-use Rattle.json.specs.Spellings.{adds, next, undoFrom, undo, equal, has}
+use Rattle.grammar.specs.Grammar.{Str, Value}
+use Rattle.grammar.specs.Places.{kind}
+use Rattle.grammar.specs.Strings.{HasOctets}
+use Rattle.grammar.specs.Spellings.{adds, next, undoFrom, undo, equal, has}
 use Rattle.names.specs.Names.{numberIn}
 use Rattle.rows.specs.Any.{any}
 use Rattle.rows.specs.Rows.{Entry, numbered}

@@ -19,12 +19,13 @@ use Rattle.base64url.proofs.Groups.{sextets-below}
 use Rattle.base64url.proofs.Laws.{accepted-exactly, decode-encode, encoded-length}
 use Rattle.parts.specs.Parts.{holds}
 use Rattle.parts.proofs.Laws.{part-fits}
-use Rattle.json.specs.Places.{Place}
+use Rattle.grammar.specs.Places.{Place}
 use Rattle.rows.specs.Any.{any}
 use Rattle.headers.specs.Components.{absent, octetsAt, places, misspelled}
 use Rattle.headers.specs.Headers.{headerText}
 use Rattle.jwe.specs.Compact.{fourStops, compactComponents}
-use Rattle.meets.specs.Meets.{Octets, dotted}
+use Rattle.headers.specs.Components.{dotted}
+use Rattle.meets.specs.Meets.{Octets}
 use Rattle.meets.proofs.Deciding.{FalseWhere, or-false}
 use Rattle.meets.proofs.FiveParts.{FiveParts, parts-placed, stops-decided}
 

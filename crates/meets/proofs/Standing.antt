@@ -10,19 +10,19 @@ use lib.ListN.{length, take, length-append, length-drop}
 use lib.Seq.{take-append-seam}
 use Rattle.parts.specs.Parts.{part}
 use Rattle.parts.proofs.Laws.{part-fits}
-use Rattle.json.specs.Grammar.{quote, octets, Sign, Str, leavesChars, leavesStr, Literal, literal-true, literal-false}
-use Rattle.json.specs.Grammar.{literal-null, Bracket, curly, square, Value, nested, empty, string, number, literal}
-use Rattle.json.specs.Grammar.{Entries, leavesValue}
-use Rattle.json.specs.Places.{kind, kindNested, kindLiteral, leading, trailing, place, placed, placedText}
-use Rattle.json.specs.Places.{kindOf, startOf, sizeOf}
-use Rattle.json.specs.Places as places
-use Rattle.json.specs.Strings.{every}
-use Rattle.json.specs.Spellings.{sayable}
-use Rattle.json.specs.Reader.{skipSpace}
-use Rattle.json.specs.Readings.{Reading, Shown, Everywhere, StringsStand}
-use Rattle.json.proofs.Theorems.{read-complete, read-shows, read-stands, read-says}
-use Rattle.json.proofs.Positions.{Rest, rest-next}
-use Rattle.json.proofs.Decide.{rest-value}
+use Rattle.grammar.specs.Grammar.{quote, octets, Sign, Str, leavesChars, leavesStr, Literal, literal-true, literal-false}
+use Rattle.grammar.specs.Grammar.{literal-null, Bracket, curly, square, Value, nested, empty, string, number, literal}
+use Rattle.grammar.specs.Grammar.{Entries, leavesValue}
+use Rattle.grammar.specs.Places.{kind, kindNested, kindLiteral, leading, trailing, place, placed, placedText}
+use Rattle.grammar.specs.Places.{kindOf, startOf, sizeOf}
+use Rattle.grammar.specs.Places as places
+use Rattle.grammar.specs.Strings.{every}
+use Rattle.grammar.specs.Spellings.{sayable}
+use Rattle.grammar.specs.Reader.{skipSpace}
+use Rattle.grammar.specs.Readings.{Reading, Shown, Everywhere, StringsStand}
+use Rattle.grammar.proofs.Theorems.{read-complete, read-shows, read-stands, read-says}
+use Rattle.grammar.proofs.Positions.{Rest, rest-next}
+use Rattle.grammar.proofs.Decide.{rest-value}
 use Rattle.meets.specs.Members.{Member, IsString}
 
 -- A value stands in the text s at a place: its leaves begin at octet `from`, the reader shows everything in it, its

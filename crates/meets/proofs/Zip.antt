@@ -6,7 +6,7 @@ use mathlib.Core.Logic.{_↔_, _⊎_, inl, inr}
 use Prim.Native.Nat.{suc}
 use native.Mathlib.Omega.{arith}
 use lib.ListN.{length}
-use Rattle.json.specs.Bounds.{Every}
+use Rattle.grammar.specs.Bounds.{Every}
 use Rattle.rows.specs.Any.{any}
 use Rattle.meets.specs.Members.{Some}
 

@@ -8,10 +8,10 @@ use Prim.Native.Nat.{ℕ, zero, suc, _+_, _-_}
 use lib.ListN.{length}
 use Rattle.prelude.specs.Ascii.{ascii}
 use Rattle.base64url.specs.Base64url.{encoded}
-use Rattle.json.specs.Grammar.{Str, leavesChars}
-use Rattle.json.specs.Places.{Place, Placed, item, Parts, done, part, placedText, startOf, sizeOf, partsOf, Member, members}
-use Rattle.json.specs.Strings.{HasOctets}
-use Rattle.json.specs.Readings.{Reading, octetsAt}
+use Rattle.grammar.specs.Grammar.{Str, leavesChars}
+use Rattle.grammar.specs.Places.{Place, Placed, item, Parts, done, part, placedText, startOf, sizeOf, partsOf, Member, members}
+use Rattle.grammar.specs.Strings.{HasOctets}
+use Rattle.grammar.specs.Readings.{Reading, octetsAt}
 
 -- The parameters of the headers that apply: each a direct member, in text order.
 pub record Rows : Type 0 where

@@ -2,18 +2,19 @@
 -- and the encoding. Nothing is searched.
 use mathlib.Core.Path.{_≡_}
 use mathlib.Core.Logic.{_⊎_}
-use mathlib.Core.List.{List, [], _∷_, _++_, map}
+use mathlib.Core.List.{List, [], _∷_, map}
 use Prim.Native.Nat.{ℕ, _≤_, _<_}
 use lib.ListN.{length}
 use Rattle.prelude.specs.Ascii.{ascii}
 use Rattle.prelude.specs.Buffer.{AllBelow}
 use Rattle.base64url.specs.Base64url.{encoded}
 use Rattle.names.specs.Names.{listOf, Limited}
-use Rattle.json.specs.Grammar.{Char, Str, leavesChars, Value, string}
-use Rattle.json.specs.Grammar as grammar
-use Rattle.json.specs.Places.{kind}
-use Rattle.json.specs.Bounds.{Every}
-use Rattle.json.specs.Readings.{Reading}
+use Rattle.grammar.specs.Grammar.{Char, Str, leavesChars, Value, string}
+use Rattle.grammar.specs.Grammar as grammar
+use Rattle.grammar.specs.Places.{kind}
+use Rattle.grammar.specs.Bounds.{Every}
+use Rattle.grammar.specs.Readings.{Reading}
+use Rattle.headers.specs.Components.{dotted}
 use Rattle.meets.specs.Members.{Member, membersOf, elementsOf, namesOf, IsString, Distinct, Named, Absent}
 use Rattle.meets.specs.Rules.{EveryNamed, Present, Rules}
 
@@ -34,13 +35,7 @@ pub record Protected (header : List ℕ) : Type 0 where
 abbrev pub membersRead : {header : List ℕ} → Protected header → List Member
 membersRead p = membersOf (p .reading .text .value)
 
--- Compact (RFC 7516, section 7.1): BASE64URL(UTF8(JWE Protected Header)) || '.' || BASE64URL(JWE Encrypted Key) || '.' ||
--- BASE64URL(JWE Initialization Vector) || '.' || BASE64URL(JWE Ciphertext) || '.' || BASE64URL(JWE Authentication Tag)
-
-abbrev pub dotted : List ℕ → List ℕ → List ℕ → List ℕ → List ℕ → List ℕ
-dotted header key iv ciphertext tag =
-    encoded header ++ (46 ∷ (encoded key ++ (46 ∷ (encoded iv ++ (46 ∷ (encoded ciphertext ++ (46 ∷ encoded tag)))))))
-
+-- Compact (RFC 7516, section 7.1)
 pub record Compact (known : List (List ℕ)) (message : List ℕ) : Type 0 where
   pub header : List ℕ
   pub key : List ℕ

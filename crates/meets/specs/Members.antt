@@ -3,10 +3,10 @@ use mathlib.Core.List.{List, [], _∷_, _++_, map}
 use mathlib.Core.Logic.{_⊎_}
 use mathlib.Core.Path.{_≡_}
 use Prim.Native.Nat.{ℕ}
-use Rattle.json.specs.Grammar.{Str, Bracket, curly, square, Label, Value, nested, empty, string, number, literal, Entries}
-use Rattle.json.specs.Grammar.{last, more}
-use Rattle.json.specs.Strings.{SayAlike, HasOctets}
-use Rattle.json.specs.Bounds.{Every}
+use Rattle.grammar.specs.Grammar.{Str, Bracket, curly, square, Label, Value, nested, empty, string, number, literal, Entries}
+use Rattle.grammar.specs.Grammar.{last, more}
+use Rattle.grammar.specs.Strings.{SayAlike, HasOctets}
+use Rattle.grammar.specs.Bounds.{Every}
 
 -- A member: its name and its value.
 pub record Member : Type 0 where

@@ -4,13 +4,13 @@ use mathlib.Core.Logic.{_↔_, _⊎_}
 use mathlib.Core.List.{List, [], _∷_, _++_, map}
 use Prim.Native.Nat.{ℕ}
 use Rattle.prelude.specs.Ascii.{ascii}
-use Rattle.json.specs.Grammar.{Str, Value, string}
-use Rattle.json.specs.Places.{kind}
-use Rattle.json.specs.Strings.{SayAlike, HasOctets}
-use Rattle.json.specs.Bounds.{Every}
-use Rattle.jose.specs.Algorithms.{algName, mode, algNames, encNames, zipNames}
+use Rattle.grammar.specs.Grammar.{Str, Value, string}
+use Rattle.grammar.specs.Places.{kind}
+use Rattle.grammar.specs.Strings.{SayAlike, HasOctets}
+use Rattle.grammar.specs.Bounds.{Every}
+use Rattle.algorithms.specs.Algorithms.{algName, mode, algNames, encNames, zipNames}
 use Rattle.jose.specs.Registered.{registered}
-use Rattle.jose.specs.declared.algorithms.Alg.{Alg}
+use Rattle.algorithms.specs.declared.Alg.{Alg}
 use Rattle.meets.specs.Members.{Member, elementsOf, namesOf, Some, IsString, Among, Distinct, Apart}
 
 -- The headers that apply to a recipient.

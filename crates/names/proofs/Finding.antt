@@ -8,7 +8,7 @@ use Prim.Native.Nat.{ℕ, zero, suc, _+_, _-_, _≤_, _<_}
 use native.Mathlib.Omega.{arith}
 use lib.ListN.{length, take, drop, getD, length-drop}
 use lib.Seq.{drop-drop}
-use Rattle.json.specs.Spellings.{has}
+use Rattle.grammar.specs.Spellings.{has}
 use Rattle.names.specs.Names.{cut, names, total, filled, up, numberIn}
 use Rattle.names.proofs.Contents.{room, exact}
 use Rattle.names.proofs.Numbers.{number-first, number-later}

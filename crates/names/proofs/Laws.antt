@@ -6,9 +6,9 @@ use mathlib.Core.Logic.{_↔_}
 use Prim.Native.Nat.{ℕ, suc, _≤_, _<_}
 use lib.ListN.{length, getD}
 use lib.Dec.{T}
-use Rattle.json.specs.Spellings.{undo, has}
-use Rattle.json.proofs.Scan.{T→true}
-use Rattle.json.proofs.Parse.{true→T}
+use Rattle.grammar.specs.Spellings.{undo, has}
+use Rattle.grammar.proofs.Scan.{T→true}
+use Rattle.grammar.proofs.Parse.{true→T}
 use Rattle.names.specs.Names.{listOf, names, filled, sound, Limited, numberIn, any}
 use Rattle.names.proofs.Contents as Contents
 use Rattle.names.proofs.Numbers as Numbers

@@ -5,7 +5,7 @@ use mathlib.Core.Bool.{Bool, true, false, cond}
 use Prim.Native.Nat.{ℕ, zero, suc, _≤_, _<_}
 use native.Mathlib.Omega.{arith}
 use lib.ListN.{length, getD}
-use Rattle.json.specs.Spellings.{undo, equal, has}
+use Rattle.grammar.specs.Spellings.{undo, equal, has}
 use Rattle.names.specs.Names.{up, numberIn, any}
 
 up-none : (n : ℕ) → up n ≡ 0 → n ≡ 0

@@ -5,7 +5,7 @@ use mathlib.Core.Bool.{Bool, true, false, _&&_, cond}
 use Prim.Native.Nat.{ℕ, zero, suc, _+_, _≤_}
 use lib.ListN.{length, take, drop}
 use lib.Dec.{eqb, leb}
-use Rattle.json.specs.Spellings.{has}
+use Rattle.grammar.specs.Spellings.{has}
 
 -- The list of some names.
 unfoldable pub listOf : List (List ℕ) → List ℕ

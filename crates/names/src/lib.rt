@@ -44,7 +44,7 @@ pub fn find(list: &[u8], spelled: &[u8]) -> u32
     let mut i: usize = 1;
     while i <= n {
         let end = start + list[i] as usize;
-        if json::spelling::has(spelled, &list[start..end]) {
+        if spelling::has(spelled, &list[start..end]) {
             return i as u32;
         }
         start = end;

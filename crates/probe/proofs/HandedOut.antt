@@ -7,7 +7,7 @@ use lib.ListN.{length, getD}
 use lib.Dec.{eqb}
 use borrow.Author.Tests.{lt-ltb, le-ltb, eq-eqb, ne-eqb, eqb-true}
 use Rattle.prelude.specs.Buffer.{AllBelow, written}
-use Rattle.json.proofs.Endings.{either}
+use Rattle.grammar.proofs.Endings.{either}
 use Rattle.jwe.specs.Judge.{refusal, accepted, refused, result, headerAfter, listAfter}
 use Rattle.jwe.specs.Answers.{numbers}
 use Rattle.jwe.specs.declared.Result.{Result}

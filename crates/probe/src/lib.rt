@@ -7,9 +7,9 @@ ghost use lib.ListN.{length};
 ghost use Rattle.base64url.specs.Base64url.{encodedLength};
 ghost use Rattle.base64url.specs.Answers.{checkRefusal, checkAnswer, encodeRefusal, encodeNext, encodeAnswer};
 ghost use Rattle.base64url.specs.Answers.{encodeBuffer};
-ghost use Rattle.json.specs.Reader.{readText, valueAt};
+ghost use Rattle.grammar.specs.Reader.{readText, valueAt};
 ghost use Rattle.json.specs.Ends.{foundOf};
-ghost use Rattle.json.specs.Spellings.{alike, has};
+ghost use Rattle.grammar.specs.Spellings.{alike, has};
 ghost use Rattle.json.specs.Numbers.{judgeRefusal, valueKind, foundEnd};
 use base64url::Checked;
 use base64url::Encoded;
@@ -82,7 +82,7 @@ pub extern "C" fn probe_judge(text: &[u8], levels: u32, end: &mut usize) -> u32
 pub extern "C" fn probe_alike(a: &[u8], b: &[u8]) -> u32
     ensures { λ r. ⌜ r ≡ cond (alike (now (a .entry)) (now (b .entry))) 1 0 ⌝ }
 {
-    if json::spelling::alike(a, b) { 1 } else { 0 }
+    if spelling::alike(a, b) { 1 } else { 0 }
 }
 
 // 1 where a spelling has the octets w, or 0.
@@ -90,7 +90,7 @@ pub extern "C" fn probe_alike(a: &[u8], b: &[u8]) -> u32
 pub extern "C" fn probe_has(a: &[u8], w: &[u8]) -> u32
     ensures { λ r. ⌜ r ≡ cond (has (now (a .entry)) (now (w .entry))) 1 0 ⌝ }
 {
-    if json::spelling::has(a, w) { 1 } else { 0 }
+    if spelling::has(a, w) { 1 } else { 0 }
 }
 
 // The kind of the value of so many levels that begins at an offset, or 7 where none does; *end is the position after it, or

@@ -5,7 +5,7 @@ use mathlib.Core.List.{List}
 use Prim.Native.Nat.{ℕ}
 use lib.Dec.{eqb}
 use borrow.Author.Tests.{eq-eqb, ne-eqb}
-use Rattle.json.specs.Spellings.{alike}
+use Rattle.grammar.specs.Spellings.{alike}
 use Rattle.rows.specs.Rows.{Entry, textOf, spelledName, nameIn, apart, clash}
 
 -- Names compared in the texts that their origins say.

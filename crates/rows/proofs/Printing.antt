@@ -6,10 +6,10 @@ use mathlib.Core.List.{List, [], _∷_, _++_}
 use Prim.Native.Nat.{ℕ}
 use lib.Dec.{eqb}
 use borrow.Author.Tests.{eq-eqb}
-use Rattle.json.specs.Spellings.{undo, alike, fingerprint}
-use Rattle.json.specs.Places.{Member}
-use Rattle.json.specs.Bounds.{Every}
-use Rattle.json.proofs.Fingerprints.{alike-fingerprint}
+use Rattle.grammar.specs.Spellings.{undo, alike, fingerprint}
+use Rattle.grammar.specs.Places.{Member}
+use Rattle.grammar.specs.Bounds.{Every}
+use Rattle.spelling.proofs.Fingerprints.{alike-fingerprint}
 use Rattle.rows.specs.Any.{any, anyPair}
 use Rattle.rows.specs.Rows.{Entry, textOf, spelledName, entriesIn, nameIn, apart, same, repeated, clash, clashes}
 use Rattle.rows.specs.Prints.{HasPrint, Printed}

@@ -2,7 +2,7 @@
 use mathlib.Core.List.{List, [], _∷_}
 use Prim.Native.Nat.{ℕ, zero, suc}
 use lib.ListN.{drop, getD}
-use Rattle.json.specs.Places.{Member}
+use Rattle.grammar.specs.Places.{Member}
 
 -- The first member of such rows.
 abbrev pub firstMember : List ℕ → Member

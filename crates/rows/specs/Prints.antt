@@ -2,8 +2,8 @@
 use mathlib.Core.Path.{_≡_}
 use mathlib.Core.List.{List}
 use Prim.Native.Nat.{ℕ}
-use Rattle.json.specs.Spellings.{undo, fingerprint}
-use Rattle.json.specs.Bounds.{Every}
+use Rattle.grammar.specs.Spellings.{undo, fingerprint}
+use Rattle.grammar.specs.Bounds.{Every}
 use Rattle.rows.specs.Rows.{Entry, nameIn}
 
 -- Of an entry.

@@ -6,8 +6,8 @@ use Prim.Native.Nat.{ℕ, zero, suc, _+_, _-_}
 use lib.Dec.{eqb}
 use Rattle.parts.specs.Parts.{part}
 use Rattle.names.specs.Names.{numberIn}
-use Rattle.json.specs.Places.{Member, Place}
-use Rattle.json.specs.Spellings.{undo, alike, fingerprint}
+use Rattle.grammar.specs.Places.{Member, Place}
+use Rattle.grammar.specs.Spellings.{undo, alike, fingerprint}
 use Rattle.rows.specs.Any.{any, anyPair}
 
 -- Origins (document 01): 0 the protected header, 1 the shared header or the message itself, 2 a recipient's own header.

@@ -5,7 +5,7 @@ use Prim.Native.Nat.{ℕ, zero, suc, _+_, _*_}
 use lib.ListN.{length, drop, getD}
 use lib.Dec.{leb}
 use Rattle.prelude.specs.Buffer.{written}
-use Rattle.json.specs.Places.{Member}
+use Rattle.grammar.specs.Places.{Member}
 use Rattle.rows.specs.Rows.{Entry}
 
 -- How many numbers an entry has in a table.

@@ -5,7 +5,7 @@ ghost use Prim.Native.Nat.{_+_, _*_, _≤_};
 ghost use lib.ListN.{length, take};
 ghost use Rattle.prelude.specs.Buffer.{AllBelow, written};
 ghost use Rattle.names.specs.Names.{names, filled};
-ghost use Rattle.json.specs.Reader.{membersAt};
+ghost use Rattle.grammar.specs.Reader.{membersAt};
 ghost use Rattle.json.specs.Members.{collectedOf};
 ghost use Rattle.rows.specs.Rows.{entryOf, entriesIn};
 ghost use Rattle.rows.specs.Tables.{eight, flat, collectedTable};
@@ -25,7 +25,7 @@ fn put(text: &[u8], origin: u32, list: &[u8], row: &[usize], table: &mut [u32], 
     let len = row[1];
     let name = parts::part(text, start, len);
     let number = names::find(list, name);
-    let print = json::spelling::fingerprint(name);
+    let print = spelling::fingerprint(name);
     table[at] = origin;
     table[at + 1] = start as u32;
     table[at + 2] = len as u32;

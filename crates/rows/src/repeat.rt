@@ -2,7 +2,7 @@
 ghost use mathlib.Core.Path.{_≡_};
 ghost use Prim.Native.Nat.{_+_, _*_, _≤_, _<_};
 ghost use lib.ListN.{length, drop};
-ghost use Rattle.json.specs.Spellings.{alike};
+ghost use Rattle.grammar.specs.Spellings.{alike};
 ghost use Rattle.rows.specs.Any.{any};
 ghost use Rattle.rows.specs.Rows.{spelledName, nameIn, apart, clash, clashes};
 ghost use Rattle.rows.specs.Tables.{firstOf, entriesOf};
@@ -23,7 +23,7 @@ fn alike(one: &[u8], other: &[u8], table: &[u32], i: usize, j: usize) -> bool
 {
     let a = parts::part(one, field(table, i, 1), field(table, i, 2));
     let b = parts::part(other, field(table, j, 1), field(table, j, 2));
-    json::spelling::alike(a, b)
+    spelling::alike(a, b)
 }
 
 // Whether they do, each in the text that its origin says.

@@ -8,8 +8,8 @@ use lib.ListN.{length, take}
 use lib.Dec.{ltb}
 use borrow.Author.Tests.{ltb-false}
 use Rattle.prelude.proofs.Writing.{begins}
-use Rattle.json.specs.Places.{Element}
-use Rattle.json.specs.Reader.{elementsAt}
+use Rattle.grammar.specs.Places.{Element}
+use Rattle.grammar.specs.Reader.{elementsAt}
 use Rattle.rows.specs.Rows.{Entry, present, valueOf}
 use Rattle.jose.specs.Refusals.{Test, _if_, first}
 use Rattle.jose.proofs.Refusals.{nonzero}

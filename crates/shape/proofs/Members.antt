@@ -7,7 +7,7 @@ use Prim.Native.Nat.{ℕ, zero, suc}
 use lib.Dec.{eqb}
 use borrow.Author.Tests.{eq-eqb, ne-eqb}
 use Rattle.parts.specs.Parts.{holds}
-use Rattle.json.specs.Grammar.{curly}
+use Rattle.grammar.specs.Grammar.{curly}
 use Rattle.rows.specs.Any.{any}
 use Rattle.rows.specs.Rows.{Entry, textOf, numbered, present, spelledValue, valueIn}
 use Rattle.shape.specs.Shape.{wrongComponent, hollow, wrongHeader, wrongMember, wrongTop, wrongInElement}

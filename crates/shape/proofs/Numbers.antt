@@ -4,7 +4,7 @@ use mathlib.Core.Bool.{Bool, cond}
 use mathlib.Core.List.{List, [], _∷_}
 use Prim.Native.Nat.{ℕ, _+_, _-_}
 use borrow.Author.Tests.{eq-eqb, ne-eqb}
-use Rattle.json.specs.Places.{Place}
+use Rattle.grammar.specs.Places.{Place}
 use Rattle.rows.specs.Rows.{Entry, valueOf}
 use Rattle.headers.specs.Components.{absent}
 use Rattle.shape.specs.Shape.{inner, component, recipientOf}

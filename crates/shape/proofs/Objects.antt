@@ -10,8 +10,8 @@ use lib.Dec.{leb, ltb}
 use borrow.Author.Tests.{ltb-false, leb-true, le-leb}
 use Rattle.prelude.specs.Buffer.{written}
 use Rattle.prelude.proofs.Writing.{written-length}
-use Rattle.json.specs.Places.{Member}
-use Rattle.json.specs.Reader.{Answer, nothing, found, skipSpace, membersAt, readText}
+use Rattle.grammar.specs.Places.{Member}
+use Rattle.grammar.specs.Reader.{Answer, nothing, found, skipSpace, membersAt, readText}
 use Rattle.json.specs.Ends.{foundOf}
 use Rattle.json.specs.declared.Found.{Found}
 use Rattle.rows.specs.Rows.{Entry, entryOf, entriesIn, repeated}

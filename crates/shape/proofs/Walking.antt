@@ -10,7 +10,7 @@ use lib.Dec.{eqb, ltb}
 use borrow.Author.Tests.{ne-eqb, lt-ltb, le-ltb}
 use Rattle.prelude.specs.Buffer.{written}
 use Rattle.prelude.proofs.Writing.{Writing, begin, put, done}
-use Rattle.json.specs.Places.{Element}
+use Rattle.grammar.specs.Places.{Element}
 use Rattle.rows.specs.Any.{any}
 use Rattle.jose.specs.Refusals.{first}
 use Rattle.jose.specs.HeaderRules.{isEmpty}

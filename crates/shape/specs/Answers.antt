@@ -6,7 +6,7 @@ use Prim.Native.Nat.{ℕ}
 use lib.ListN.{length}
 use lib.Dec.{eqb, ltb}
 use Rattle.prelude.specs.Buffer.{written}
-use Rattle.json.specs.Places.{Element}
+use Rattle.grammar.specs.Places.{Element}
 use Rattle.jose.specs.Refusals.{Test, _if_}
 use Rattle.headers.specs.Limits.{mostRecipients}
 use Rattle.headers.specs.declared.Stage.{Stage}

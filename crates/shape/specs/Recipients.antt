@@ -4,8 +4,8 @@ use mathlib.Core.Bool.{cond}
 use Prim.Native.Nat.{ℕ}
 use lib.ListN.{length}
 use lib.Dec.{ltb}
-use Rattle.json.specs.Places.{Element}
-use Rattle.json.specs.Reader.{membersAt, elementsAt}
+use Rattle.grammar.specs.Places.{Element}
+use Rattle.grammar.specs.Reader.{membersAt, elementsAt}
 use Rattle.rows.specs.Rows.{Entry, present, valueOf}
 use Rattle.jose.specs.Refusals.{Test, _if_}
 use Rattle.jose.specs.HeaderRules.{levels}

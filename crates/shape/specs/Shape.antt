@@ -6,9 +6,9 @@ use Prim.Native.Nat.{ℕ, _+_, _-_}
 use lib.Dec.{eqb}
 use Rattle.prelude.specs.Ascii.{ascii}
 use Rattle.parts.specs.Parts.{holds}
-use Rattle.json.specs.Grammar.{backslash, Bracket, curly, closing}
-use Rattle.json.specs.Places.{Place, Member, Element}
-use Rattle.json.specs.Reader.{octetAt}
+use Rattle.grammar.specs.Grammar.{backslash, Bracket, curly, closing}
+use Rattle.grammar.specs.Places.{Place, Member, Element}
+use Rattle.grammar.specs.Reader.{octetAt}
 use Rattle.json.specs.Members.{firstIn}
 use Rattle.rows.specs.Any.{any}
 use Rattle.rows.specs.Rows.{Entry, entriesIn, numbered, present, valueOf, spelledValue}

@@ -3,7 +3,7 @@ ghost use mathlib.Core.Path.{_≡_};
 ghost use Prim.Native.Nat.{_+_, _-_, _*_, _≤_};
 ghost use lib.ListN.{length};
 ghost use Rattle.prelude.specs.Buffer.{written};
-ghost use Rattle.json.specs.Reader.{elementsAt};
+ghost use Rattle.grammar.specs.Reader.{elementsAt};
 ghost use Rattle.rows.specs.Any.{any};
 ghost use Rattle.rows.specs.Tables.{entriesOf};
 ghost use Rattle.jose.specs.Refusals.{first};

@@ -2,8 +2,8 @@
 use mathlib.Core.Path.{sym, _∙_}
 use mathlib.Core.List.{List}
 use Rattle.names.specs.Names.{names}
-use Rattle.json.specs.Places.{Member}
-use Rattle.json.specs.Reader.{membersAt}
+use Rattle.grammar.specs.Places.{Member}
+use Rattle.grammar.specs.Reader.{membersAt}
 use Rattle.rows.specs.Rows.{entriesIn}
 use Rattle.headers.proofs.Objects.{Collects, collects, collected-is, refused-8, refused-9, passed}
 use borrow.Author.Needs.{needs}

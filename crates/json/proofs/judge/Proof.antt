@@ -1,7 +1,7 @@
 -- The tests of a text in the order of the definition, then what stands behind its value.
 use mathlib.Core.Path.{ap, sym, _∙_}
 use borrow.Author.Tests.{not-true, not-false}
-use Rattle.json.specs.Reader.{valueAt}
+use Rattle.grammar.specs.Reader.{valueAt}
 use Rattle.json.specs.Ends.{foundOf}
 use Rattle.json.proofs.ValueParts.{is-found, is-nothing, text-no-brace, text-not-utf8, text-wholly, wholly-nothing, wholly-not, wholly-found}
 use borrow.Author.Needs.{needs}

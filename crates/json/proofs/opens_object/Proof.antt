@@ -2,7 +2,7 @@
 use Prim.Native.Nat.{ℕ}
 use mathlib.Core.Path.{ap, _∙_}
 use lib.Dec.{eqb}
-use Rattle.json.specs.Reader.{octetAt, opensObject}
+use Rattle.grammar.specs.Reader.{octetAt, opensObject}
 use borrow.Author.Needs.{needs}
 use Rattle.json.proofs.opens_object.Statement.{statement}
 use Rattle.json.proofs.opens_object.Tie as tie

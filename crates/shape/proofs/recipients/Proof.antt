@@ -8,7 +8,7 @@ use native.Mathlib.Omega.{arith}
 use lib.ListN.{length, take, length-take}
 use borrow.Author.Tests.{not-true, not-false}
 use Rattle.prelude.specs.Buffer.{written}
-use Rattle.json.specs.Reader.{elementsAt}
+use Rattle.grammar.specs.Reader.{elementsAt}
 use Rattle.rows.specs.Rows.{Entry, present}
 use Rattle.rows.specs.Tables.{entriesOf}
 use Rattle.shape.specs.Answers.{startsOf}

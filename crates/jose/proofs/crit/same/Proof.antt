@@ -1,6 +1,6 @@
 -- `same` compares what two elements say, as they are spelled.
 use mathlib.Core.Path.{ap₂, _∙_}
-use Rattle.json.specs.Spellings.{alike}
+use Rattle.grammar.specs.Spellings.{alike}
 use borrow.Author.Needs.{needs}
 use Rattle.jose.proofs.crit.same.Statement.{statement}
 use Rattle.jose.proofs.crit.same.Tie as tie

@@ -3,7 +3,7 @@ use mathlib.Core.Path.{_≡_, ap, _∙_}
 use mathlib.Core.List.{List}
 use Prim.Native.Nat.{ℕ, _+_, _*_}
 use native.Mathlib.Omega.{arith}
-use Rattle.json.specs.Spellings.{alike}
+use Rattle.grammar.specs.Spellings.{alike}
 use Rattle.jose.proofs.InTable.{text-header, text-message, says-at}
 use borrow.Author.Needs.{needs}
 use Rattle.jose.proofs.crit.says.Statement.{statement}

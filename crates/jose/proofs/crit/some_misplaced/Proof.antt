@@ -1,7 +1,7 @@
 -- `some_misplaced` walks along the elements: what is asked of those from here on stays the answer.
 use mathlib.Core.Path.{_≡_, ap, sym, _∙_}
 use native.Mathlib.Omega.{arith}
-use Rattle.json.specs.Reader.{elementsAt}
+use Rattle.grammar.specs.Reader.{elementsAt}
 use Rattle.rows.specs.Any.{any}
 use Rattle.rows.specs.Tables.{entriesOf}
 use Rattle.jose.specs.HeaderRules.{levels, misplaced}

@@ -1,6 +1,6 @@
 -- `some_unknown` walks along the elements: what is asked of those from here on stays the answer.
 use mathlib.Core.Path.{_≡_, ap, sym, _∙_}
-use Rattle.json.specs.Reader.{elementsAt}
+use Rattle.grammar.specs.Reader.{elementsAt}
 use Rattle.names.specs.Names.{names}
 use Rattle.rows.specs.Any.{any}
 use Rattle.jose.specs.HeaderRules.{levels, unknown}

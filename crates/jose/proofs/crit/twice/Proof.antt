@@ -1,7 +1,7 @@
 -- `twice` walks along the elements: whether two of those from here on say the same stays the answer.
 use mathlib.Core.Path.{_≡_, ap, sym, _∙_}
 use native.Mathlib.Omega.{arith}
-use Rattle.json.specs.Reader.{elementsAt}
+use Rattle.grammar.specs.Reader.{elementsAt}
 use Rattle.rows.specs.Any.{anyPair}
 use Rattle.jose.specs.HeaderRules.{levels, sameElement}
 use Rattle.jose.specs.Elements.{elementsFrom}

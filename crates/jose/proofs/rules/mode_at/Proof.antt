@@ -8,8 +8,8 @@ use Rattle.names.specs.Names.{listOf, numberIn}
 use Rattle.names.proofs.Contents.{names-of, filled-list}
 use Rattle.rows.specs.Rows.{valueIn}
 use Rattle.rows.specs.Tables.{firstOf}
-use Rattle.jose.specs.Algorithms.{algs, algName, algNames, nth, namedAlg}
-use Rattle.jose.proofs.Numbered.{unlisted-mode, listed-mode}
+use Rattle.algorithms.specs.Algorithms.{algs, algName, algNames, nth, namedAlg}
+use Rattle.algorithms.proofs.Numbered.{unlisted-mode, listed-mode}
 use borrow.Author.Needs.{needs}
 use Rattle.jose.proofs.rules.mode_at.Statement.{statement}
 use Rattle.jose.proofs.rules.mode_at.Tie as tie

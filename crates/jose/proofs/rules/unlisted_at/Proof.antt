@@ -9,7 +9,7 @@ use Rattle.names.specs.Names.{listOf, numberIn}
 use Rattle.names.proofs.Contents.{names-of, filled-list}
 use Rattle.rows.specs.Rows.{valueIn}
 use Rattle.rows.specs.Tables.{firstOf}
-use Rattle.jose.specs.Algorithms.{algs, algName, algNames, encs, encName, encNames, zipNames}
+use Rattle.algorithms.specs.Algorithms.{algs, algName, algNames, encs, encName, encNames, zipNames}
 use Rattle.jose.proofs.Asked.{number-at, alg-value, enc-value, zip-value, no-value}
 use borrow.Author.Needs.{needs}
 use Rattle.jose.proofs.rules.unlisted_at.Statement.{statement}

@@ -1,10 +1,10 @@
 -- Values, objects and arrays: what remains to be read from here is what the whole reads. The levels fall from an object or
 -- an array to the values in it; a value is above the object or the array that it is.
 use mathlib.Core.Path.{_≡_, ap, sym, _∙_}
-use Rattle.json.specs.Grammar.{curly, square}
-use Rattle.json.specs.Reader.{skipSpace, entriesAt, valueAt}
+use Rattle.grammar.specs.Grammar.{curly, square}
+use Rattle.grammar.specs.Reader.{skipSpace, entriesAt, valueAt}
 use Rattle.json.specs.Ends.{foundOf}
-use Rattle.json.proofs.Turns.{nested-deep, nested-empty, nested-open, close-end, close-bad, close-more, value-object, value-array}
+use Rattle.grammar.proofs.Turns.{nested-deep, nested-empty, nested-open, close-end, close-bad, close-more, value-object, value-array}
 use Rattle.json.proofs.NumberParts.{is-ended, is-refused}
 use Rattle.json.proofs.ValueParts.{Remains, Follows, is-found, is-nothing, turn-no-name, turn-nothing, turn-found, turn-none, element-here, value-scalar}
 use borrow.Author.Needs.{needs}

@@ -4,9 +4,9 @@ use mathlib.Core.Path.{_≡_, refl, ap, sym, _∙_}
 use mathlib.Core.List.{List}
 use native.Mathlib.Omega.{arith}
 use lib.ListN.{length, take, drop}
-use Rattle.json.specs.Grammar.{curly}
-use Rattle.json.specs.Places.{Member}
-use Rattle.json.specs.Reader.{valueAt, rowsAt}
+use Rattle.grammar.specs.Grammar.{curly}
+use Rattle.grammar.specs.Places.{Member}
+use Rattle.grammar.specs.Reader.{valueAt, rowsAt}
 use Rattle.prelude.specs.Buffer.{written}
 use Rattle.json.specs.Members.{fiveOf, flat, collectedOf}
 use Rattle.json.proofs.MemberRows.{rows-none, the-read, rows-more, rows-spent, members-first}

@@ -1,6 +1,6 @@
 -- `digits` reads one digit and any digits.
 use mathlib.Core.Path.{ap, sym, _∙_}
-use Rattle.json.specs.Grammar.{isDigit}
+use Rattle.grammar.specs.Grammar.{isDigit}
 use Rattle.json.proofs.NumberParts.{digits-yes, digits-no}
 use borrow.Author.Needs.{needs}
 use Rattle.json.proofs.Position.digits.Statement.{statement}

@@ -1,9 +1,9 @@
 -- `element` answers the entry that the reader finds here: its value.
 use mathlib.Core.Path.{refl, ap, sym, _∙_}
-use Rattle.json.specs.Reader.{nothing, found, valueAt}
+use Rattle.grammar.specs.Reader.{nothing, found, valueAt}
 use Rattle.json.specs.Members.{memberOf}
 use Rattle.json.proofs.ValueParts.{is-found, is-nothing}
-use Rattle.json.proofs.Turns.{element-entry}
+use Rattle.grammar.proofs.Turns.{element-entry}
 use Rattle.json.proofs.MemberParts.{entry-here}
 use borrow.Author.Needs.{needs}
 use Rattle.json.proofs.Position.element.Statement.{statement}

@@ -3,7 +3,7 @@ use mathlib.Core.Path.{refl, ap, sym, _∙_}
 use native.Mathlib.Omega.{arith}
 use lib.Dec.{eqb}
 use borrow.Author.Tests.{eq-eqb, ne-eqb, not-true, not-false}
-use Rattle.json.specs.Grammar.{letterU, isEscape}
+use Rattle.grammar.specs.Grammar.{letterU, isEscape}
 use Rattle.json.proofs.StringParts.{class-steps, escape-unit, escape-wrong, escape-half, escape-done, farther}
 use borrow.Author.Needs.{needs}
 use Rattle.json.proofs.Position.escape.Statement.{statement}

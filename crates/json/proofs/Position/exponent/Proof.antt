@@ -1,6 +1,6 @@
 -- `exponent` reads e or E, perhaps a sign, and digits, or nothing.
 use mathlib.Core.Path.{ap, sym, _∙_}
-use Rattle.json.specs.Grammar.{isE}
+use Rattle.grammar.specs.Grammar.{isE}
 use Rattle.json.proofs.NumberParts.{exponent-yes, exponent-no}
 use borrow.Author.Needs.{needs}
 use Rattle.json.proofs.Position.exponent.Statement.{statement}

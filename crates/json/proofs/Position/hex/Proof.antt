@@ -2,8 +2,8 @@
 use mathlib.Core.Path.{ap, sym, _∙_}
 use native.Mathlib.Omega.{arith}
 use borrow.Author.Tests.{not-true, not-false}
-use Rattle.json.specs.Grammar.{isHex}
-use Rattle.json.specs.Strings.{hexDigit}
+use Rattle.grammar.specs.Grammar.{isHex}
+use Rattle.grammar.specs.Strings.{hexDigit}
 use Rattle.json.proofs.StringParts.{hex-no, hex-yes}
 use borrow.Author.Needs.{needs}
 use Rattle.json.proofs.Position.hex.Statement.{statement}

@@ -1,6 +1,6 @@
 -- `inside` is one step and the space behind it, as the definition has it.
 use mathlib.Core.Path.{ap, _∙_}
-use Rattle.json.specs.Reader.{skipSpace}
+use Rattle.grammar.specs.Reader.{skipSpace}
 use borrow.Author.Needs.{needs}
 use Rattle.json.proofs.Position.inside.Statement.{statement}
 use Rattle.json.proofs.Position.inside.Tie as tie

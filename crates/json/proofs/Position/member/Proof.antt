@@ -2,11 +2,11 @@
 use Prim.Native.Nat.{_+_, _-_}
 use mathlib.Core.Path.{ap, sym, _∙_}
 use native.Mathlib.Omega.{arith}
-use Rattle.json.specs.Reader.{nothing, found, skipSpace, valueAt}
+use Rattle.grammar.specs.Reader.{nothing, found, skipSpace, valueAt}
 use Rattle.json.specs.Members.{memberOf}
 use Rattle.json.proofs.NumberParts.{is-ended, is-refused}
 use Rattle.json.proofs.ValueParts.{is-found, is-nothing}
-use Rattle.json.proofs.Turns.{member-no-name, member-no-colon, member-entry}
+use Rattle.grammar.proofs.Turns.{member-no-name, member-no-colon, member-entry}
 use Rattle.json.proofs.MemberParts.{entry-here, string-inside}
 use borrow.Author.Needs.{needs}
 use Rattle.json.proofs.Position.member.Statement.{statement}

@@ -1,6 +1,6 @@
 -- `peek` finds the octet at a position, and 256 at the end.
 use native.Mathlib.Omega.{arith}
-use Rattle.json.proofs.Here.{octet-here, octet-end}
+use Rattle.grammar.proofs.Here.{octet-here, octet-end}
 use borrow.Author.Needs.{needs}
 use Rattle.json.proofs.Position.peek.Statement.{statement}
 use Rattle.json.proofs.Position.peek.Tie as tie

@@ -3,8 +3,8 @@ use Prim.Native.Nat.{_-_, _≤_}
 use mathlib.Core.Path.{_≡_, refl, _∙_}
 use native.Mathlib.Omega.{arith}
 use lib.ListN.{length}
-use Rattle.json.specs.Grammar.{isUnescaped}
-use Rattle.json.specs.Reader.{skip}
+use Rattle.grammar.specs.Grammar.{isUnescaped}
+use Rattle.grammar.specs.Reader.{skip}
 use Rattle.json.proofs.StringParts.{plain-part}
 use borrow.Author.Needs.{needs}
 use Rattle.json.proofs.Position.skip_blocks.Statement.{statement}

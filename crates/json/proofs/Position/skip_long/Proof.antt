@@ -3,9 +3,9 @@ use Prim.Native.Nat.{_-_}
 use mathlib.Core.Path.{_≡_, refl, sym, _∙_}
 use lib.ListN.{length}
 use borrow.Author.Tests.{not-true, not-false}
-use Rattle.json.specs.Grammar.{isUnescaped}
-use Rattle.json.specs.Reader.{skip}
-use Rattle.json.proofs.Here.{skip-next, skip-stop, skip-end}
+use Rattle.grammar.specs.Grammar.{isUnescaped}
+use Rattle.grammar.specs.Reader.{skip}
+use Rattle.grammar.proofs.Here.{skip-next, skip-stop, skip-end}
 use borrow.Author.Needs.{needs}
 use Rattle.json.proofs.Position.skip_long.Statement.{statement}
 use Rattle.json.proofs.Position.skip_long.Tie as tie

@@ -1,6 +1,6 @@
 -- `skip_minus` passes a minus, if one stands here.
 use mathlib.Core.Path.{ap, sym, _∙_}
-use Rattle.json.specs.Grammar.{isMinus}
+use Rattle.grammar.specs.Grammar.{isMinus}
 use Rattle.json.proofs.NumberParts.{perhaps-yes, perhaps-no}
 use borrow.Author.Needs.{needs}
 use Rattle.json.proofs.Position.skip_minus.Statement.{statement}

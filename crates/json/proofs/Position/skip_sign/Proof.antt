@@ -1,6 +1,6 @@
 -- `skip_sign` passes a plus or a minus, if one stands here.
 use mathlib.Core.Path.{ap, sym, _∙_}
-use Rattle.json.specs.Grammar.{isPlusMinus}
+use Rattle.grammar.specs.Grammar.{isPlusMinus}
 use Rattle.json.proofs.NumberParts.{perhaps-yes, perhaps-no}
 use borrow.Author.Needs.{needs}
 use Rattle.json.proofs.Position.skip_sign.Statement.{statement}

@@ -4,9 +4,9 @@ use mathlib.Core.Path.{_≡_, refl, sym, _∙_}
 use native.Mathlib.Omega.{arith}
 use lib.ListN.{length}
 use borrow.Author.Tests.{not-true, not-false}
-use Rattle.json.specs.Grammar.{isSpace}
-use Rattle.json.specs.Reader.{skip}
-use Rattle.json.proofs.Here.{skip-next, skip-stop, skip-end}
+use Rattle.grammar.specs.Grammar.{isSpace}
+use Rattle.grammar.specs.Reader.{skip}
+use Rattle.grammar.proofs.Here.{skip-next, skip-stop, skip-end}
 use borrow.Author.Needs.{needs}
 use Rattle.json.proofs.Position.skip_space.Statement.{statement}
 use Rattle.json.proofs.Position.skip_space.Tie as tie

@@ -4,8 +4,8 @@ use mathlib.Core.Path.{refl, ap, sym, _∙_}
 use mathlib.Core.Bool.{Bool, true≢false}
 use native.Mathlib.Omega.{arith}
 use lib.ListN.{length}
-use Rattle.json.specs.Grammar.{isUnescaped}
-use Rattle.json.specs.Reader.{between, octetAt, skip}
+use Rattle.grammar.specs.Grammar.{isUnescaped}
+use Rattle.grammar.specs.Reader.{between, octetAt, skip}
 use Rattle.json.proofs.StringParts.{scan, plain-run, skip-forward, skip-stops}
 use borrow.Author.Needs.{needs}
 use Rattle.json.proofs.Position.skip_unless.Statement.{statement}

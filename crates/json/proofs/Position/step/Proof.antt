@@ -1,5 +1,5 @@
 -- `step` goes one on, and no further than the end.
-use Rattle.json.proofs.Here.{step-inside, step-end}
+use Rattle.grammar.proofs.Here.{step-inside, step-end}
 use borrow.Author.Needs.{needs}
 use Rattle.json.proofs.Position.step.Statement.{statement}
 use Rattle.json.proofs.Position.step.Tie as tie

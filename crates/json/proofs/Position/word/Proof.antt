@@ -3,7 +3,7 @@ use Prim.Native.Nat.{_-_}
 use mathlib.Core.Path.{_≡_, refl, ap, sym, _∙_}
 use native.Mathlib.Omega.{arith}
 use lib.ListN.{length, drop}
-use Rattle.json.specs.Reader.{wordAt}
+use Rattle.grammar.specs.Reader.{wordAt}
 use Rattle.json.specs.Ends.{endsOf}
 use Rattle.json.proofs.ValueParts.{word-end, word-next, word-not}
 use borrow.Author.Needs.{needs}

@@ -7,7 +7,7 @@ use native.Mathlib.Omega.{arith}
 use lib.ListN.{length, getD}
 use borrow.Author.Count.{below-more}
 use borrow.Author.Tests.{not-false}
-use Rattle.json.specs.Grammar.{isUnescaped}
+use Rattle.grammar.specs.Grammar.{isUnescaped}
 use borrow.Author.Needs.{needs}
 use Rattle.json.proofs.string.count_stops.Statement.{statement}
 use Rattle.json.proofs.string.count_stops.Tie as tie

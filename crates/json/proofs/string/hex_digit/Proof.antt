@@ -3,7 +3,7 @@ use Prim.Native.Nat.{_-_}
 use mathlib.Core.Path.{_≡_, sym}
 use native.Mathlib.Omega.{arith}
 use borrow.Author.Tests.{le-leb, lt-leb}
-use Rattle.json.specs.Strings.{hexDigit}
+use Rattle.grammar.specs.Strings.{hexDigit}
 use Rattle.json.proofs.StringParts.{hex-small, hex-from, hex-lower}
 use borrow.Author.Needs.{needs}
 use Rattle.json.proofs.string.hex_digit.Statement.{statement}

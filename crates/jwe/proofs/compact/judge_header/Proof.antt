@@ -19,7 +19,8 @@ use Rattle.jose.specs.Judged.{judgedOf}
 use Rattle.headers.specs.Components.{misspelled, places}
 use Rattle.headers.specs.Headers.{headerText, textOrder, outermost, protectedEntries, objectOrder}
 use Rattle.headers.specs.Answers.{placeOf, stageOf, headerBuffer}
-use Rattle.headers.proofs.Stages.{refused-is}
+use Rattle.headers.proofs.Stages.{refused-is, ruled-mode, ruled-refused}
+use Rattle.headers.proofs.Collected.{Kept, kept-passed, table-length}
 use Rattle.jwe.specs.Compact.{compactComponents, compactOrder}
 use Rattle.jwe.specs.Judge.{compactOutcome}
 use Rattle.jwe.specs.Answers.{handed, ruledOut}
@@ -27,8 +28,7 @@ use Rattle.jwe.specs.declared.Components.{Components}
 use Rattle.jwe.proofs.Splitting.{none-first, asked-are}
 use Rattle.jwe.proofs.CompactOrder.{header, entries, rules}
 use Rattle.jwe.proofs.CompactOrder.{first-text, first-object, first-rule, first-19, first-none}
-use Rattle.jwe.proofs.Stages.{Read, read-passed, buffer-length, Kept, kept-passed, table-length}
-use Rattle.jwe.proofs.Stages.{ruled-mode, ruled-refused, refuses, printed-as, accepted-are}
+use Rattle.jwe.proofs.Stages.{Read, read-passed, buffer-length, refuses, printed-as, accepted-are}
 use borrow.Author.Needs.{needs}
 use Rattle.jwe.proofs.compact.judge_header.Statement.{statement}
 use Rattle.jwe.proofs.compact.judge_header.Tie as tie

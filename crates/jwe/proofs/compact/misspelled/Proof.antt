@@ -3,7 +3,7 @@ use mathlib.Core.Path.{_≡_, sym, _∙_}
 use mathlib.Core.Bool.{Bool, true, false}
 use mathlib.Core.List.{List, [], _∷_}
 use Prim.Native.Nat.{ℕ}
-use Rattle.json.specs.Places.{Place}
+use Rattle.grammar.specs.Places.{Place}
 use Rattle.headers.specs.Components.{misspelled}
 use Rattle.jwe.proofs.Splitting.{any-here, any-behind, any-last}
 use borrow.Author.Needs.{needs}

@@ -2,7 +2,7 @@
 use mathlib.Core.Path.{ap, sym, _∙_}
 use lib.ListN.{length}
 use borrow.Author.Tests.{not-true, not-false}
-use Rattle.json.specs.Places.{Place}
+use Rattle.grammar.specs.Places.{Place}
 use Rattle.rows.specs.Tables.{entriesOf}
 use Rattle.jose.specs.Refusals.{first}
 use Rattle.headers.specs.Components.{misspelled}

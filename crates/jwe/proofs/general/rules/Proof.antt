@@ -9,7 +9,7 @@ use native.Mathlib.Omega.{arith}
 use lib.ListN.{length, drop}
 use lib.Dec.{eqb}
 use Rattle.names.specs.Names.{names}
-use Rattle.json.specs.Places.{Place}
+use Rattle.grammar.specs.Places.{Place}
 use Rattle.rows.specs.Rows.{Entry}
 use Rattle.rows.specs.Prints.{Printed}
 use Rattle.rows.specs.Tables.{entriesOf}

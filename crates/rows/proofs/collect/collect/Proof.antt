@@ -7,7 +7,7 @@ use lib.ListN.{length}
 use borrow.Author.Needs.{needs}
 use Rattle.prelude.specs.Buffer.{AllBelow}
 use Rattle.names.specs.Names.{names}
-use Rattle.json.specs.Reader.{membersAt}
+use Rattle.grammar.specs.Reader.{membersAt}
 use Rattle.json.proofs.Within.{members-below}
 use Rattle.rows.proofs.Collecting.{few, rows-laid, entries-collected, none-collected}
 use Rattle.rows.proofs.collect.collect.Statement.{statement}

@@ -1,6 +1,6 @@
 -- `alike` compares two parts of the texts.
 use mathlib.Core.Path.{refl, ap₂, _∙_}
-use Rattle.json.specs.Spellings.{alike}
+use Rattle.grammar.specs.Spellings.{alike}
 use Rattle.rows.proofs.Values.{part-is}
 use borrow.Author.Needs.{needs}
 use Rattle.rows.proofs.repeat.alike.Statement.{statement}

@@ -1,7 +1,7 @@
 -- `key` takes the quotation marks off the place of the value, where there is one.
 use mathlib.Core.Path.{ap, sym, _∙_}
 use Prim.Native.Nat.{ℕ, _+_, _-_}
-use Rattle.json.specs.Places.{Place}
+use Rattle.grammar.specs.Places.{Place}
 use Rattle.rows.specs.Rows.{valueOf}
 use Rattle.rows.specs.Tables.{entriesOf}
 use Rattle.shape.proofs.Numbers.{inner-none, inner-some}

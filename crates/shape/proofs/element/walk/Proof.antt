@@ -5,7 +5,7 @@ use mathlib.Core.Path.{ap, sym, _∙_}
 use mathlib.Core.Bool.{not}
 use native.Mathlib.Omega.{arith}
 use borrow.Author.Tests.{eq-eqb, ne-eqb}
-use Rattle.json.specs.Reader.{elementsAt}
+use Rattle.grammar.specs.Reader.{elementsAt}
 use Rattle.jose.specs.Elements.{elementOf, elementsFrom}
 use Rattle.jose.proofs.Elements.{elements-all, elements-spent, elements-none, elements-more}
 use Rattle.jose.proofs.Walks.{of-any, walk-spent, walk-end, walk-found, walk-on}

@@ -2,8 +2,8 @@
 use mathlib.Core.Path.{ap, _∙_}
 use Prim.Native.Nat.{ℕ}
 use lib.Dec.{eqb}
-use Rattle.json.specs.Reader.{octetAt}
-use Rattle.json.proofs.Here.{octet-here, octet-end}
+use Rattle.grammar.specs.Reader.{octetAt}
+use Rattle.grammar.proofs.Here.{octet-here, octet-end}
 use borrow.Author.Needs.{needs}
 use Rattle.shape.proofs.member.hollow.Statement.{statement}
 use Rattle.shape.proofs.member.hollow.Tie as tie

@@ -2,7 +2,7 @@
 use mathlib.Core.Path.{refl, ap, _∙_}
 use mathlib.Core.Bool.{true, false}
 use Prim.Native.Nat.{ℕ}
-use Rattle.json.specs.Grammar.{curly}
+use Rattle.grammar.specs.Grammar.{curly}
 use Rattle.rows.proofs.Values.{entry}
 use Rattle.shape.specs.Shape.{hollow}
 use Rattle.shape.proofs.Members.{is-eqb, isnt-eqb, header-is}
