@@ -1,0 +1,65 @@
+-- `rules_refusal` answers what the reader's rules on the header's parameters do.
+use mathlib.Core.Path.{_≡_, refl, ap, sym, subst, _∙_}
+use mathlib.Core.List.{List}
+use Prim.Native.Nat.{ℕ}
+use Rattle.names.specs.Names.{names}
+use Rattle.rows.specs.Rows.{Entry}
+use Rattle.rows.specs.Prints.{Printed}
+use Rattle.rows.proofs.Printing.{entries-printed}
+use Rattle.jose.specs.Refusals.{first}
+use Rattle.jose.specs.Registered.{registered}
+use Rattle.jose.specs.HeaderRules.{recipientOrder, modeIn}
+use Rattle.jose.specs.Judged.{judgedOf}
+use Rattle.headers.specs.Headers.{outermost, protectedEntries}
+use Rattle.headers.proofs.Stages.{ruled-mode, ruled-refused}
+use Rattle.jwe_write.specs.Write.{rulesOrder}
+use Rattle.jwe_write.proofs.Rules.{rules-alike}
+use borrow.Author.Needs.{needs}
+use Rattle.jwe_write.proofs.rules_refusal.Statement.{statement}
+use Rattle.jwe_write.proofs.rules_refusal.Tie as tie
+
+-- what the rules answer, on the entries of the definition
+rules-answer : (c : tie.After-judge) →
+    let given = c .before .before .before .before .args in
+    let h = given .header .now in
+    c .judge .result
+    ≡ judgedOf (first (rulesOrder (names (given .known .now)) h (protectedEntries h) (given .no-key)))
+    (modeIn h h (protectedEntries h))
+rules-answer c =
+    let start = c .before .before .before .before in
+    let given = start .args in
+    let known = names (given .known .now) in
+    let h = given .header .now in
+    c .judge .ensures
+    ∙ ap (λ (es : List Entry). judgedOf (first (recipientOrder known h h es (given .no-key))) (modeIn h h es))
+    (start .pre .1 .1)
+    ∙ ap (λ (n : ℕ). judgedOf n (modeIn h h (protectedEntries h))) (rules-alike known h (given .no-key))
+
+judge-requires : tie.Need-judge-requires
+unfolding protectedEntries
+judge-requires c κs =
+    let start = c .before .before .before in
+    let h = start .args .header .now in
+    let printed : Printed h h (protectedEntries h) = entries-printed registered h h h 0 (outermost h) refl in (
+      start .pre .0,
+      (start .pre .1 .0, subst (λ (es : List Entry). Printed h h es) (sym (start .pre .1 .1)) printed),
+    )
+
+enum-known-judged : tie.Need-enum-known-judged
+enum-known-judged c = search needs
+
+enum-told : tie.Need-enum-told
+enum-told c = search needs
+
+returns : tie.Need-returns
+returns c =
+    let told = c .enum-told .given in
+    sym (ruled-mode (told .0 .0) _ _ (sym (told .1) ∙ rules-answer (c .before .before)) .0)
+
+returns-2 : tie.Need-returns-2
+returns-2 c =
+    let told = c .before .judged .given in
+    sym (ruled-refused (told .0 .0) _ _ (sym (told .1) ∙ rules-answer (c .before .before .before)) .0)
+
+pub rules-refusal-spec : {M : Type 1} → statement M
+rules-refusal-spec = tie.close (tie.spec judge-requires enum-known-judged enum-told returns returns-2)

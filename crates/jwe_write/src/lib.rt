@@ -1,0 +1,167 @@
+// The compact writer (RFC 7516, section 7.1). What it writes and answers stands in specs/: `Write` has the refusals in
+// order, `Answers` the answers.
+ghost use mathlib.Core.Path.{_≡_};
+ghost use mathlib.Core.Bool.{true};
+ghost use mathlib.Core.List.{_∷_};
+ghost use Prim.Native.Nat.{_+_, _*_, _≤_, min};
+ghost use lib.ListN.{length};
+ghost use Rattle.prelude.specs.Buffer.{written};
+ghost use Rattle.base64url.specs.Base64url.{encoded};
+ghost use Rattle.names.specs.Names.{names, filled};
+ghost use Rattle.rows.specs.Tables.{entriesOf};
+ghost use Rattle.jose.specs.Refusals.{first};
+ghost use Rattle.headers.specs.Components.{fullStop};
+ghost use Rattle.headers.specs.Headers.{textOrder, protectedEntries};
+ghost use Rattle.jwe_write.specs.Write.{raw, compactText, rulesOrder, parametersOrder};
+ghost use Rattle.jwe_write.specs.Answers.{writeAnswer, writeBuffer};
+use headers::Stage;
+use jose::judge::Judged;
+use json::Found;
+
+// What the writer answers: the octets written, or the refusal's number.
+pub enum Written {
+    Octets(usize),
+    Refused(u32),
+}
+
+// The header: a refusal's number, or 0
+
+// 6 and 7 on its text.
+fn text_refusal(header: &[u8]) -> u32
+    ensures { λ r. ⌜ r ≡ first (textOrder (now (header .entry))) ⌝ }
+{
+    if 4096 < header.len() {
+        return 6;
+    }
+    let judged = json::judge(header, 12);
+    let Found::Value(_, _) = judged else {
+        return 7;
+    };
+    0
+}
+
+// 13 to 18 on its parameters, which a table holds.
+fn rules_refusal(header: &[u8], known: &[u8], table: &[u32], count: usize, no_key: bool) -> u32
+    requires { ⌜ filled (now known) ≡ true ⌝ }
+    requires { ⌜ count * 8 ≤ length (now table) ⌝ }
+    requires { ⌜ entriesOf count (now table) ≡ protectedEntries (now header) ⌝ }
+    ensures { λ r. ⌜ r ≡ first (rulesOrder (names (now (known .entry))) (now (header .entry)) (protectedEntries (now (header .entry))) «no_key») ⌝ }
+{
+    let judged = jose::judge::judge(header, header, known, table, count, no_key);
+    let Judged::Refused(n) = judged else {
+        return 0;
+    };
+    n
+}
+
+// 8, 9 and 13 to 18 on it.
+fn parameters_refusal(header: &[u8], known: &[u8], no_key: bool) -> u32
+    requires { ⌜ length (now header) ≤ 4096 ⌝ }
+    requires { ⌜ filled (now known) ≡ true ⌝ }
+    ensures { λ r. ⌜ r ≡ first (parametersOrder (names (now (known .entry))) (now (header .entry)) «no_key») ⌝ }
+{
+    let mut table = [0u32; 256];
+    let collected = headers::protected_entries(header, &mut table);
+    match collected {
+        Stage::Refused(n) => n,
+        Stage::Passed(count) => rules_refusal(header, known, &table, count, no_key),
+    }
+}
+
+// The message
+
+// How many characters a component has encoded; 16,777,217 where it has more.
+fn measure(octets: &[u8]) -> usize
+    ensures { λ r. ⌜ r ≡ min (length (encoded (now (octets .entry)))) 16777217 ⌝ }
+{
+    let n = base64url::encoded_length(octets.len());
+    if 16777217 < n {
+        return 16777217;
+    }
+    n
+}
+
+// How many octets the message has; 16,777,217 where it has more.
+fn message_length(header: &[u8], key: &[u8], iv: &[u8], ciphertext: &[u8], tag: &[u8]) -> usize
+    ensures { λ r. ⌜ r ≡ min (length (compactText (raw (now (header .entry)) (now (key .entry)) (now (iv .entry)) (now (ciphertext .entry)) (now (tag .entry))))) 16777217 ⌝ }
+{
+    let n = measure(header) + measure(key) + measure(iv) + measure(ciphertext) + measure(tag) + 4;
+    if 16777217 < n {
+        return 16777217;
+    }
+    n
+}
+
+// A component encoded, written from a position on. Answers the position after it.
+fn put(octets: &[u8], out: &mut [u8], at: usize) -> usize
+    requires { ⌜ at + length (encoded (now octets)) ≤ length (now out) ⌝ }
+    ensures { λ r. ⌜ r ≡ at + length (encoded (now (octets .entry))) ⌝ }
+    ensures { λ _. ⌜ now (out .exit) ≡ written at (encoded (now (octets .entry))) (now (out .entry)) ⌝ }
+{
+    base64url::encode_at(octets, out, at)
+}
+
+// A full stop and a component, likewise.
+fn put_next(octets: &[u8], out: &mut [u8], at: usize) -> usize
+    requires { ⌜ at + length (fullStop ∷ encoded (now octets)) ≤ length (now out) ⌝ }
+    ensures { λ r. ⌜ r ≡ at + length (fullStop ∷ encoded (now (octets .entry))) ⌝ }
+    ensures { λ _. ⌜ now (out .exit) ≡ written at (fullStop ∷ encoded (now (octets .entry))) (now (out .entry)) ⌝ }
+{
+    out[at] = 46;
+    put(octets, out, at + 1)
+}
+
+// The message, written at the start. Answers its length.
+fn put_message(
+    header: &[u8],
+    key: &[u8],
+    iv: &[u8],
+    ciphertext: &[u8],
+    tag: &[u8],
+    out: &mut [u8],
+) -> usize
+    requires { ⌜ length (compactText (raw (now header) (now key) (now iv) (now ciphertext) (now tag))) ≤ length (now out) ⌝ }
+    ensures { λ r. ⌜ r ≡ length (compactText (raw (now (header .entry)) (now (key .entry)) (now (iv .entry)) (now (ciphertext .entry)) (now (tag .entry)))) ⌝ }
+    ensures { λ _. ⌜ now (out .exit) ≡ written 0 (compactText (raw (now (header .entry)) (now (key .entry)) (now (iv .entry)) (now (ciphertext .entry)) (now (tag .entry)))) (now (out .entry)) ⌝ }
+{
+    let a = put(header, out, 0);
+    let b = put_next(key, out, a);
+    let c = put_next(iv, out, b);
+    let d = put_next(ciphertext, out, c);
+    put_next(tag, out, d)
+}
+
+// Writes the compact message of a header's text and the raw other components. `known` lists the extension names that the
+// caller knows. The message is at the output's start, and the rest of it is as it was; refused, all of it is.
+pub fn write(
+    header: &[u8],
+    key: &[u8],
+    iv: &[u8],
+    ciphertext: &[u8],
+    tag: &[u8],
+    known: &[u8],
+    out: &mut [u8],
+) -> Written
+    ensures { λ r. ⌜ r ≡ writeAnswer (raw (now (header .entry)) (now (key .entry)) (now (iv .entry)) (now (ciphertext .entry)) (now (tag .entry))) (now (known .entry)) (length (now (out .entry))) ⌝ }
+    ensures { λ _. ⌜ now (out .exit) ≡ writeBuffer (raw (now (header .entry)) (now (key .entry)) (now (iv .entry)) (now (ciphertext .entry)) (now (tag .entry))) (now (known .entry)) (now (out .entry)) ⌝ }
+{
+    if !names::sound(known) {
+        return Written::Refused(3);
+    }
+    let text = text_refusal(header);
+    if text != 0 {
+        return Written::Refused(text);
+    }
+    let rules = parameters_refusal(header, known, key.len() == 0);
+    if rules != 0 {
+        return Written::Refused(rules);
+    }
+    let n = message_length(header, key, iv, ciphertext, tag);
+    if 16777216 < n {
+        return Written::Refused(2);
+    }
+    if out.len() < n {
+        return Written::Refused(1);
+    }
+    Written::Octets(put_message(header, key, iv, ciphertext, tag, out))
+}
