@@ -12,7 +12,7 @@ use Rattle.prelude.specs.Buffer.{written}
 use Rattle.grammar.specs.Places.{placedText, emptiedText}
 use Rattle.grammar.specs.Readings.{Reading}
 use Rattle.grammar.proofs.Theorems as json
-use Rattle.jwe.specs.Judge.{refusal, refused, result, headerAfter, listAfter}
+use Rattle.jwe.specs.Judge.{refusal, refused, outcome, result, headerAfter, listAfter}
 use Rattle.meets.specs.Meets.{Meets, count}
 use Rattle.meets.specs.Handed.{Rows, entries, Applies}
 use Rattle.meets.specs.Handed.{count as rows}
@@ -20,6 +20,9 @@ use Rattle.meets.proofs.HandedExactly.{HandedOut}
 use Rattle.meets.proofs.AppliesOnce as AppliesOnce
 use Rattle.meets.proofs.Refused as Refused
 use Rattle.meets.proofs.Accepted as Accepted
+use Rattle.jwe_write.specs.Write.{Raw, compactText, writeRefusal}
+use Rattle.round_trips.specs.Trips.{RawOctets, writtenPlaces, writtenOutcome, ShowsAll, takenApart}
+use Rattle.round_trips.proofs.RoundTrips as RoundTrips
 use Rattle.gateway.specs.Samples.{Sample, answer, samples}
 use Rattle.gateway.proofs.Samples as Samples
 
@@ -50,6 +53,25 @@ refusal-changes-nothing message known recipient buffer list n = (
 pub accepted-exactly : (message known : List ℕ) (recipient headerLent listLent : ℕ) →
     (refusal message known recipient headerLent listLent ≡ 0) ↔ Meets message known recipient headerLent listLent
 accepted-exactly = Accepted.accepted-exactly
+
+-- Demand 2, round trips (crates/round_trips/specs/Trips.antt). What the compact writer writes of octets, read with the same
+-- list and the room that is asked for, is accepted; handed out are the places of the components, the header that was given
+-- and its parameters; and each place shows its component encoded, which decodes to what was given.
+pub written-reads-back : (c : Raw) (known : List ℕ) (room headerLent listLent : ℕ) → RawOctets c →
+    writeRefusal c known room ≡ 0 → 4096 ≤ headerLent → 576 ≤ listLent →
+    (refusal (compactText c) known 0 headerLent listLent ≡ 0)
+    × (outcome (compactText c) 0 ≡ writtenOutcome c)
+    × ShowsAll (compactText c) (writtenPlaces c) c
+written-reads-back = RoundTrips.written-reads-back
+
+-- An accepted compact message, taken apart by the reader's places and decoding and written again with the same list and room
+-- for it, gives the same octets.
+pub read-writes-back : (message known : List ℕ) (recipient headerLent listLent room : ℕ) →
+    refusal message known recipient headerLent listLent ≡ 0 → outcome message recipient .form ≡ 0 →
+    length message ≤ room →
+    (writeRefusal (takenApart message recipient) known room ≡ 0)
+    × (compactText (takenApart message recipient) ≡ message)
+read-writes-back = RoundTrips.read-writes-back
 
 -- Demand 3. For each message that demand 2 accepts with what is lent, and each recipient number n below its count: there are a
 -- header and rows that apply to n by the grammar (crates/meets/specs/Handed.antt), the header buffer begins with that

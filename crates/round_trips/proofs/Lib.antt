@@ -1,0 +1,10 @@
+-- The rules on a recipient that has one header only.
+pub mod OneHeader
+-- When neither the writer nor the reader refuses, test by test.
+pub mod Passing
+-- Where the components of a written message stand.
+pub mod Places
+-- The two round trips, and both in one page.
+pub mod WrittenReads
+pub mod ReadWrites
+pub mod RoundTrips
