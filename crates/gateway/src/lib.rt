@@ -4,7 +4,16 @@ ghost use mathlib.Core.Path.{_≡_};
 ghost use lib.ListN.{length};
 ghost use Rattle.jwe.specs.Judge.{result, headerAfter, listAfter};
 ghost use Rattle.jwe.specs.Answers.{numbers};
+ghost use Rattle.base64url.specs.Answers.{decodeAnswer, decodeBuffer};
+ghost use Rattle.shown.specs.Shown.{componentShown, valueShown};
+ghost use Rattle.aad.specs.Aad.{aadAnswer, aadBuffer};
+ghost use Rattle.jwe_write.specs.Write.{raw};
+ghost use Rattle.jwe_write.specs.Answers.{writeAnswer, writeBuffer};
+use aad::Joined;
+use base64url::Decoded;
+use json::member::Place;
 use jwe::Result;
+use jwe_write::Written;
 
 // Reads a message for a recipient. `known` lists the extension names that the caller knows. Accepted, the header buffer begins
 // with the decoded protected header and the list with six numbers a parameter; both go on as they were. Refused, the
@@ -21,4 +30,60 @@ pub fn read(
     ensures { λ _. ⌜ now (list .exit) ≡ listAfter (now (message .entry)) (now (known .entry)) recipient (now (header .entry)) (now (list .entry)) ⌝ }
 {
     jwe::read(message, known, recipient, header, list)
+}
+
+// A component of the result as that part of the message; the empty part where the place does not fit.
+pub fn component(message: &[u8], place: Place) -> &[u8]
+    ensures { λ r. ⌜ now r ≡ componentShown (now (message .entry)) (place .start) (place .len) ⌝ }
+{
+    shown::component(message, place.start, place.len)
+}
+
+// A value of the list, by its entry's origin and place, as a part of the decoded header (origin 0) or of the message (1 and
+// 2). Another origin, or a place that does not fit, gives the empty part of the message.
+pub fn value<'a>(
+    message: &'a [u8],
+    header: &'a [u8],
+    origin: u32,
+    start: usize,
+    len: usize,
+) -> &'a [u8]
+    ensures { λ r. ⌜ now r ≡ valueShown (now (message .entry)) (now (header .entry)) origin start len ⌝ }
+{
+    shown::value(message, header, origin, start, len)
+}
+
+// Decodes one component: 5 where it is not base64url, then 1 where the output is shorter than the octets. They are at the
+// output's start, and the rest of it is as it was; refused, all of it is.
+pub fn decode(text: &[u8], out: &mut [u8]) -> Decoded
+    ensures { λ r. ⌜ r ≡ decodeAnswer (now (text .entry)) (length (now (out .entry))) ⌝ }
+    ensures { λ _. ⌜ now (out .exit) ≡ decodeBuffer (now (text .entry)) (now (out .entry)) ⌝ }
+{
+    base64url::decode(text, out)
+}
+
+// Writes the additional authenticated data of an encoded protected header and an encoded aad, either of which may be empty, at
+// the output's start; the rest of it is as it was, and all of it where there is too little room.
+pub fn aad(header: &[u8], aad: &[u8], out: &mut [u8]) -> Joined
+    ensures { λ r. ⌜ r ≡ aadAnswer (now (header .entry)) (now (aad .entry)) (length (now (out .entry))) ⌝ }
+    ensures { λ _. ⌜ now (out .exit) ≡ aadBuffer (now (header .entry)) (now (aad .entry)) (now (out .entry)) ⌝ }
+{
+    aad::join(header, aad, out)
+}
+
+// Writes the compact message of a header's text and the raw other components. `known` lists the extension names that the
+// caller knows. The message is at the output's start, and the rest of it is as it was; refused, all of it is.
+pub fn write(
+    header: &[u8],
+    key: &[u8],
+    iv: &[u8],
+    ciphertext: &[u8],
+    tag: &[u8],
+    known: &[u8],
+    out: &mut [u8],
+) -> Written
+    ensures { λ r. ⌜ r ≡ writeAnswer (raw (now (header .entry)) (now (key .entry)) (now (iv .entry)) (now (ciphertext .entry)) (now (tag .entry))) (now (known .entry)) (length (now (out .entry))) ⌝ }
+    ensures { λ _. ⌜ now (out .exit) ≡ writeBuffer (raw (now (header .entry)) (now (key .entry)) (now (iv .entry)) (now (ciphertext .entry)) (now (tag .entry))) (now (known .entry)) (now (out .entry)) ⌝ }
+{
+    jwe_write::write(header, key, iv, ciphertext, tag, known, out)
 }

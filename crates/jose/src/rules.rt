@@ -10,14 +10,14 @@ ghost use Rattle.rows.specs.Tables.{firstOf, entriesOf};
 ghost use Rattle.algorithms.specs.Algorithms.{algs, algNames, nth, modeOf};
 ghost use Rattle.jose.specs.Registered.{kindAsked};
 ghost use Rattle.jose.specs.HeaderRules.{incomplete, wrongKind, unlisted, unprotected, modeIn};
-use algorithms::Alg;
-use algorithms::NamedAlg;
 use crate::lists::ALG;
 use crate::lists::CRIT;
 use crate::lists::ENC;
 use crate::lists::JWK;
 use crate::lists::X5C;
 use crate::lists::ZIP;
+use algorithms::Alg;
+use algorithms::NamedAlg;
 
 // Kinds as the list that is handed out has them, and one more for a name that asks for none.
 const OBJECT: u32 = 0;
