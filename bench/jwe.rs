@@ -10,7 +10,7 @@ use std::hint::black_box;
 mod second;
 
 extern "C" {
-    fn probe_read(
+    fn jwe_read(
         message: *const u8,
         message_len: usize,
         known: *const u8,
@@ -37,7 +37,7 @@ impl Reader {
     fn read(&mut self, message: &[u8], recipient: u32) -> bool {
         // SAFETY: the pointers and lengths are those of slices.
         let refusal = unsafe {
-            probe_read(
+            jwe_read(
                 message.as_ptr(),
                 message.len(),
                 [0u8].as_ptr(),

@@ -1,7 +1,10 @@
 /* The JWE gateway's proved functions, for C on x86-64 Linux. Link target/staticlib/libhost.a, which `rt staticlib host`
  * writes; nothing else is needed.
  *
- * Every function answers a refusal: 0, or a number of docs/REFUSALS.md. Every length is a size_t and is never cut.
+ * Every function answers a refusal: 0, or a number of docs/REFUSALS.md. Where octets are written, *octets is how many, at
+ * the start of out, and the rest of out is as it was; refused, *octets is 0 and every lent buffer is as it was. Every
+ * length is a size_t and is never cut. Texts need not end in a NUL.
+ *
  * The functions keep no state, allocate nothing and may be called from any thread. Pointers are not NULL, also where the
  * length beside them is 0; no two of a call's buffers overlap where one of them is written. */
 #ifndef JWE_GATEWAY_H
@@ -14,18 +17,88 @@
 extern "C" {
 #endif
 
-/* What jwe_decode answers. */
-#define JWE_OK 0u           /* decoded */
-#define JWE_TOO_SHORT 1u    /* out_len is less than the octets of the text */
-#define JWE_NOT_BASE64URL 5u /* the text is not base64url: see docs/REFUSALS.md */
+/* Refusals, in the order in which they are given; docs/REFUSALS.md has a sentence for each. */
+#define JWE_OK 0u                 /* not refused */
+#define JWE_TOO_SHORT 1u          /* a lent output is shorter than asked */
+#define JWE_MESSAGE_TOO_LONG 2u   /* over 16,777,216 octets */
+#define JWE_KNOWN_MALFORMED 3u    /* the list of known names */
+#define JWE_NOT_FOUR_DOTS 4u      /* compact */
+#define JWE_NOT_BASE64URL 5u      /* a component */
+#define JWE_HEADER_TOO_LONG 6u    /* over 4,096 octets, decoded */
+#define JWE_NOT_JSON 7u           /* no JSON object within 12 levels */
+#define JWE_MANY_MEMBERS 8u       /* over 32 */
+#define JWE_NAME_TWICE 9u         /* in one object */
+#define JWE_SHAPE 10u             /* of a JSON message */
+#define JWE_MANY_RECIPIENTS 11u   /* over 8 */
+#define JWE_NAME_IN_TWO_HEADERS 12u
+#define JWE_NO_ALG_OR_ENC 13u
+#define JWE_WRONG_KIND 14u        /* of a parameter */
+#define JWE_UNLISTED 15u          /* alg, enc or zip */
+#define JWE_UNPROTECTED 16u       /* zip or crit outside the protected header */
+#define JWE_CRIT 17u              /* contents of crit */
+#define JWE_KEY 18u               /* not empty in direct modes, or empty in others */
+#define JWE_NO_SUCH_RECIPIENT 19u
 
-/* Decodes one component of a message: base64url without padding (RFC 4648, section 5), text_len characters at text, into
- * the out_len octets at out. The text need not end in a NUL.
- *
- * Answers JWE_OK and sets *octets to the number of octets written at out's start; the rest of out is as it was. A buffer of
- * text_len / 4 * 3 + 2 octets is always long enough.
- * Answers JWE_NOT_BASE64URL, or else JWE_TOO_SHORT, sets *octets to 0 and leaves out as it was. */
+/* The known extension names, `known` below, are a table of contents and then the names: one octet n (0 to 16), n length
+ * octets (each 1 to 64), then the names one behind the other, filling known_len exactly. No names: one octet 0. */
+
+/* Components by their numbers, for jwe_component. */
+#define JWE_PROTECTED 0u
+#define JWE_ENCRYPTED_KEY 1u
+#define JWE_IV 2u
+#define JWE_AAD 3u
+#define JWE_CIPHERTEXT 4u
+#define JWE_TAG 5u
+
+/* Judges a message for a recipient, counted from 0. */
+uint32_t jwe_judge(const uint8_t *message, size_t message_len, const uint8_t *known, size_t known_len, uint32_t recipient);
+
+/* Judges a message for a recipient and decodes one of its components into out. An absent component, and one of another
+ * number, has no octets. Refusals are jwe_judge's, then JWE_TOO_SHORT. message_len / 4 * 3 + 2 octets are always enough. */
+uint32_t jwe_component(const uint8_t *message, size_t message_len, const uint8_t *known, size_t known_len, uint32_t recipient,
+                       uint32_t component, uint8_t *out, size_t out_len, size_t *octets);
+
+/* Decodes one component's text: base64url without padding (RFC 4648, section 5). Refusals: JWE_NOT_BASE64URL, then
+ * JWE_TOO_SHORT. text_len / 4 * 3 + 2 octets are always enough. */
 uint32_t jwe_decode(const uint8_t *text, size_t text_len, uint8_t *out, size_t out_len, size_t *octets);
+
+/* Writes a compact message (RFC 7516, section 7.1) of the protected header's text and the raw other components. Refusals in
+ * order: 3; 6; 7, 8, 9; 13, 14, 15, 17, 18; 2; 1. */
+uint32_t jwe_write_compact(const uint8_t *header, size_t header_len, const uint8_t *key, size_t key_len, const uint8_t *iv,
+                           size_t iv_len, const uint8_t *ciphertext, size_t ciphertext_len, const uint8_t *tag, size_t tag_len,
+                           const uint8_t *known, size_t known_len, uint8_t *out, size_t out_len, size_t *octets);
+
+/* Writes the additional authenticated data (RFC 7516, section 5.1, step 14) of an encoded protected header and an encoded aad:
+ * the header where the aad is empty, else header, full stop, aad. Only JWE_TOO_SHORT can refuse. */
+uint32_t jwe_aad(const uint8_t *encoded_header, size_t header_len, const uint8_t *encoded_aad, size_t aad_len, uint8_t *out,
+                 size_t out_len, size_t *octets);
+
+/* Apart from the others, because it lends numbers and not only octets: the reader. */
+
+#define JWE_HEADER_OCTETS 4096u /* what is lent for the decoded protected header, at least */
+#define JWE_LIST_NUMBERS 576u   /* for the list of parameters, at least */
+#define JWE_RESULT_NUMBERS 18u  /* for the result, at least */
+
+/* Where the numbers of the result stand. A place is two numbers, start and length, in the message; an absent component has
+ * place 0, 0. Forms: 0 compact, 1 flattened, 2 general. Modes: 1 key encryption, 2 key wrapping, 3 direct agreement, 4
+ * agreement with wrapping, 5 direct encryption. */
+enum {
+    JWE_RESULT_REFUSAL = 0,
+    JWE_RESULT_FORM = 1,
+    JWE_RESULT_RECIPIENTS = 2,
+    JWE_RESULT_MODE = 3,
+    JWE_RESULT_PLACES = 4, /* of component n at JWE_RESULT_PLACES + 2 * n */
+    JWE_RESULT_HEADER_LENGTH = 16,
+    JWE_RESULT_PARAMETERS = 17
+};
+
+/* Reads a message for a recipient. Accepted: header begins with the decoded protected header; list with six numbers a
+ * parameter: origin (0 protected, 1 shared, 2 own), the name's start and length without quotation marks, the value's start
+ * and length with them, and its kind (0 object, 1 array, 2 string, 3 number, 4 true, 5 false, 6 null), places of origin 0
+ * counting in the header and others in the message; result with 18 numbers. Each goes on as it was; refused, all are as they
+ * were. */
+uint32_t jwe_read(const uint8_t *message, size_t message_len, const uint8_t *known, size_t known_len, uint32_t recipient,
+                  uint8_t *header, size_t header_len, uint32_t *list, size_t list_len, uint32_t *result, size_t result_len);
 
 #ifdef __cplusplus
 }

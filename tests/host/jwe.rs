@@ -21,7 +21,7 @@ use std::process::exit;
 use std::slice::from_raw_parts_mut;
 
 extern "C" {
-    fn probe_read(
+    fn jwe_read(
         message: *const u8,
         message_len: usize,
         known: *const u8,
@@ -43,7 +43,7 @@ pub type Read<'a> = &'a dyn Fn(&[u8], &[u8], u32, &mut [u8], &mut [u32], &mut [u
 pub fn ours(message: &[u8], known: &[u8], recipient: u32, header: &mut [u8], list: &mut [u32], result: &mut [u32]) -> u32 {
     // SAFETY: the pointers and lengths are those of slices.
     unsafe {
-        probe_read(
+        jwe_read(
             message.as_ptr(),
             message.len(),
             known.as_ptr(),

@@ -9,6 +9,8 @@ use Rattle.base64url.specs.Base64url.{encoded, decoded, encodedLength}
 use Rattle.base64url.specs.Fault.{fault}
 use Rattle.base64url.specs.Answers.{ofFault, decodeRefusal, decodeAnswer}
 use Rattle.rows.specs.Tables.{listed}
+use Rattle.headers.specs.Components.{octetsAt}
+use Rattle.aad.specs.Aad.{aadText}
 use Rattle.jwe.specs.Judge.{refusal, outcome, accepted}
 
 pub data Question : Type 0 where
@@ -16,6 +18,7 @@ pub data Question : Type 0 where
   encode : List ℕ → Question
   decode : List ℕ → Question
   read : List ℕ → Question
+  aad-of : List ℕ → Question
 
 -- Read with no known names, recipient 0 and just enough room: the refusal; or the result's numbers, then the list.
 unfoldable pub readAnswer : List ℕ → List ℕ
@@ -24,12 +27,19 @@ readAnswer message =
     let x = outcome message 0 in
     cond (eqb n 0) (accepted message x ++ listed (x .entries)) (n ∷ [])
 
--- A length; a text; the refusal and then the octets; what reading answers.
+-- The AAD of a message, of its encoded protected header and aad as reading for recipient 0 hands them out.
+unfoldable pub messageAad : List ℕ → List ℕ
+messageAad message =
+    let q = outcome message 0 .components in
+    aadText (octetsAt message (q .protected)) (octetsAt message (q .aad))
+
+-- A length; a text; the refusal and then the octets; what reading answers; the AAD.
 unfoldable pub answer : Question → List ℕ
 answer (length-of n) = encodedLength n ∷ []
 answer (encode xs) = encoded xs
 answer (decode text) = decodeRefusal (decodeAnswer text (length text)) ∷ ofFault (fault text) (decoded text) []
 answer (read message) = readAnswer message
+answer (aad-of message) = messageAad message
 
 pub record Sample : Type 0 where
   pub input : Question
@@ -37,6 +47,10 @@ pub record Sample : Type 0 where
 
 abbrev asks : Question → List ℕ → Sample
 asks question expected = record { input = question; expected = expected }
+
+-- T10's message.
+abbrev sharedAlone : List ℕ
+sharedAlone = ascii "{\"unprotected\":{\"alg\":\"dir\",\"enc\":\"A128GCM\"},\"aad\":\"AA\",\"ciphertext\":\"\"}"
 
 -- T4's header and its text, H of document 01, and M.
 abbrev dir : List ℕ
@@ -73,13 +87,14 @@ samples =
     ∷ asks
     (read (encoded (ascii "{\"alg\":\"dir\",\"\\u0061lg\":\"dir\",\"enc\":\"A128GCM\"}") ++ ascii "..AA.AQID.Ag"))
     (9 ∷ [])
-    ∷ asks (read (ascii "{\"unprotected\":{\"alg\":\"dir\",\"enc\":\"A128GCM\"},\"aad\":\"AA\",\"ciphertext\":\"\"}"))
+    ∷ asks (read sharedAlone)
     (0 ∷ 1 ∷ 1 ∷ 5
     ∷ 0 ∷ 0 ∷ 0 ∷ 0 ∷ 0 ∷ 0 ∷ 52 ∷ 2 ∷ 70 ∷ 0 ∷ 0 ∷ 0
     ∷ 0 ∷ 2
     ∷ 1 ∷ 17 ∷ 3 ∷ 22 ∷ 5 ∷ 2
     ∷ 1 ∷ 29 ∷ 3 ∷ 34 ∷ 9 ∷ 2
     ∷ [])
+    ∷ asks (aad-of sharedAlone) (ascii ".AA")
     ∷ asks
     (read (ascii "{\"unprotected\":{\"alg\":\"dir\",\"enc\":\"A128GCM\"},\"aad\":\"AA\",\"ciphertext\":\"\",\"iv\":\"\"}"))
     (10 ∷ [])

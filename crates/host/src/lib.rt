@@ -1,21 +1,30 @@
-// The functions that the gateway's C program links. include/jwe_gateway.h declares them for C.
+// The functions that the gateway's C program links. include/jwe_gateway.h declares them for C. Each answers document 01's
+// refusal, 0 where there is none; where octets are written, *octets is how many, 0 where refused. Refused, every lent buffer
+// is as it was.
 ghost use mathlib.Core.Path.{_≡_};
 ghost use lib.ListN.{length};
 ghost use Rattle.base64url.specs.Answers.{decodeRefusal, decodeCount, decodeAnswer, decodeBuffer};
+ghost use Rattle.aad.specs.Aad.{aadRefusal, aadCount, aadAnswer, aadBuffer};
+ghost use Rattle.jwe_write.specs.Write.{raw};
+ghost use Rattle.jwe_write.specs.Answers.{refusalOf, octetsOf, writeAnswer, writeBuffer};
+use aad::Joined;
 use base64url::Decoded;
+use jwe_write::Written;
 
-// Decodes one component. Answers document 01's refusal: 0, or 5 for a text that is not base64url, or 1 where out is
-// shorter than the octets. *octets is how many were written, 0 where refused; and refused, out is as it was.
+mod component;
+mod reading;
+
+// Decodes one component: 5 for a text that is not base64url, 1 where out is shorter than the octets.
 #[no_mangle]
 pub extern "C" fn jwe_decode(text: &[u8], out: &mut [u8], octets: &mut usize) -> u32
     ensures { λ r. ⌜ r ≡ decodeRefusal (decodeAnswer (now (text .entry)) (length (now (out .entry)))) ⌝ }
     ensures { λ _. ⌜ now (octets .exit) ≡ decodeCount (decodeAnswer (now (text .entry)) (length (now (out .entry)))) ⌝ }
     ensures { λ _. ⌜ now (out .exit) ≡ decodeBuffer (now (text .entry)) (now (out .entry)) ⌝ }
 {
-    let answer = base64url::decode(text, out);
+    let answer = gateway::decode(text, out);
     match answer {
-        Decoded::Octets(n) => {
-            *octets = n;
+        Decoded::Octets(decoded) => {
+            *octets = decoded;
             0
         }
         Decoded::Misspelled => {
@@ -25,6 +34,60 @@ pub extern "C" fn jwe_decode(text: &[u8], out: &mut [u8], octets: &mut usize) ->
         Decoded::Short => {
             *octets = 0;
             1
+        }
+    }
+}
+
+// Writes the additional authenticated data of an encoded protected header and an encoded aad; only 1 can refuse.
+#[no_mangle]
+pub extern "C" fn jwe_aad(
+    encoded_header: &[u8],
+    encoded_aad: &[u8],
+    out: &mut [u8],
+    octets: &mut usize,
+) -> u32
+    ensures { λ r. ⌜ r ≡ aadRefusal (aadAnswer (now («encoded_header» .entry)) (now («encoded_aad» .entry)) (length (now (out .entry)))) ⌝ }
+    ensures { λ _. ⌜ now (octets .exit) ≡ aadCount (aadAnswer (now («encoded_header» .entry)) (now («encoded_aad» .entry)) (length (now (out .entry)))) ⌝ }
+    ensures { λ _. ⌜ now (out .exit) ≡ aadBuffer (now («encoded_header» .entry)) (now («encoded_aad» .entry)) (now (out .entry)) ⌝ }
+{
+    let answer = gateway::aad(encoded_header, encoded_aad, out);
+    match answer {
+        Joined::Octets(joined) => {
+            *octets = joined;
+            0
+        }
+        Joined::Short => {
+            *octets = 0;
+            1
+        }
+    }
+}
+
+// Writes the compact message of a header's text and the raw other components.
+#[no_mangle]
+pub extern "C" fn jwe_write_compact(
+    header: &[u8],
+    key: &[u8],
+    iv: &[u8],
+    ciphertext: &[u8],
+    tag: &[u8],
+    known: &[u8],
+    out: &mut [u8],
+    octets: &mut usize,
+) -> u32
+    ensures { λ r. ⌜ r ≡ refusalOf (writeAnswer (raw (now (header .entry)) (now (key .entry)) (now (iv .entry)) (now (ciphertext .entry)) (now (tag .entry))) (now (known .entry)) (length (now (out .entry)))) ⌝ }
+    ensures { λ _. ⌜ now (octets .exit) ≡ octetsOf (writeAnswer (raw (now (header .entry)) (now (key .entry)) (now (iv .entry)) (now (ciphertext .entry)) (now (tag .entry))) (now (known .entry)) (length (now (out .entry)))) ⌝ }
+    ensures { λ _. ⌜ now (out .exit) ≡ writeBuffer (raw (now (header .entry)) (now (key .entry)) (now (iv .entry)) (now (ciphertext .entry)) (now (tag .entry))) (now (known .entry)) (now (out .entry)) ⌝ }
+{
+    let answer = gateway::write(header, key, iv, ciphertext, tag, known, out);
+    match answer {
+        Written::Octets(written) => {
+            *octets = written;
+            0
+        }
+        Written::Refused(n) => {
+            *octets = 0;
+            n
         }
     }
 }

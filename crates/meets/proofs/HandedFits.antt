@@ -78,7 +78,7 @@ value-absent n (x ∷ es) e =
     ap (λ (b : Bool). cond b (record { start = x .member .valueStart; size = x .member .valueSize }) (valueOf n es))
     (t .0) ∙ value-absent n es (t .1)
 
-asked-every : (P : Recipient → Type 0) (rs : List Recipient) → Every P rs → (n : ℕ) → n < length rs → P (asked rs n)
+pub asked-every : (P : Recipient → Type 0) (rs : List Recipient) → Every P rs → (n : ℕ) → n < length rs → P (asked rs n)
 unfolding asked
 asked-every P [] h n l = absurd (omega arith)
 asked-every P (r ∷ rs) h zero l = h .0

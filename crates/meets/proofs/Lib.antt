@@ -50,6 +50,7 @@ pub mod JsonPassed
 pub mod JsonHeaders
 pub mod JsonApplies
 pub mod HandedFits
+pub mod ComponentsSpelled
 pub mod HandedExactly
 -- And what applies is one.
 pub mod HeaderOctets

@@ -1,5 +1,5 @@
-// What the tests and the bench call of base64url, json and jwe beside the host's own functions. The gateway does not link
-// this.
+// What the tests and the bench call of base64url, json and spelling beside the host's own functions. The gateway does not
+// link this.
 ghost use mathlib.Core.Bool.{cond};
 ghost use mathlib.Core.Path.{_≡_};
 ghost use Prim.Native.Nat.{_-_, _^_, min};
@@ -15,8 +15,6 @@ use base64url::Checked;
 use base64url::Encoded;
 use json::Found;
 use json::Position;
-
-mod reading;
 
 // 0 or 5.
 #[no_mangle]

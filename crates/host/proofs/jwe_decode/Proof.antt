@@ -1,22 +1,9 @@
 -- `jwe_decode` hands out what `decode` promises, case by case.
-use Prim.Native.Nat.{ℕ}
-use mathlib.Core.Path.{_≡_, ap, sym, _∙_}
-use mathlib.Core.List.{List}
-use lib.ListN.{length}
-use Rattle.base64url.specs.Answers.{decodeRefusal, decodeCount, decodeAnswer, decodeBuffer}
-use Rattle.base64url.specs.declared.Decoded.{Decoded}
+use Rattle.base64url.specs.Answers.{decodeRefusal, decodeCount}
+use Rattle.host.proofs.Cases.{by-case}
 use borrow.Author.Needs.{needs}
 use Rattle.host.proofs.jwe_decode.Statement.{statement}
 use Rattle.host.proofs.jwe_decode.Tie as tie
-
--- a case of the answer, by what `decode` promises of it
-handed : (text out last : List ℕ) (answer is : Decoded) → answer ≡ decodeAnswer text (length out)
-    → last ≡ decodeBuffer text out → answer ≡ is
-    → (decodeRefusal is ≡ decodeRefusal (decodeAnswer text (length out)))
-    × ((decodeCount is ≡ decodeCount (decodeAnswer text (length out))) × (last ≡ decodeBuffer text out))
-handed text out last answer is promised left told =
-    let case = sym told ∙ promised in
-    (ap decodeRefusal case, (ap decodeCount case, left))
 
 decode-requires : tie.Need-decode-requires
 decode-requires c κs = search needs
@@ -35,33 +22,24 @@ same-length c = search needs
 
 returns : tie.Need-returns
 returns c =
-    let start = c .before .before .before .before .before .before .before .before .before in
     let call = c .before .before .before .before .before .decode in
-    let text = start .args .text .now in
-    let out = start .args .out .now in
-    handed text out (call .last .1 .0) (call .result) _ (call .ensures .0) (call .ensures .1) (c .before .answer .given .1)
+    by-case decodeRefusal decodeCount (call .ensures .0) (call .ensures .1) (c .before .answer .given .1)
 
 same-length-2 : tie.Need-same-length-2
 same-length-2 c = search needs
 
 returns-2 : tie.Need-returns-2
 returns-2 c =
-    let start = c .before .before .before .before .before .before .before .before in
     let call = c .before .before .before .before .decode in
-    let text = start .args .text .now in
-    let out = start .args .out .now in
-    handed text out (call .last .1 .0) (call .result) _ (call .ensures .0) (call .ensures .1) (c .enum-told .given .1)
+    by-case decodeRefusal decodeCount (call .ensures .0) (call .ensures .1) (c .enum-told .given .1)
 
 same-length-3 : tie.Need-same-length-3
 same-length-3 c = search needs
 
 returns-3 : tie.Need-returns-3
 returns-3 c =
-    let start = c .before .before .before .before .before .before .before .before in
     let call = c .before .before .before .before .decode in
-    let text = start .args .text .now in
-    let out = start .args .out .now in
-    handed text out (call .last .1 .0) (call .result) _ (call .ensures .0) (call .ensures .1) (c .enum-told2 .given .1)
+    by-case decodeRefusal decodeCount (call .ensures .0) (call .ensures .1) (c .enum-told2 .given .1)
 
 pub jwe-decode-spec : {M : Type 1} → statement M
 jwe-decode-spec =

@@ -5,7 +5,7 @@ ghost use Prim.Native.Nat.{_+_, _≤_, _<_};
 ghost use lib.ListN.{length};
 ghost use Rattle.prelude.specs.Buffer.{AllBelow, written};
 ghost use Rattle.jwe.specs.Answers.{numbers, placeNumbers};
-ghost use Rattle.probe.specs.Read.{readRefusal, readHeader, readList, readResult};
+ghost use Rattle.host.specs.Read.{readRefusal, readHeader, readList, readResult};
 use json::member::Place;
 use jwe::Result;
 
@@ -43,7 +43,7 @@ fn put_result(r: Result, into: &mut [u32])
 // Reads a message. Answers 0 and the result's eighteen numbers at the start of `result`, or the refusal's number; that is 1
 // as well where fewer than eighteen numbers are lent. Refused, `result` is as it was.
 #[no_mangle]
-pub extern "C" fn probe_read(
+pub extern "C" fn jwe_read(
     message: &[u8],
     known: &[u8],
     recipient: u32,
@@ -59,7 +59,7 @@ pub extern "C" fn probe_read(
     if result.len() < 18 {
         return 1;
     }
-    let answer = jwe::read(message, known, recipient, header, list);
+    let answer = gateway::read(message, known, recipient, header, list);
     if answer.number == 0 {
         put_result(answer, result);
         return 0;

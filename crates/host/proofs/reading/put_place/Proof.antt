@@ -7,8 +7,8 @@ use lib.ListN.{length-set}
 use borrow.Author.Needs.{needs}
 use Rattle.prelude.proofs.Writing.{begin, put, done}
 use Rattle.jwe.specs.Answers.{placeNumbers}
-use Rattle.probe.proofs.reading.put_place.Statement.{statement}
-use Rattle.probe.proofs.reading.put_place.Tie as tie
+use Rattle.host.proofs.reading.put_place.Statement.{statement}
+use Rattle.host.proofs.reading.put_place.Tie as tie
 
 cast-into : tie.Need-cast-into
 cast-into c = record { fits = c .before .pre .0 }

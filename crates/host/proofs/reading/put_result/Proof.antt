@@ -10,8 +10,8 @@ use Rattle.prelude.proofs.Writing.{Writing, begin, put, put-part, done}
 use Rattle.jwe.specs.Answers.{numbers, placeNumbers}
 use Rattle.jwe.proofs.Small.{recipients-small, header-small, parameters-small}
 use Rattle.jwe.proofs.Small.{protected-small, key-small, iv-small, aad-small, ciphertext-small, tag-small}
-use Rattle.probe.proofs.reading.put_result.Statement.{statement}
-use Rattle.probe.proofs.reading.put_result.Tie as tie
+use Rattle.host.proofs.reading.put_result.Statement.{statement}
+use Rattle.host.proofs.reading.put_result.Tie as tie
 
 -- A buffer that is being written has the room it had.
 within : (n : ℕ) {xs before rest now : List ℕ} {j : ℕ} → Writing 0 xs before rest j now → 18 ≤ length before → n ≤ 18 →

@@ -1,4 +1,5 @@
--- What `probe_read` answers: too little lent, or what the reader answers, as numbers.
+-- What `jwe_read` answers: too little lent, or what the reader answers, as numbers. `number-first` serves all that ask only
+-- whether a message is accepted.
 use mathlib.Core.Path.{_≡_, refl, ap, sym, subst, _∙_}
 use mathlib.Core.Bool.{Bool, cond}
 use mathlib.Core.List.{List}
@@ -12,7 +13,17 @@ use Rattle.jwe.specs.Judge.{refusal, accepted, refused, result, headerAfter, li
 use Rattle.jwe.specs.Answers.{numbers}
 use Rattle.jwe.specs.declared.Result.{Result}
 use Rattle.jwe.proofs.Small.{limit, result-small}
-use Rattle.probe.specs.Read.{resultRoom, readRefusal, readHeader, readList, readResult}
+use Rattle.host.specs.Read.{resultRoom, readRefusal, readHeader, readList, readResult}
+
+-- The result begins with the refusal's number.
+pub number-first : (message known : List ℕ) (recipient headerLent listLent : ℕ) (r : Result) →
+    numbers r ≡ result message known recipient headerLent listLent →
+    r .number ≡ refusal message known recipient headerLent listLent
+unfolding result accepted refused
+number-first message known recipient headerLent listLent r e =
+    let n = refusal message known recipient headerLent listLent in
+    ap (λ (l : List ℕ). getD l 0 0) e
+    ∙ either (λ (l : List ℕ). getD l 0 0 ≡ n) (eqb n 0) (λ t. sym (eqb-true n 0 t)) (λ _. refl)
 
 module _ (message known : List ℕ) (recipient : ℕ) (header list buffer : List ℕ) where
   abbrev first : ℕ
@@ -50,16 +61,12 @@ module _ (message known : List ℕ) (recipient : ℕ) (header list buffer : List
       )
 
   module _ (r : Result) (e : numbers r ≡ told) where
+    abbrev numbered : r .number ≡ first
+    numbered = number-first message known recipient (length header) (length list) r e
+
     pub numbers-small : AllBelow limit (numbers r)
     numbers-small =
         subst (AllBelow limit) (sym e) (result-small message known recipient (length header) (length list))
-
-    -- the result begins with the refusal's number
-    number-first : r .number ≡ first
-    unfolding result accepted refused
-    number-first =
-        ap (λ (l : List ℕ). getD l 0 0) e
-        ∙ either (λ (l : List ℕ). getD l 0 0 ≡ first) (eqb first 0) (λ t. sym (eqb-true first 0 t)) (λ _. refl)
 
     module _ (h : resultRoom ≤ length buffer) (header' list' : List ℕ) (f : header' ≡ after) (g : list' ≡ listed) where
       -- enough is lent: what the reader answers and leaves
@@ -68,7 +75,7 @@ module _ (message known : List ℕ) (recipient : ℕ) (header list buffer : List
         unfolding readRefusal readHeader readList readResult
         handed =
             let t = sym (le-ltb (length buffer) resultRoom h) in (
-              number-first ∙ ap (λ (b : Bool). cond b 1 first) t,
+              numbered ∙ ap (λ (b : Bool). cond b 1 first) t,
               (
                 f ∙ ap (λ (b : Bool). cond b header after) t,
                 (
@@ -81,7 +88,7 @@ module _ (message known : List ℕ) (recipient : ℕ) (header list buffer : List
       pub reads-accepted : r .number ≡ 0 → (buffer' : List ℕ) → buffer' ≡ written 0 (numbers r) buffer →
           Reads 0 header' list' buffer'
       reads-accepted z buffer' w =
-          let t = sym (eq-eqb first 0 (sym number-first ∙ z)) in
+          let t = sym (eq-eqb first 0 (sym numbered ∙ z)) in
           let k =
           w ∙ ap (λ (l : List ℕ). written 0 l buffer) e
           ∙ ap (λ (b : Bool). cond b (written 0 told buffer) buffer) t in
@@ -89,5 +96,5 @@ module _ (message known : List ℕ) (recipient : ℕ) (header list buffer : List
 
       pub reads-refused : (r .number ≡ 0 → ⊥) → Reads (r .number) header' list' buffer
       reads-refused z =
-          let t = sym (ne-eqb first 0 (λ q. z (number-first ∙ q))) in
+          let t = sym (ne-eqb first 0 (λ q. z (numbered ∙ q))) in
           handed buffer (ap (λ (b : Bool). cond b (written 0 told buffer) buffer) t)

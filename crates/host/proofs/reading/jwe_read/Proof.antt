@@ -1,8 +1,8 @@
--- `probe_read` hands out what `read` promises: accepted, the numbers of its result; refused, the number alone.
+-- `jwe_read` hands out what `read` promises: accepted, the numbers of its result; refused, the number alone.
 use borrow.Author.Needs.{needs}
-use Rattle.probe.proofs.HandedOut.{too-little, numbers-small, reads-accepted, reads-refused}
-use Rattle.probe.proofs.reading.probe_read.Statement.{statement}
-use Rattle.probe.proofs.reading.probe_read.Tie as tie
+use Rattle.host.proofs.HandedOut.{too-little, numbers-small, reads-accepted, reads-refused}
+use Rattle.host.proofs.reading.jwe_read.Statement.{statement}
+use Rattle.host.proofs.reading.jwe_read.Tie as tie
 
 -- Back from behind `read` to the start.
 abbrev start-of : tie.After-read → tie.Start
@@ -61,8 +61,8 @@ returns-3 c =
     (given .result .now) (call .read .result) (promised .0) (call .before .before .before .if1 .left) _ _ (promised .1 .0)
     (promised .1 .1) (c .if2 .left)
 
-pub probe-read-spec : {M : Type 1} → statement M
-probe-read-spec =
+pub jwe-read-spec : {M : Type 1} → statement M
+jwe-read-spec =
     tie.close
     (tie.spec
     returns

@@ -1,0 +1,45 @@
+-- What decoding one component of a message answers, and what the lent output holds afterwards.
+use mathlib.Core.List.{List, [], _∷_}
+use mathlib.Core.Bool.{cond}
+use Prim.Native.Nat.{ℕ, zero, suc}
+use lib.ListN.{length}
+use lib.Dec.{eqb, leb}
+use Rattle.prelude.specs.Buffer.{written}
+use Rattle.base64url.specs.Base64url.{decoded}
+use Rattle.grammar.specs.Places.{Place}
+use Rattle.headers.specs.Limits.{headerRoom, listRoom}
+use Rattle.headers.specs.Components.{octetsAt, absent, Components, places}
+use Rattle.jwe.specs.Judge.{refusal, outcome}
+
+-- The n-th of some places, counted from 0; where there is none, that of an absent component.
+unfoldable pub placeAt : List Place → ℕ → Place
+placeAt [] n = absent
+placeAt (q ∷ qs) zero = q
+placeAt (q ∷ qs) (suc n) = placeAt qs n
+
+-- Components 0 to 5 are protected, key, iv, aad, ciphertext and tag; others are absent.
+unfoldable pub componentPlace : Components → ℕ → Place
+componentPlace q n = placeAt (places q) n
+
+-- A component's octets: what its text in the message decodes to.
+unfoldable pub componentOctets : List ℕ → ℕ → ℕ → List ℕ
+componentOctets message recipient n =
+    decoded (octetsAt message (componentPlace (outcome message recipient .components) n))
+
+-- The reader's refusal; then 1 where the output is shorter than the octets. (5 is the reader's.)
+unfoldable pub componentRefusal : List ℕ → List ℕ → ℕ → ℕ → ℕ → ℕ
+componentRefusal message known recipient n room =
+    let refused = refusal message known recipient headerRoom listRoom in
+    cond (eqb refused 0) (cond (leb (length (componentOctets message recipient n)) room) 0 1) refused
+
+-- How many octets are written.
+unfoldable pub componentCount : List ℕ → List ℕ → ℕ → ℕ → ℕ → ℕ
+componentCount message known recipient n room =
+    cond (eqb (componentRefusal message known recipient n room) 0) (length (componentOctets message recipient n)) 0
+
+-- The octets at the output's start and its rest unchanged; all of it unchanged where it is refused.
+unfoldable pub componentBuffer : List ℕ → List ℕ → ℕ → ℕ → List ℕ → List ℕ
+componentBuffer message known recipient n out =
+    cond (eqb (componentRefusal message known recipient n (length out)) 0)
+    (written 0 (componentOctets message recipient n) out)
+    out

@@ -1,0 +1,67 @@
+-- The components of an accepted message are base64url: 5 is asked of all of them.
+use mathlib.Core.Path.{_≡_, refl}
+use mathlib.Core.Bool.{Bool, true, false, not, cond}
+use mathlib.Core.List.{List, [], _∷_, _++_}
+use Prim.Native.Nat.{ℕ}
+use lib.ListN.{length}
+use lib.Dec.{eqb, leb}
+use Rattle.grammar.specs.Bounds.{Every}
+use Rattle.grammar.specs.Places.{Place}
+use Rattle.grammar.specs.Reader.{opensObject}
+use Rattle.names.specs.Names.{names}
+use Rattle.rows.specs.Any.{any}
+use Rattle.jose.specs.Refusals.{Test, _if_, first}
+use Rattle.jose.specs.HeaderRules.{recipientOrder}
+use Rattle.headers.specs.Components.{misspelled, places}
+use Rattle.headers.specs.Headers.{headerText, textOrder, protectedEntries, objectOrder}
+use Rattle.shape.specs.Shape.{Recipient}
+use Rattle.shape.specs.Recipients.{topEntries, recipientsIn, componentsIn}
+use Rattle.jwe.specs.Compact.{fourStops, compactComponents, compactOrder}
+use Rattle.jwe.specs.General.{jsonOrder}
+use Rattle.jwe.specs.Judge.{refusal, compactOutcome, jsonOutcome, outcome}
+use Rattle.meets.proofs.Deciding.{any-every, first-none}
+use Rattle.meets.proofs.InOrder.{first-append}
+use Rattle.meets.proofs.JsonPassed.{json-passed}
+use Rattle.meets.proofs.JsonTests.{components-pass}
+use Rattle.meets.proofs.HandedFits.{asked-every, formTests, form-passed}
+
+module _ (message : List ℕ) where
+  abbrev pub Sound : Place → Type 0
+  Sound q = misspelled message q ≡ false
+
+  compact-spelled : (known : List (List ℕ)) (recipient : ℕ) → first (compactOrder message known recipient) ≡ 0 →
+      Every Sound (places (compactComponents message))
+  unfolding compactOrder any
+  compact-spelled known recipient e =
+      let q = compactComponents message in
+      let header = headerText message (q .protected) in
+      let es = protectedEntries header in
+      let spelling : List Test = 4 if not (fourStops message) ∷ 5 if any (misspelled message) (places q) ∷ [] in
+      let left : List Test =
+      textOrder header
+      ++ (objectOrder header es ++ (recipientOrder known header message es (eqb (q .key .size) 0) ++ (19 if leb 1 recipient ∷ []))) in
+      let five = first-none spelling refl .0 (first-append spelling left refl .0 e .0) .1 .0 in
+      any-every (misspelled message) Sound (λ q. ((λ e. e), (λ e. e))) (places q) .0 five
+
+  json-spelled : (known : List (List ℕ)) (recipient : ℕ) → first (jsonOrder message known recipient) ≡ 0 →
+      Every Sound (places (jsonOutcome message recipient .components))
+  unfolding jsonOutcome componentsIn
+  json-spelled known recipient e =
+      let es = topEntries message in
+      let passed = json-passed known message recipient e .1 in
+      let h = components-pass message es .0 (passed .spelled) in
+      let key =
+      asked-every (λ (r : Recipient). Sound (r .key)) (recipientsIn message es) (h .1 .1 .1 .1 .1) recipient (passed .asked) in
+      (h .0, (key, (h .1 .0, (h .1 .1 .0, (h .1 .1 .1 .0, (h .1 .1 .1 .1 .0, tt))))))
+
+  pub components-spelled : (known : List ℕ) (recipient headerLent listLent : ℕ) →
+      refusal message known recipient headerLent listLent ≡ 0 →
+      Every Sound (places (outcome message recipient .components))
+  unfolding outcome compactOutcome
+  components-spelled known recipient headerLent listLent e =
+      cases (opensObject message) (form-passed message known recipient headerLent listLent e .2)
+    where
+      cases : (b : Bool) → first (formTests message known recipient b) ≡ 0 →
+          Every Sound (places (cond b (jsonOutcome message recipient) (compactOutcome message) .components))
+      cases true f = json-spelled (names known) recipient f
+      cases false f = compact-spelled (names known) recipient f
