@@ -1,7 +1,7 @@
 -- The demands (minutes, item 4). Each proof cites the file that has it. `refusal`, `result`, `headerAfter` and `listAfter`
 -- (crates/jwe/specs/Judge.antt) say what reading answers and leaves in the lent header buffer and list; `read`
 -- (crates/gateway/src/lib.rt) is proved to answer and leave exactly that, for every input and with no condition: demand 1's
--- first half. What a message has to meet stands in crates/meets/specs/Meets.antt, over the grammar of crate json and the
+-- first half. What a message has to meet stands in crates/meets/specs/Meets.antt, over the trees of crate grammar and the
 -- encoding of crate base64url.
 use mathlib.Core.Path.{_≡_}
 use mathlib.Core.Logic.{_↔_}
