@@ -1,0 +1,42 @@
+-- The lines of a list of parameters, six numbers each: one after the other, and as those of the entries that it lists.
+use mathlib.Core.Path.{_≡_, refl, ap, ap₂, _∙_}
+use mathlib.Core.List.{List, [], _∷_, _++_}
+use Prim.Native.Nat.{ℕ, zero, suc, _+_, _-_, _*_, _≤_, _<_}
+use native.Mathlib.Omega.{arith}
+use lib.ListN.{length, take, drop}
+use lib.Seq.{drop-drop}
+use Rattle.rows.specs.Rows.{Entry}
+use Rattle.rows.specs.Tables.{six, listed, firstOf}
+use Rattle.report.specs.Report.{parameterLine, parameterLines}
+use Rattle.report.specs.Answers.{listLines}
+
+-- The lines from the i-th parameter on.
+abbrev pub linesFrom : ℕ → List ℕ → ℕ → List ℕ
+linesFrom count list i = listLines (count - i) (drop (i * 6) list)
+
+module _ (count : ℕ) (list : List ℕ) where
+  pub lines-all : listLines count list ≡ linesFrom count list 0
+  lines-all = let all : count ≡ count - 0 = omega arith in ap (λ (n : ℕ). listLines n list) all
+
+  -- the first of them, by the part that the code lends
+  pub lines-next : (i : ℕ) → i < count →
+      linesFrom count list i
+      ≡ parameterLine (firstOf (take (i * 6 + 6 - i * 6) (drop (i * 6) list))) ++ linesFrom count list (i + 1)
+  unfolding listLines
+  lines-next i h =
+      let more : count - i ≡ suc (count - (i + 1)) = omega arith in
+      let width : 6 ≡ i * 6 + 6 - i * 6 = omega arith in
+      let place : i * 6 + 6 ≡ (i + 1) * 6 = omega arith in
+      ap (λ (n : ℕ). listLines n (drop (i * 6) list)) more
+      ∙ ap₂ (λ (k : ℕ) (l : List ℕ). parameterLine (firstOf (take k (drop (i * 6) list))) ++ listLines (count - (i + 1)) l)
+      width (drop-drop 6 (i * 6) list ∙ ap (λ (k : ℕ). drop k list) place)
+
+  pub lines-none : (i : ℕ) → count ≤ i → linesFrom count list i ≡ []
+  unfolding listLines
+  lines-none i h =
+      let none : count - i ≡ 0 = omega arith in ap (λ (n : ℕ). listLines n (drop (i * 6) list)) none
+
+pub listed-lines : (es : List Entry) (rest : List ℕ) → listLines (length es) (listed es ++ rest) ≡ parameterLines es
+unfolding listed listLines parameterLines
+listed-lines [] rest = refl
+listed-lines (e ∷ es) rest = ap (λ (l : List ℕ). parameterLine e ++ l) (listed-lines es rest)
