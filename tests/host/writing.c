@@ -223,6 +223,28 @@ static void long_messages(void)
     try_rooms("2, and 2 before 1", &longer, JWE_MESSAGE_TOO_LONG, (struct text){NULL, 0}, rooms, 3);
     longer.of[1] = TEXT("\0");
     try_rooms("18 before 2", &longer, JWE_KEY, (struct text){NULL, 0}, rooms, 3);
+    /* A ciphertext that is too long by itself, and every other fault before it. */
+    const struct {
+        uint32_t refusal;
+        struct text header;
+    } faults[] = {
+        {JWE_NOT_JSON, TEXT("")},
+        {JWE_MANY_MEMBERS, WITH(MEMBERS_30 ",\"x\":0")},
+        {JWE_NAME_TWICE, WITH("\"alg\":\"dir\"")},
+        {JWE_NO_ALG_OR_ENC, TEXT("{}")},
+        {JWE_WRONG_KIND, WITH("\"kid\":1")},
+        {JWE_UNLISTED, WITH("\"zip\":\"\"")},
+        {JWE_CRIT, WITH("\"crit\":[]")},
+        {JWE_KEY, TEXT(WRAPPED)},
+    };
+    for (size_t i = 0; i < sizeof faults / sizeof *faults; i++) {
+        longer = with(faults[i].header, 3, (struct text){octets, n + 100});
+        try_rooms("2 after others", &longer, faults[i].refusal, (struct text){NULL, 0}, rooms, 1);
+    }
+    longer.of[0] = (struct text){octets, 4097};
+    try_rooms("6 before 2", &longer, JWE_HEADER_TOO_LONG, (struct text){NULL, 0}, rooms, 1);
+    longer.of[KNOWN] = TEXT("");
+    try_rooms("3 before 2", &longer, JWE_KNOWN_MALFORMED, (struct text){NULL, 0}, rooms, 1);
     for (int part = 1; part < PARTS; part++) {
         longer = with(TEXT(WRAPPED), 1, TEXT("\0"));
         longer.of[part] = (struct text){octets, n + 100};
