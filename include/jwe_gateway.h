@@ -1,12 +1,14 @@
 /* The JWE gateway's proved functions, for C on x86-64 Linux. Link target/staticlib/libhost.a, which `rt staticlib host`
  * writes; nothing else is needed.
  *
- * Every function answers a refusal: 0, or a number of docs/REFUSALS.md. Where octets are written, *octets is how many, at
- * the start of out, and the rest of out is as it was; refused, *octets is 0 and every lent buffer is as it was. Every
- * length is a size_t and is never cut. Texts need not end in a NUL.
+ * Every function answers a refusal: 0, or a number of docs/REFUSALS.md. Where octets are written, *octets is how many,
+ * at the start of out, and the rest of out is as it was; refused, *octets is 0 and every lent buffer is as it was.
+ * Every length is a size_t and is never cut. Texts need not end in a NUL.
  *
- * The functions keep no state, allocate nothing and may be called from any thread. Pointers are not NULL, also where the
- * length beside them is 0; no two of a call's buffers overlap where one of them is written. */
+ * The functions keep no state, allocate nothing and may be called from any thread. Pointers are not NULL, also where
+ * the length beside them is 0; no two of a call's buffers overlap where one of them is written. jwe_judge,
+ * jwe_component and jwe_read use at most 48 KiB of stack, the others at most 8 KiB; tests/host/stack.c holds them to
+ * that. */
 #ifndef JWE_GATEWAY_H
 #define JWE_GATEWAY_H
 
@@ -51,27 +53,30 @@ extern "C" {
 #define JWE_TAG 5u
 
 /* Judges a message for a recipient, counted from 0. */
-uint32_t jwe_judge(const uint8_t *message, size_t message_len, const uint8_t *known, size_t known_len, uint32_t recipient);
+uint32_t jwe_judge(const uint8_t *message, size_t message_len, const uint8_t *known, size_t known_len,
+                   uint32_t recipient);
 
 /* Judges a message for a recipient and decodes one of its components into out. An absent component, and one of another
- * number, has no octets. Refusals are jwe_judge's, then JWE_TOO_SHORT. message_len / 4 * 3 + 2 octets are always enough. */
-uint32_t jwe_component(const uint8_t *message, size_t message_len, const uint8_t *known, size_t known_len, uint32_t recipient,
-                       uint32_t component, uint8_t *out, size_t out_len, size_t *octets);
+ * number, has no octets. Refusals are jwe_judge's, then JWE_TOO_SHORT. message_len / 4 * 3 + 2 octets are always
+ * enough. */
+uint32_t jwe_component(const uint8_t *message, size_t message_len, const uint8_t *known, size_t known_len,
+                       uint32_t recipient, uint32_t component, uint8_t *out, size_t out_len, size_t *octets);
 
 /* Decodes one component's text: base64url without padding (RFC 4648, section 5). Refusals: JWE_NOT_BASE64URL, then
  * JWE_TOO_SHORT. text_len / 4 * 3 + 2 octets are always enough. */
 uint32_t jwe_decode(const uint8_t *text, size_t text_len, uint8_t *out, size_t out_len, size_t *octets);
 
-/* Writes a compact message (RFC 7516, section 7.1) of the protected header's text and the raw other components. Refusals in
- * order: 3; 6; 7, 8, 9; 13, 14, 15, 17, 18; 2; 1. */
-uint32_t jwe_write_compact(const uint8_t *header, size_t header_len, const uint8_t *key, size_t key_len, const uint8_t *iv,
-                           size_t iv_len, const uint8_t *ciphertext, size_t ciphertext_len, const uint8_t *tag, size_t tag_len,
-                           const uint8_t *known, size_t known_len, uint8_t *out, size_t out_len, size_t *octets);
+/* Writes a compact message (RFC 7516, section 7.1) of the protected header's text and the raw other components.
+ * Refusals in order: 3; 6; 7, 8, 9; 13, 14, 15, 17, 18; 2; 1. */
+uint32_t jwe_write_compact(const uint8_t *header, size_t header_len, const uint8_t *key, size_t key_len,
+                           const uint8_t *iv, size_t iv_len, const uint8_t *ciphertext, size_t ciphertext_len,
+                           const uint8_t *tag, size_t tag_len, const uint8_t *known, size_t known_len, uint8_t *out,
+                           size_t out_len, size_t *octets);
 
-/* Writes the additional authenticated data (RFC 7516, section 5.1, step 14) of an encoded protected header and an encoded aad:
- * the header where the aad is empty, else header, full stop, aad. Only JWE_TOO_SHORT can refuse. */
-uint32_t jwe_aad(const uint8_t *encoded_header, size_t header_len, const uint8_t *encoded_aad, size_t aad_len, uint8_t *out,
-                 size_t out_len, size_t *octets);
+/* Writes the additional authenticated data (RFC 7516, section 5.1, step 14) of an encoded protected header and an
+ * encoded aad: the header where the aad is empty, else header, full stop, aad. Only JWE_TOO_SHORT can refuse. */
+uint32_t jwe_aad(const uint8_t *encoded_header, size_t header_len, const uint8_t *encoded_aad, size_t aad_len,
+                 uint8_t *out, size_t out_len, size_t *octets);
 
 /* Apart from the others, because it lends numbers and not only octets: the reader. */
 
@@ -79,9 +84,9 @@ uint32_t jwe_aad(const uint8_t *encoded_header, size_t header_len, const uint8_t
 #define JWE_LIST_NUMBERS 576u   /* for the list of parameters, at least */
 #define JWE_RESULT_NUMBERS 18u  /* for the result, at least */
 
-/* Where the numbers of the result stand. A place is two numbers, start and length, in the message; an absent component has
- * place 0, 0. Forms: 0 compact, 1 flattened, 2 general. Modes: 1 key encryption, 2 key wrapping, 3 direct agreement, 4
- * agreement with wrapping, 5 direct encryption. */
+/* Where the numbers of the result stand. A place is two numbers, start and length, in the message; an absent component
+ * has place 0, 0. Forms: 0 compact, 1 flattened, 2 general. Modes: 1 key encryption, 2 key wrapping, 3 direct
+ * agreement, 4 agreement with wrapping, 5 direct encryption. */
 enum {
     JWE_RESULT_REFUSAL = 0,
     JWE_RESULT_FORM = 1,
@@ -93,12 +98,13 @@ enum {
 };
 
 /* Reads a message for a recipient. Accepted: header begins with the decoded protected header; list with six numbers a
- * parameter: origin (0 protected, 1 shared, 2 own), the name's start and length without quotation marks, the value's start
- * and length with them, and its kind (0 object, 1 array, 2 string, 3 number, 4 true, 5 false, 6 null), places of origin 0
- * counting in the header and others in the message; result with 18 numbers. Each goes on as it was; refused, all are as they
- * were. */
-uint32_t jwe_read(const uint8_t *message, size_t message_len, const uint8_t *known, size_t known_len, uint32_t recipient,
-                  uint8_t *header, size_t header_len, uint32_t *list, size_t list_len, uint32_t *result, size_t result_len);
+ * parameter: origin (0 protected, 1 shared, 2 own), the name's start and length without quotation marks, the value's
+ * start and length with them, and its kind (0 object, 1 array, 2 string, 3 number, 4 true, 5 false, 6 null), places of
+ * origin 0 counting in the header and others in the message; result with 18 numbers. Each goes on as it was; refused,
+ * all are as they were. */
+uint32_t jwe_read(const uint8_t *message, size_t message_len, const uint8_t *known, size_t known_len,
+                  uint32_t recipient, uint8_t *header, size_t header_len, uint32_t *list, size_t list_len,
+                  uint32_t *result, size_t result_len);
 
 #ifdef __cplusplus
 }

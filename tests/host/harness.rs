@@ -1,14 +1,16 @@
-//! Compares the library with a second base64url, a second reader of JSON and a second reader of messages on millions of
-//! random and damaged texts and messages, and on all short ones.
+//! Compares the library with a second base64url, a second reader of JSON, and a second reader and writer of messages on
+//! millions of random and damaged texts and messages, and on all short ones.
 //! Deterministic by seed: `harness [SEED]`. Exits 1 at the first difference.
 //!
 //! Every call is judged by its answer, its out-parameter and the whole of its memory: the buffer, the octets beside it
 //! and the input. A stray read or write beyond either stops the program.
 
+mod exports;
 #[path = "jwe.rs"]
 mod jwe;
 mod json;
 mod lent;
+mod library;
 mod random;
 mod reader;
 mod reference;
@@ -287,7 +289,7 @@ impl Tester {
 }
 
 fn main() {
-    const SHORT_CASES: u64 = 3_000_000;
+    const SHORT_CASES: u64 = 1_000_000;
     const LONG_CASES: u64 = 400;
     const LONGEST: usize = 1 << 20;
     const ROOM: usize = LONGEST + 1000;
@@ -334,6 +336,10 @@ fn main() {
     }
     if !jwe::compare(&jwe::ours, &mut random) {
         println!("FAILED harness: a refusal was never met");
+        exit(1);
+    }
+    if !exports::compare(&mut random) {
+        println!("FAILED harness: a refusal was never met by the other functions");
         exit(1);
     }
     println!("harness: no difference, seed {seed}");

@@ -215,7 +215,7 @@ impl Tester {
 
 /// All of it. Answers whether enough texts were accepted and refused.
 pub fn compare(tester: &mut Tester, random: &mut Random) -> bool {
-    const TEXTS: u64 = 1_500_000;
+    const TEXTS: u64 = 500_000;
     const SPELLINGS: u64 = 500_000;
 
     keeps_to_print();

@@ -6,7 +6,7 @@
 
 mod cases;
 mod json_cases;
-mod messages;
+pub mod messages;
 mod parameters;
 pub mod second;
 

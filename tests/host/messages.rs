@@ -299,13 +299,22 @@ impl Maker<'_> {
 
 /// A message with its form, and what is lent for it.
 pub fn made(random: &mut Random, reference: &Reference) -> (usize, Call) {
+    let form = random.below(3);
+    made_in(form, random, reference)
+}
+
+/// A compact message, unless damage has made it another.
+pub fn made_compact(random: &mut Random, reference: &Reference) -> Call {
+    made_in(0, random, reference).1
+}
+
+fn made_in(form: usize, random: &mut Random, reference: &Reference) -> (usize, Call) {
     // Of two faults the second is often one of the next numbers, so that their order shows.
     let (mut faults, mut number) = (0, 0);
     for _ in 0..[0, 0, 1, 1, 2, 2, 2, 3][random.below(8)] {
         number = if number > 0 && random.below(2) == 0 { number + random.below(4) } else { 1 + random.below(19) };
         faults |= 1 << number.min(19);
     }
-    let form = random.below(3);
     let (spaces, escapes) = ([0, 0, 0, 1, 1, 6, 6, 13][random.below(8)], [0, 0, 1, 8][random.below(4)]);
     let recipients = match form {
         2 if faults >> 11 & 1 == 1 => 8 + random.below(4),

@@ -1,6 +1,6 @@
-/* Measures the stack that jwe_decode, check, encode and judge use: they run on a stack of their own that was painted
- * before, and the lowest octet that lost its paint shows how deep they went. Fails above 8 KiB, for judge on 12 levels of
- * nesting above 64 KiB.
+/* Measures the stack that the functions for C use, and check, encode and judge: they run on a stack of their own that
+ * was painted before, and the lowest octet that lost its paint shows how deep they went. Fails above 8 KiB, for
+ * those that read a message above 48 KiB.
  *
  * Not built with the sanitizers, which use the stack themselves. */
 #define _GNU_SOURCE
@@ -16,8 +16,8 @@ uint32_t probe_check(const uint8_t *text, size_t text_len);
 uint32_t probe_encode(const uint8_t *octets, size_t octets_len, uint8_t *out, size_t out_len, size_t at, size_t *end);
 uint32_t probe_judge(const uint8_t *text, size_t text_len, uint32_t levels, size_t *end);
 
-enum { LIMIT = 8192, JUDGE_LIMIT = 65536, STACK = 131072, FENCE = 65536, SHORT = 1000, LONG = 1 << 24 };
-enum { LEVELS = 12, NO_OBJECT = 7 };
+enum { LIMIT = 8192, MESSAGE_LIMIT = 49152, STACK = 131072, FENCE = 65536, SHORT = 1000, LONG = 1 << 24 };
+enum { LEVELS = 12, RECIPIENTS = 8, NO_OBJECT = 7 };
 
 typedef uint32_t call(const uint8_t *in, size_t in_len, uint8_t *out, size_t out_len, size_t *n);
 
@@ -43,6 +43,42 @@ static uint32_t judge(const uint8_t *in, size_t in_len, uint8_t *out, size_t out
 {
     (void)out, (void)out_len;
     return probe_judge(in, in_len, LEVELS, n);
+}
+
+static const uint8_t octet[] = {0}, names[] = {1, 1, 'x'};
+
+/* The last recipient of the message that is asked about. */
+static uint32_t recipient;
+
+static uint32_t judge_message(const uint8_t *in, size_t in_len, uint8_t *out, size_t out_len, size_t *n)
+{
+    (void)out, (void)out_len, (void)n;
+    return jwe_judge(in, in_len, names, sizeof names, recipient);
+}
+
+static uint32_t component(const uint8_t *in, size_t in_len, uint8_t *out, size_t out_len, size_t *n)
+{
+    return jwe_component(in, in_len, names, sizeof names, recipient, JWE_CIPHERTEXT, out, out_len, n);
+}
+
+static uint32_t read_message(const uint8_t *in, size_t in_len, uint8_t *out, size_t out_len, size_t *n)
+{
+    static uint8_t header[JWE_HEADER_OCTETS];
+    static uint32_t list[JWE_LIST_NUMBERS], result[JWE_RESULT_NUMBERS];
+    (void)out, (void)out_len, (void)n;
+    return jwe_read(in, in_len, names, sizeof names, recipient, header, sizeof header, list, JWE_LIST_NUMBERS, result,
+                    JWE_RESULT_NUMBERS);
+}
+
+/* A message of this header, without a key. */
+static uint32_t write_message(const uint8_t *in, size_t in_len, uint8_t *out, size_t out_len, size_t *n)
+{
+    return jwe_write_compact(in, in_len, octet, 0, octet, 1, octet, 1, octet, 1, names, sizeof names, out, out_len, n);
+}
+
+static uint32_t join(const uint8_t *in, size_t in_len, uint8_t *out, size_t out_len, size_t *n)
+{
+    return jwe_aad(in, in_len, in, in_len, out, out_len, n);
 }
 
 static uint8_t *stack;
@@ -115,7 +151,7 @@ static size_t larger(size_t a, size_t b)
 static int report(const char *name, size_t most_short, size_t most_long)
 {
     int good = larger(most_short, most_long) <= LIMIT;
-    printf("stack: %-10s %5zu octets for 16 MiB, at most %zu for up to %d octets%s\n", name, most_long, most_short,
+    printf("stack: %-17s %5zu octets for 16 MiB, at most %zu for up to %d octets%s\n", name, most_long, most_short,
            SHORT, good ? "" : ": FAILED, more than 8 KiB");
     return good;
 }
@@ -149,12 +185,119 @@ static int report_judge(uint8_t *text)
     for (size_t a = 0; a < sizeof arrays / sizeof *arrays; a++)
         for (size_t i = 0; i < sizeof inmost / sizeof *inmost; i++) {
             most = larger(most, used(judge, text, nest(text, LEVELS, arrays[a], inmost[i]), NULL, 0, JWE_OK));
-            refused = larger(refused, used(judge, text, nest(text, LEVELS + 1, arrays[a], inmost[i]), NULL, 0, NO_OBJECT));
+            refused =
+                larger(refused, used(judge, text, nest(text, LEVELS + 1, arrays[a], inmost[i]), NULL, 0, NO_OBJECT));
         }
-    int good = larger(most, refused) <= JUDGE_LIMIT;
-    printf("stack: %-10s %5zu octets for %d levels, %zu for %d, which it refuses%s\n", "judge", most, LEVELS, refused,
-           LEVELS + 1, good ? "" : ": FAILED, more than 64 KiB");
+    int good = larger(most, refused) <= LIMIT;
+    printf("stack: %-17s %5zu octets for %d levels, %zu for %d, which it refuses%s\n", "judge", most, LEVELS, refused,
+           LEVELS + 1, good ? "" : ": FAILED, more than 8 KiB");
     return good;
+}
+
+/* Appends a text, and answers the length after that. */
+static size_t put(uint8_t *text, size_t n, const char *more)
+{
+    memcpy(text + n, more, strlen(more));
+    return n + strlen(more);
+}
+
+/* How a text is nested. */
+struct nesting {
+    size_t levels;
+    unsigned arrays;
+    const char *inmost;
+};
+
+/* Appends a value nested so deep that the whole has its levels, where so many are around it. */
+static size_t put_nested(uint8_t *text, size_t n, struct nesting nesting, size_t around)
+{
+    return n + nest(text + n, nesting.levels - around, nesting.arrays, nesting.inmost);
+}
+
+/* Writes a header that is nested so deep and has a critical parameter. */
+static size_t put_header(uint8_t *text, size_t n, struct nesting nesting)
+{
+    n = put(text, n, "{\"alg\":\"dir\",\"enc\":\"A128GCM\",\"crit\":[\"x\"],\"x\":");
+    return put(text, put_nested(text, n, nesting, 1), "}");
+}
+
+static size_t put_encoded_header(uint8_t *text, size_t n, struct nesting nesting)
+{
+    uint8_t header[JWE_HEADER_OCTETS];
+    size_t end;
+    if (probe_encode(header, put_header(header, 0, nesting), text, LONG, n, &end) != JWE_OK)
+        exit(2);
+    return end;
+}
+
+/* A message of a form, 0 to 2, with as much nesting as it can have everywhere. The general one has 8 recipients. */
+static size_t put_message(uint8_t *text, int form, struct nesting nesting)
+{
+    if (form == 0)
+        return put(text, put_encoded_header(text, 0, nesting), "..AA.AQID.Ag");
+    size_t n = put(text, 0, "{\"protected\":\"");
+    n = put(text, put_encoded_header(text, n, nesting), "\",\"ciphertext\":\"AQID\",\"ignored\":");
+    n = put(text, put_nested(text, n, nesting, 1), ",\"unprotected\":{\"u\":");
+    n = put(text, put_nested(text, n, nesting, 2), "}");
+    if (form == 1) {
+        n = put(text, put_nested(text, put(text, n, ",\"header\":{\"r\":"), nesting, 2), "}}");
+    } else {
+        n = put(text, n, ",\"recipients\":[");
+        for (int i = 0; i < RECIPIENTS; i++) {
+            n = put(text, put(text, n, i > 0 ? "," : ""), "{\"header\":{\"r\":");
+            n = put(text, put_nested(text, n, nesting, 4), "}}");
+        }
+        n = put(text, n, "]}");
+    }
+    return n;
+}
+
+static int report_message(const char *name, size_t most, size_t limit)
+{
+    int good = most <= limit;
+    printf("stack: %-17s %5zu octets for messages of %d levels and %d recipients", name, most, LEVELS, RECIPIENTS);
+    if (!good)
+        printf(": FAILED, more than %zu", limit);
+    putchar('\n');
+    return good;
+}
+
+/* The most that the functions on messages use: on 12 levels, on 13, which they refuse, and on a message of 16 MiB. */
+static int report_messages(uint8_t *text, uint8_t *out)
+{
+    const unsigned arrays[] = {0, ~0u, 0xaaaa, 0x5555};
+    const char *const inmost[] = {"", "-1.5e+3", "\"\\ud834\\udd1e\\n\""};
+    const struct {
+        const char *name;
+        call *function;
+    } functions[] = {{"jwe_judge", judge_message}, {"jwe_component", component}, {"jwe_read", read_message}};
+    size_t most[sizeof functions / sizeof *functions] = {0}, most_written = 0;
+    for (size_t i = 0; i < sizeof arrays / sizeof *arrays * (sizeof inmost / sizeof *inmost); i++)
+        for (size_t levels = LEVELS; levels <= LEVELS + 1; levels++) {
+            struct nesting nesting = {levels, arrays[i % 4], inmost[i / 4]};
+            uint32_t answer = levels == LEVELS ? JWE_OK : JWE_NOT_JSON;
+            for (int form = 0; form < 3; form++) {
+                size_t length = put_message(text, form, nesting);
+                recipient = form == 2 ? RECIPIENTS - 1 : 0;
+                for (size_t f = 0; f < sizeof functions / sizeof *functions; f++)
+                    most[f] = larger(most[f], used(functions[f].function, text, length, out, LONG, answer));
+            }
+            size_t length = put_header(text, 0, nesting);
+            most_written = larger(most_written, used(write_message, text, length, out, LONG, answer));
+        }
+    size_t length = put_message(text, 0, (struct nesting){LEVELS, 0, ""});
+    memset(text + length, 'A', LONG - length);
+    recipient = 0;
+    int good = 1;
+    for (size_t f = 0; f < sizeof functions / sizeof *functions; f++) {
+        /* As many as make whole groups with the two that the tag has. */
+        most[f] = larger(most[f], used(functions[f].function, text, LONG - (LONG - length + 2) % 4, out, LONG, JWE_OK));
+        good &= report_message(functions[f].name, most[f], MESSAGE_LIMIT);
+    }
+    good &= report_message("jwe_write_compact", most_written, LIMIT);
+    size_t joined = used(join, text, LONG / 2, out, LONG + 1, JWE_OK);
+    printf("stack: %-17s %5zu octets%s\n", "jwe_aad", joined, joined <= LIMIT ? "" : ": FAILED, more than 8 KiB");
+    return good && joined <= LIMIT;
 }
 
 int main(void)
@@ -186,6 +329,7 @@ int main(void)
     good &= report("check", check_short, check_long);
     good &= report("encode", encode_short, encode_long);
     good &= report_judge(text);
+    good &= report_messages(text, out);
     free(text);
     free(out);
     munmap(map, FENCE + STACK);

@@ -1,0 +1,104 @@
+//! The functions for C that work on octets alone, called with slices.
+
+extern "C" {
+    fn jwe_judge(message: *const u8, message_len: usize, known: *const u8, known_len: usize, recipient: u32) -> u32;
+    fn jwe_component(
+        message: *const u8,
+        message_len: usize,
+        known: *const u8,
+        known_len: usize,
+        recipient: u32,
+        component: u32,
+        out: *mut u8,
+        out_len: usize,
+        octets: *mut usize,
+    ) -> u32;
+    fn jwe_write_compact(
+        header: *const u8,
+        header_len: usize,
+        key: *const u8,
+        key_len: usize,
+        iv: *const u8,
+        iv_len: usize,
+        ciphertext: *const u8,
+        ciphertext_len: usize,
+        tag: *const u8,
+        tag_len: usize,
+        known: *const u8,
+        known_len: usize,
+        out: *mut u8,
+        out_len: usize,
+        octets: *mut usize,
+    ) -> u32;
+    fn jwe_aad(
+        encoded_header: *const u8,
+        header_len: usize,
+        encoded_aad: *const u8,
+        aad_len: usize,
+        out: *mut u8,
+        out_len: usize,
+        octets: *mut usize,
+    ) -> u32;
+}
+
+// SAFETY, of each call: the pointers and lengths are those of slices.
+
+pub fn judge(message: &[u8], known: &[u8], recipient: u32) -> u32 {
+    unsafe { jwe_judge(message.as_ptr(), message.len(), known.as_ptr(), known.len(), recipient) }
+}
+
+pub fn component(
+    message: &[u8],
+    known: &[u8],
+    recipient: u32,
+    component: u32,
+    out: &mut [u8],
+    octets: &mut usize,
+) -> u32 {
+    unsafe {
+        jwe_component(
+            message.as_ptr(),
+            message.len(),
+            known.as_ptr(),
+            known.len(),
+            recipient,
+            component,
+            out.as_mut_ptr(),
+            out.len(),
+            octets,
+        )
+    }
+}
+
+/// Header, key, iv, ciphertext, tag, and the known names.
+pub fn write_compact(inputs: [&[u8]; 6], out: &mut [u8], octets: &mut usize) -> u32 {
+    let [header, key, iv, ciphertext, tag, known] = inputs;
+    unsafe {
+        jwe_write_compact(
+            header.as_ptr(),
+            header.len(),
+            key.as_ptr(),
+            key.len(),
+            iv.as_ptr(),
+            iv.len(),
+            ciphertext.as_ptr(),
+            ciphertext.len(),
+            tag.as_ptr(),
+            tag.len(),
+            known.as_ptr(),
+            known.len(),
+            out.as_mut_ptr(),
+            out.len(),
+            octets,
+        )
+    }
+}
+
+pub fn aad(header: &[u8], aad: &[u8], out: &mut [u8], octets: &mut usize) -> u32 {
+    let (header_len, aad_len) = (header.len(), aad.len());
+    unsafe { jwe_aad(header.as_ptr(), header_len, aad.as_ptr(), aad_len, out.as_mut_ptr(), out.len(), octets) }
+}
+
+pub fn decode(text: &[u8], out: &mut [u8], octets: &mut usize) -> u32 {
+    unsafe { crate::jwe_decode(text.as_ptr(), text.len(), out.as_mut_ptr(), out.len(), octets) }
+}
