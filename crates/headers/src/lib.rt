@@ -4,7 +4,9 @@ ghost use mathlib.Core.Bool.{true, false};
 ghost use Prim.Native.Nat.{_+_, _*_, _≤_};
 ghost use lib.ListN.{length};
 ghost use Rattle.names.specs.Names.{names, filled};
+ghost use Rattle.grammar.specs.Grammar.{curly};
 ghost use Rattle.grammar.specs.Reader.{membersAt};
+ghost use Rattle.json.specs.Known.{Given, KnownIn};
 ghost use Rattle.rows.specs.Rows.{entriesIn};
 ghost use Rattle.rows.specs.Tables.{collectedTable};
 ghost use Rattle.jose.specs.Refusals.{first};
@@ -35,8 +37,8 @@ pub fn misspelled(message: &[u8], place: Place) -> bool
     false
 }
 
-// 8 and 9 on the object at a position of a text: its members as entries of the table from the entry `from` on, and how
-// many they are.
+// 8 and 9 on the object at a position of a text, which has been judged or not: its members as entries of the table from the
+// entry `from` on, and how many they are.
 pub fn object(
     s: &[u8],
     at: usize,
@@ -44,14 +46,16 @@ pub fn object(
     list: &[u8],
     table: &mut [u32],
     from: usize,
+    judged: bool,
 ) -> Stage
     requires { ⌜ length (now s) ≤ 16777216 ⌝ }
     requires { ⌜ filled (now list) ≡ true ⌝ }
     requires { ⌜ from * 8 + 256 ≤ length (now table) ⌝ }
+    requires { ⌜ Given judged (KnownIn curly 12 (now s) at) ⌝ }
     ensures { λ r. ⌜ r ≡ stageOf (first (objectOrder (now (s .entry)) (entriesIn (names (now (list .entry))) (now (s .entry)) origin (membersAt 12 (now (s .entry)) at)))) (length (membersAt 12 (now (s .entry)) at)) ⌝ }
     ensures { λ _. ⌜ now (table .exit) ≡ collectedTable from (entriesIn (names (now (list .entry))) (now (s .entry)) origin (membersAt 12 (now (s .entry)) at)) (now (table .entry)) ⌝ }
 {
-    let collected = rows::collect::collect(s, at, origin, list, table, from);
+    let collected = rows::collect::collect(s, at, origin, list, table, from, judged);
     let Collected::Rows(count) = collected else {
         return Stage::Refused(8);
     };
@@ -71,7 +75,7 @@ pub fn protected_entries(header: &[u8], table: &mut [u32]) -> Stage
 {
     let list = jose::lists::REGISTERED;
     let start = Position { at: 0 }.skip_space(header);
-    object(header, start.at, 0, &list, table, 0)
+    object(header, start.at, 0, &list, table, 0, false)
 }
 
 // 6 and 7 on the protected header, whose encoded text at a place of the message has no fault: it is decoded into the

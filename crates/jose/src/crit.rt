@@ -38,7 +38,7 @@ fn spelled(s: &[u8], row: Row) -> &[u8]
 fn empty(s: &[u8], at: usize) -> bool
     ensures { λ r. ⌜ r ≡ isEmpty (elementsAt levels (now (s .entry)) at) ⌝ }
 {
-    let first = Position { at }.inside(s).element(s, 12);
+    let first = Position { at }.inside(s).element(s, 12, false);
     let Member::Here(_, _) = first else {
         return true;
     };
@@ -64,7 +64,7 @@ fn some_unknown(s: &[u8], known: &[u8], at: usize) -> bool
     let mut p = Position { at }.inside(s);
     let mut left = s.len();
     while 0 < left {
-        let found = p.element(s, 12);
+        let found = p.element(s, 12, false);
         let Member::Here(row, next) = found else {
             return false;
         };
@@ -91,7 +91,7 @@ fn again(s: &[u8], row: Row, from: Position, turns: usize) -> bool
     let mut p = from;
     let mut left = turns;
     while 0 < left {
-        let found = p.element(s, 12);
+        let found = p.element(s, 12, false);
         let Member::Here(other, next) = found else {
             return false;
         };
@@ -112,7 +112,7 @@ fn twice(s: &[u8], at: usize) -> bool
     let mut p = Position { at }.inside(s);
     let mut left = s.len();
     while 0 < left {
-        let found = p.element(s, 12);
+        let found = p.element(s, 12, false);
         let Member::Here(row, next) = found else {
             return false;
         };
@@ -183,7 +183,7 @@ fn some_misplaced(
     let mut p = Position { at }.inside(s);
     let mut left = s.len();
     while 0 < left {
-        let found = p.element(s, 12);
+        let found = p.element(s, 12, false);
         let Member::Here(row, next) = found else {
             return false;
         };

@@ -42,7 +42,7 @@ is-read s (some x) row next e =
 
 -- No entry begins at the text's end, nor at the closing bracket
 
-outside : (b : Bracket) (s : List ℕ) (l at : ℕ) (c : ℕ) → c ≡ octetAt s at → (c ≡ 256) → entryAt (valueAt l s) b s at ≡ none
+pub outside : (b : Bracket) (s : List ℕ) (l at : ℕ) (c : ℕ) → c ≡ octetAt s at → (c ≡ 256) → entryAt (valueAt l s) b s at ≡ none
 unfolding entryAt beforeAt valueWith
 outside curly s l at c e h =
     sym (member-no-name (valueAt l s) s at (string-not s at (λ q. let z = sym h ∙ e ∙ q in omega (arith, z))))
@@ -50,7 +50,7 @@ outside square s l at c e h =
     ap (λ (r : Answer). entryOf (record { start = 0; size = 0 }) at r)
     (value-is s l at c e ∙ ap (valueWith (λ b p. nestedWithin l b s p) s at) h)
 
-closed : (b : Bracket) (s : List ℕ) (l at : ℕ) (c : ℕ) → c ≡ octetAt s at → c ≡ closing b → entryAt (valueAt l s) b s at ≡ none
+pub closed : (b : Bracket) (s : List ℕ) (l at : ℕ) (c : ℕ) → c ≡ octetAt s at → c ≡ closing b → entryAt (valueAt l s) b s at ≡ none
 unfolding entryAt beforeAt valueWith
 closed curly s l at c e h =
     sym (member-no-name (valueAt l s) s at (string-not s at (λ q. let z = sym h ∙ e ∙ q in omega (arith, z))))

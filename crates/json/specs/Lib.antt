@@ -2,3 +2,4 @@
 pub mod Ends
 pub mod Numbers
 pub mod Members
+pub mod Known

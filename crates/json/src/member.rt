@@ -1,4 +1,5 @@
-// Members of objects and elements of arrays, one after the other.
+// Members of objects and elements of arrays, one after the other. In a text that has been judged, values that are objects
+// or arrays are passed over by their brackets.
 ghost use mathlib.Core.Path.{_≡_};
 ghost use Prim.Native.Nat.{_+_, _-_, _≤_};
 ghost use lib.ListN.{length, take};
@@ -6,6 +7,7 @@ ghost use Rattle.prelude.specs.Buffer.{written};
 ghost use Rattle.grammar.specs.Grammar.{curly, square};
 ghost use Rattle.grammar.specs.Reader.{entryAt, valueAt, membersAt};
 ghost use Rattle.json.specs.Members.{firstIn, memberOf, nextFrom, fiveOf, flat, collectedOf};
+ghost use Rattle.json.specs.Known.{Given, Known, KnownEntry, KnownIn};
 use crate::Ends;
 use crate::Found;
 use crate::Position;
@@ -78,7 +80,8 @@ impl Position {
     }
 
     // The member that begins here.
-    pub fn member(self, s: &[u8], levels: u32) -> Member
+    pub fn member(self, s: &[u8], levels: u32, judged: bool) -> Member
+        requires { ⌜ Given judged (KnownEntry curly levels (now s) (self .at)) ⌝ }
         ensures { λ r. ⌜ r ≡ memberOf (now (s .entry)) (entryAt (valueAt levels (now (s .entry))) curly (now (s .entry)) (self .at)) ⌝ }
     {
         let at = self.at;
@@ -91,7 +94,7 @@ impl Position {
             return Member::End;
         }
         let begin = colon.step(s).skip_space(s);
-        let found = begin.value(s, levels);
+        let found = begin.value_in(s, levels, judged);
         let Found::Value(after, kind) = found else {
             return Member::End;
         };
@@ -108,11 +111,12 @@ impl Position {
     }
 
     // The element that begins here.
-    pub fn element(self, s: &[u8], levels: u32) -> Member
+    pub fn element(self, s: &[u8], levels: u32, judged: bool) -> Member
+        requires { ⌜ Given judged (Known levels (now s) (self .at)) ⌝ }
         ensures { λ r. ⌜ r ≡ memberOf (now (s .entry)) (entryAt (valueAt levels (now (s .entry))) square (now (s .entry)) (self .at)) ⌝ }
     {
         let at = self.at;
-        let found = self.value(s, levels);
+        let found = self.value_in(s, levels, judged);
         let Found::Value(after, kind) = found else {
             return Member::End;
         };
@@ -126,8 +130,9 @@ impl Position {
     }
 
     // The members of the object that begins here: the first 32 of them go into the table, five numbers each.
-    pub fn collect(self, s: &[u8], levels: u32, table: &mut [usize]) -> Collected
+    pub fn collect(self, s: &[u8], levels: u32, judged: bool, table: &mut [usize]) -> Collected
         requires { ⌜ 160 ≤ length (now table) ⌝ }
+        requires { ⌜ Given judged (KnownIn curly levels (now s) (self .at)) ⌝ }
         ensures { λ r. ⌜ r ≡ collectedOf (membersAt levels (now (s .entry)) (self .at)) ⌝ }
         ensures { λ _. ⌜ now (table .exit) ≡ written 0 (flat (take 32 (membersAt levels (now (s .entry)) (self .at)))) (now (table .entry)) ⌝ }
     {
@@ -135,7 +140,7 @@ impl Position {
         let mut count: usize = 0;
         let mut left = s.len();
         while 0 < left {
-            let found = p.member(s, levels);
+            let found = p.member(s, levels, judged);
             let Member::Here(row, next) = found else {
                 return Collected::Rows(count);
             };

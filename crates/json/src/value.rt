@@ -3,6 +3,7 @@ ghost use mathlib.Core.Path.{_≡_};
 ghost use Rattle.grammar.specs.Grammar.{curly, square};
 ghost use Rattle.grammar.specs.Reader.{wordAt, beforeAt, isNumberStart, valueAt, nestedWithin};
 ghost use Rattle.json.specs.Ends.{endsOf, valueIn, endsOfKind, foundOf};
+ghost use Rattle.json.specs.Known.{Given, Known};
 use crate::Ends;
 use crate::Found;
 use crate::Position;
@@ -159,5 +160,43 @@ impl Position {
             left -= 1;
         }
         Found::Nothing
+    }
+
+    // A value that begins here, in a text that reads where a bracket opens: of an object or an array the end is sought.
+    fn known(self, s: &[u8], levels: u32) -> Found
+        requires { ⌜ Known levels (now s) (self .at) ⌝ }
+        ensures { λ r. ⌜ r ≡ foundOf (valueAt levels (now (s .entry)) (self .at)) ⌝ }
+    {
+        let c = self.peek(s);
+        if c == 123 {
+            let inside = self.step(s);
+            return Found::Value(
+                Position {
+                    at: skip::past(s, inside.at),
+                },
+                0,
+            );
+        }
+        if c == 91 {
+            let inside = self.step(s);
+            return Found::Value(
+                Position {
+                    at: skip::past(s, inside.at),
+                },
+                1,
+            );
+        }
+        self.scalar(s)
+    }
+
+    // The same value, sought or read.
+    pub(crate) fn value_in(self, s: &[u8], levels: u32, judged: bool) -> Found
+        requires { ⌜ Given judged (Known levels (now s) (self .at)) ⌝ }
+        ensures { λ r. ⌜ r ≡ foundOf (valueAt levels (now (s .entry)) (self .at)) ⌝ }
+    {
+        if judged {
+            return self.known(s, levels);
+        }
+        self.value(s, levels)
     }
 }

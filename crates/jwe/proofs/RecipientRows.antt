@@ -1,14 +1,16 @@
 -- Recipients laid flat in a table, three numbers each, and read back; and loops over them: what is asked from a
 -- recipient on
 -- stays the answer of the whole, until one decides it or none is left.
-use mathlib.Core.Path.{_≡_, refl, ap, ap₂, sym, _∙_}
+use mathlib.Core.Path.{_≡_, refl, ap, ap₂, sym, subst, _∙_}
 use mathlib.Core.Bool.{Bool, true, false, _||_}
 use mathlib.Core.List.{List, [], _∷_, _++_, map, flatMap}
 use Prim.Native.Nat.{ℕ, zero, suc, _+_, _-_, _*_, _≤_, _<_}
+use native.Mathlib.Nat.{not-suc-le-zero, le-of-suc-le-suc}
 use native.Mathlib.Omega.{arith}
-use lib.ListN.{length, drop, drop-of-length-le}
-use lib.Seq.{drop-drop}
+use lib.ListN.{length, drop, getD, drop-of-length-le}
+use lib.Seq.{drop-drop, getD-drop}
 use Rattle.prelude.specs.Buffer.{written}
+use Rattle.grammar.specs.Bounds.{Every}
 use Rattle.grammar.specs.Places.{Place}
 use Rattle.rows.specs.Any.{any}
 use Rattle.jose.specs.Refusals.{Test, first}
@@ -87,6 +89,17 @@ asked-drop (suc i) (x ∷ rs) r rest e = asked-drop i rs r rest e
 pub asked-at : (number i : ℕ) (t : List ℕ) → i < number → asked (recipientsOf number t) i ≡ recipientAt (drop (i * 3) t)
 asked-at number i t h =
     asked-drop i (recipientsOf number t) (here number i t) (behind number i t) (recipient-at number i t h)
+
+-- What holds of all of their headers.
+pub header-at : (P : ℕ → Type 0) (n i : ℕ) (t : List ℕ) → Every (λ r. P (r .header)) (recipientsOf n t) → i < n →
+    P (getD t (i * 3) 0)
+unfolding recipientsOf
+header-at P zero i t h l = absurd (not-suc-le-zero l)
+header-at P (suc n) zero t h l = h .0
+header-at P (suc n) (suc i) t h l =
+    let k : 3 + i * 3 ≡ suc i * 3 = omega arith in
+    subst P (getD-drop 3 t (i * 3) 0 ∙ ap (λ (j : ℕ). getD t j 0) k)
+    (header-at P n i (drop 3 t) (h .1) (le-of-suc-le-suc l))
 
 -- Whether something holds of one of their keys
 

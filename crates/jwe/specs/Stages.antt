@@ -6,6 +6,9 @@ use Prim.Native.Nat.{ℕ, zero, suc, _*_, _≤_, _<_}
 use lib.ListN.{length, drop, getD}
 use lib.Dec.{eqb, leb}
 use Rattle.prelude.specs.Buffer.{written}
+use Rattle.grammar.specs.Grammar.{curly}
+use Rattle.grammar.specs.Bounds.{Every}
+use Rattle.json.specs.Known.{KnownIn}
 use Rattle.rows.specs.Rows.{Entry, present}
 use Rattle.rows.specs.Tables.{flat, entriesOf}
 use Rattle.jose.specs.Refusals.{Test, _if_, first}
@@ -48,6 +51,14 @@ Owned number message of own counts = (k : ℕ) → k < number → OwnAt message 
 abbrev pub LeavesOwn : ℕ → List ℕ → List ℕ → List ℕ → List ℕ → Stage → Type 0
 LeavesOwn number message of own counts (Passed n) = Owned number message of own counts
 LeavesOwn number message of own counts (Refused n) = Unit {0}
+
+-- What is known of the headers of a message that has been judged: where one stands, what opens in it reads.
+
+abbrev pub HeaderKnown : List ℕ → ℕ → Type 0
+HeaderKnown message start = (start ≡ 0 → ⊥) → KnownIn curly 12 message start
+
+abbrev pub HeadersKnown : List ℕ → List Recipient → Type 0
+HeadersKnown message rs = Every (λ r. HeaderKnown message (r .header)) rs
 
 -- Refusals
 

@@ -11,7 +11,7 @@ ghost use lib.Dec.{eqb};
 ghost use Rattle.prelude.specs.Buffer.{written};
 ghost use Rattle.names.specs.Names.{names, filled};
 ghost use Rattle.rows.specs.Any.{any};
-ghost use Rattle.rows.specs.Rows.{present};
+ghost use Rattle.rows.specs.Rows.{present, valueOf};
 ghost use Rattle.rows.specs.Prints.{Printed};
 ghost use Rattle.rows.specs.Tables.{flat, entriesOf, collectedTable};
 ghost use Rattle.jose.specs.Refusals.{first};
@@ -26,7 +26,7 @@ ghost use Rattle.jwe.specs.General.{allPlaces, jsonOrder};
 ghost use Rattle.jwe.specs.Judge.{jsonOutcome};
 ghost use Rattle.jwe.specs.Answers.{componentsOf, Judges};
 ghost use Rattle.jwe.specs.Stages.{recipientAt, recipientsOf, Owned, LeavesOwn, textTests, protectedTests, ownTests, ruleTests};
-ghost use Rattle.jwe.specs.Stages.{headedOrder, shapedOrder, headedOutcome, shapedOutcome, Heads, refusedOf};
+ghost use Rattle.jwe.specs.Stages.{HeaderKnown, HeadersKnown, headedOrder, shapedOrder, headedOutcome, shapedOutcome, Heads, refusedOf};
 use crate::Components;
 use crate::Result;
 use crate::judged::Judged;
@@ -132,7 +132,7 @@ fn protected(header: &[u8], there: bool, table: &mut [u32]) -> Stage
 {
     let list = jose::lists::REGISTERED;
     let at = Position { at: 0 }.skip_space(header).at;
-    let object = headers::object(header, at, 0, &list, table, 0);
+    let object = headers::object(header, at, 0, &list, table, 0, false);
     let Stage::Passed(count) = object else {
         return object;
     };
@@ -150,6 +150,7 @@ fn protected(header: &[u8], there: bool, table: &mut [u32]) -> Stage
 fn unprotected(message: &[u8], start: usize, origin: u32, table: &mut [u32], from: usize) -> Stage
     requires { ⌜ length (now message) ≤ 16777216 ⌝ }
     requires { ⌜ from * 8 + 256 ≤ length (now table) ⌝ }
+    requires { ⌜ HeaderKnown (now message) start ⌝ }
     ensures { λ r. ⌜ r ≡ stageOf (first (objectOrder (now (message .entry)) (headerEntries (now (message .entry)) origin start))) (length (headerEntries (now (message .entry)) origin start)) ⌝ }
     ensures { λ _. ⌜ now (table .exit) ≡ collectedTable from (headerEntries (now (message .entry)) origin start) (now (table .entry)) ⌝ }
 {
@@ -157,7 +158,7 @@ fn unprotected(message: &[u8], start: usize, origin: u32, table: &mut [u32], fro
         return Stage::Passed(0);
     }
     let list = jose::lists::REGISTERED;
-    headers::object(message, start, origin, &list, table, from)
+    headers::object(message, start, origin, &list, table, from, true)
 }
 
 // 8 and 9 on each recipient's own header: its parameters as entries of a table, 32 entries apart, and how many they
@@ -174,6 +175,7 @@ fn own_headers(
     requires { ⌜ number * 3 ≤ length (now of) ⌝ }
     requires { ⌜ length (now own) ≡ 2048 ⌝ }
     requires { ⌜ length (now counts) ≡ 8 ⌝ }
+    requires { ⌜ HeadersKnown (now message) (recipientsOf number (now of)) ⌝ }
     ensures { λ r. ⌜ r ≡ stageOf (first (ownTests (now (message .entry)) (recipientsOf number (now (of .entry))))) number ⌝ }
     ensures { λ r. ⌜ LeavesOwn number (now (message .entry)) (now (of .entry)) (now (own .exit)) (now (counts .exit)) r ⌝ }
 {
@@ -304,6 +306,7 @@ fn headed(
     requires { ⌜ front ≤ 64 ⌝ }
     requires { ⌜ Printed (now header) (now message) (entriesOf front (now work)) ⌝ }
     requires { ⌜ length (now table) ≡ 768 ⌝ }
+    requires { ⌜ HeadersKnown (now message) (recipientsOf number (now of)) ⌝ }
     ensures { λ r. ⌜ Heads (now (message .entry)) (headedOrder (names (now (known .entry))) (now (header .entry)) (now (message .entry)) (entriesOf front (now (work .entry))) (recipientsOf number (now (of .entry))) recipient) (headedOutcome (now (header .entry)) (now (message .entry)) (entriesOf count (now (top .entry))) (entriesOf front (now (work .entry))) (recipientsOf number (now (of .entry))) recipient) r (now (table .entry)) (now (table .exit)) ⌝ }
 {
     let mut own = [0u32; 2048];
@@ -364,6 +367,8 @@ fn shaped(
     requires { ⌜ misspelled (now message) (component 1 (entriesOf count (now top))) ≡ false ⌝ }
     requires { ⌜ length (now text) ≡ 4096 ⌝ }
     requires { ⌜ length (now table) ≡ 768 ⌝ }
+    requires { ⌜ HeaderKnown (now message) (valueOf 2 (entriesOf count (now top)) .start) ⌝ }
+    requires { ⌜ HeadersKnown (now message) (recipientsOf number (now of)) ⌝ }
     ensures { λ r. ⌜ Judges (now (message .entry)) (shapedOrder (names (now (known .entry))) (now (message .entry)) (entriesOf count (now (top .entry))) (recipientsOf number (now (of .entry))) recipient) (shapedOutcome (now (message .entry)) (entriesOf count (now (top .entry))) (recipientsOf number (now (of .entry))) recipient) r (now (text .entry)) (now (text .exit)) (now (table .entry)) (now (table .exit)) ⌝ }
 {
     let header = decoded(message, top, count, text);

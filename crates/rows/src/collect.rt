@@ -5,8 +5,10 @@ ghost use Prim.Native.Nat.{_+_, _*_, _≤_};
 ghost use lib.ListN.{length, take};
 ghost use Rattle.prelude.specs.Buffer.{AllBelow, written};
 ghost use Rattle.names.specs.Names.{names, filled};
+ghost use Rattle.grammar.specs.Grammar.{curly};
 ghost use Rattle.grammar.specs.Reader.{membersAt};
 ghost use Rattle.json.specs.Members.{collectedOf};
+ghost use Rattle.json.specs.Known.{Given, KnownIn};
 ghost use Rattle.rows.specs.Rows.{entryOf, entriesIn};
 ghost use Rattle.rows.specs.Tables.{eight, flat, collectedTable};
 ghost use Rattle.rows.specs.Members.{firstMember, membersOf};
@@ -62,7 +64,8 @@ fn fill(
 }
 
 // The members of the object at a position of a text of at most 16 MiB, as entries of the table from the entry `from`
-// on; the table is as it was where they are more than 32. `list` is the names that are counted.
+// on; the table is as it was where they are more than 32. `list` is the names that are counted; `judged` says that the text
+// has been judged, so that objects and arrays need only be passed over.
 pub fn collect(
     text: &[u8],
     at: usize,
@@ -70,15 +73,17 @@ pub fn collect(
     list: &[u8],
     table: &mut [u32],
     from: usize,
+    judged: bool,
 ) -> Collected
     requires { ⌜ length (now text) ≤ 16777216 ⌝ }
     requires { ⌜ filled (now list) ≡ true ⌝ }
     requires { ⌜ from * 8 + 256 ≤ length (now table) ⌝ }
+    requires { ⌜ Given judged (KnownIn curly 12 (now text) at) ⌝ }
     ensures { λ r. ⌜ r ≡ collectedOf (membersAt 12 (now (text .entry)) at) ⌝ }
     ensures { λ _. ⌜ now (table .exit) ≡ collectedTable from (entriesIn (names (now (list .entry))) (now (text .entry)) origin (membersAt 12 (now (text .entry)) at)) (now (table .entry)) ⌝ }
 {
     let mut rows = [0usize; 160];
-    let answer = Position { at }.collect(text, 12, &mut rows);
+    let answer = Position { at }.collect(text, 12, judged, &mut rows);
     let Collected::Rows(count) = answer else {
         return answer;
     };

@@ -10,5 +10,7 @@ pub mod Orders
 pub mod Objects
 -- The elements of `recipients`, read.
 pub mod Reading
+-- What is known of a message that has been judged.
+pub mod Known
 -- The recipients of a flattened and of a general message.
 pub mod Forms

@@ -34,7 +34,7 @@ unfolding flatRecipients recipientsAt
 numbers-length message [] = refl
 numbers-length message (x ∷ starts) = omega (arith, numbers-length message starts)
 
-element-nonzero : (message : List ℕ) (start : ℕ) → nonzero (elementOrder message start) ≡ true
+pub element-nonzero : (message : List ℕ) (start : ℕ) → nonzero (elementOrder message start) ≡ true
 unfolding elementOrder objectOrder
 element-nonzero message start = refl
 

@@ -3,7 +3,10 @@ ghost use mathlib.Core.Path.{_≡_};
 ghost use Prim.Native.Nat.{_+_, _-_, _*_, _≤_};
 ghost use lib.ListN.{length};
 ghost use Rattle.prelude.specs.Buffer.{written};
+ghost use Rattle.grammar.specs.Grammar.{curly, square};
+ghost use Rattle.grammar.specs.Bounds.{Every};
 ghost use Rattle.grammar.specs.Reader.{elementsAt};
+ghost use Rattle.json.specs.Known.{KnownFrom, KnownIn};
 ghost use Rattle.rows.specs.Any.{any};
 ghost use Rattle.rows.specs.Tables.{entriesOf};
 ghost use Rattle.jose.specs.Refusals.{first};
@@ -57,12 +60,13 @@ pub(crate) fn put(table: &[u32], count: usize, into: &mut [usize], at: usize)
 
 // Whether one of the elements from a position on, at most so many, is no object.
 fn some_no_object(message: &[u8], from: Position, turns: usize) -> bool
+    requires { ⌜ KnownFrom square 12 (now message) turns (from .at) ⌝ }
     ensures { λ r. ⌜ r ≡ any noObject (elementsFrom (now (message .entry)) turns (from .at)) ⌝ }
 {
     let mut p = from;
     let mut left = turns;
     while 0 < left {
-        let found = p.element(message, 12);
+        let found = p.element(message, 12, true);
         let Member::Here(row, next) = found else {
             return false;
         };
@@ -88,6 +92,7 @@ fn counted(count: usize) -> Stage
 // 10 on `recipients` itself, and 11: where its elements start, and how many they are. They are read once.
 pub(crate) fn walk(message: &[u8], at: usize, starts: &mut [usize]) -> Stage
     requires { ⌜ 8 ≤ length (now starts) ⌝ }
+    requires { ⌜ KnownIn square 12 (now message) at ⌝ }
     ensures { λ r. ⌜ r ≡ stageOf (first (arrayOrder (elementsAt 12 (now (message .entry)) at))) (length (elementsAt 12 (now (message .entry)) at)) ⌝ }
     ensures { λ r. ⌜ Leaves (startsOf (elementsAt 12 (now (message .entry)) at)) (now (starts .entry)) (now (starts .exit)) r ⌝ }
 {
@@ -95,7 +100,7 @@ pub(crate) fn walk(message: &[u8], at: usize, starts: &mut [usize]) -> Stage
     let mut count: usize = 0;
     let mut left = message.len();
     while 0 < left {
-        let found = p.element(message, 12);
+        let found = p.element(message, 12, true);
         let Member::Here(row, next) = found else {
             return counted(count);
         };
@@ -120,12 +125,13 @@ pub(crate) fn walk(message: &[u8], at: usize, starts: &mut [usize]) -> Stage
 fn element(message: &[u8], at: usize, into: &mut [usize], to: usize) -> Stage
     requires { ⌜ length (now message) ≤ 16777216 ⌝ }
     requires { ⌜ to + 3 ≤ length (now into) ⌝ }
+    requires { ⌜ KnownIn curly 12 (now message) at ⌝ }
     ensures { λ r. ⌜ r ≡ stageOf (first (elementOrder (now (message .entry)) at)) (length (elementEntries (now (message .entry)) at)) ⌝ }
     ensures { λ r. ⌜ LeavesAt to (three (recipientOf (elementEntries (now (message .entry)) at))) (now (into .entry)) (now (into .exit)) r ⌝ }
 {
     let list = crate::MEMBERS;
     let mut table = [0u32; 256];
-    let object = headers::object(message, at, 1, &list, &mut table, 0);
+    let object = headers::object(message, at, 1, &list, &mut table, 0, true);
     let Stage::Passed(count) = object else {
         return object;
     };
@@ -140,6 +146,7 @@ fn element(message: &[u8], at: usize, into: &mut [usize], to: usize) -> Stage
 pub(crate) fn elements(message: &[u8], starts: &[usize], into: &mut [usize]) -> Stage
     requires { ⌜ length (now message) ≤ 16777216 ⌝ }
     requires { ⌜ length (now starts) * 3 ≤ length (now into) ⌝ }
+    requires { ⌜ Every (KnownIn curly 12 (now message)) (now starts) ⌝ }
     ensures { λ r. ⌜ r ≡ stageOf (first (startsOrder (now (message .entry)) (now (starts .entry)))) (length (now (starts .entry))) ⌝ }
     ensures { λ r. ⌜ Leaves (flatRecipients (recipientsAt (now (message .entry)) (now (starts .entry)))) (now (into .entry)) (now (into .exit)) r ⌝ }
 {

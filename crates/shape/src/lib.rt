@@ -40,7 +40,7 @@ pub fn top(message: &[u8], table: &mut [u32]) -> Stage
     };
     let list = MEMBERS;
     let at = Position { at: 0 }.skip_space(message).at;
-    let object = headers::object(message, at, 1, &list, table, 0);
+    let object = headers::object(message, at, 1, &list, table, 0, true);
     let Stage::Passed(count) = object else {
         return object;
     };
@@ -56,6 +56,8 @@ pub fn recipients(message: &[u8], table: &[u32], count: usize, into: &mut [usize
     requires { ⌜ length (now message) ≤ 16777216 ⌝ }
     requires { ⌜ count * 8 ≤ length (now table) ⌝ }
     requires { ⌜ 24 ≤ length (now into) ⌝ }
+    requires { ⌜ first (topOrder (now message)) ≡ 0 ⌝ }
+    requires { ⌜ entriesOf count (now table) ≡ topEntries (now message) ⌝ }
     ensures { λ r. ⌜ r ≡ stageOf (first (elementsOrder (now (message .entry)) (entriesOf count (now (table .entry))))) (length (recipientsIn (now (message .entry)) (entriesOf count (now (table .entry))))) ⌝ }
     ensures { λ r. ⌜ Leaves (flatRecipients (recipientsIn (now (message .entry)) (entriesOf count (now (table .entry))))) (now (into .entry)) (now (into .exit)) r ⌝ }
 {

@@ -27,7 +27,7 @@ collected c =
     let s = start .args .s .now in
     let ms = members start in
     collects (entriesIn list s (start .args .origin) ms) (start .args .from) (known .0 .0) (start .args .table .now)
-    (call .last .1 .1 .1 .1 .0) (start .pre .1 .1) (call .ensures .1)
+    (call .last .1 .1 .1 .1 .0) (start .pre .1 .1 .0) (call .ensures .1)
     (sym (known .1) ∙ call .ensures .0 ∙ collected-is list s (start .args .origin) ms)
 
 collect-requires : tie.Need-collect-requires

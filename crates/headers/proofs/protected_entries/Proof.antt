@@ -25,7 +25,7 @@ object-requires : tie.Need-object-requires
 unfolding listOf registered ascii flatten
 object-requires c κs =
     let start = c .before .before .before .before .before in
-    (start .pre .0, (filled-list registered, omega (arith, start .pre .1)))
+    (start .pre .0, (filled-list registered, (omega (arith, start .pre .1), tt)))
 
 same-length : tie.Need-same-length
 same-length c = search needs

@@ -1,6 +1,6 @@
 -- `recipients` asks for the form: the top level is the one recipient of a flattened message; the elements of a general
 -- one are walked along, and then read by their starts.
-use mathlib.Core.Path.{_≡_, refl, ap, sym, _∙_}
+use mathlib.Core.Path.{_≡_, refl, ap, sym, subst, _∙_}
 use mathlib.Core.Bool.{true}
 use mathlib.Core.List.{List}
 use Prim.Native.Nat.{ℕ, _≤_}
@@ -9,9 +9,15 @@ use lib.ListN.{length, take, length-take}
 use borrow.Author.Tests.{not-true, not-false}
 use Rattle.prelude.specs.Buffer.{written}
 use Rattle.grammar.specs.Reader.{elementsAt}
-use Rattle.rows.specs.Rows.{Entry, present}
+use Rattle.rows.specs.Rows.{Entry, present, valueOf}
 use Rattle.rows.specs.Tables.{entriesOf}
-use Rattle.shape.specs.Answers.{startsOf}
+use Rattle.grammar.specs.Grammar.{curly, square}
+use Rattle.grammar.specs.Bounds.{Every}
+use Rattle.json.specs.Known.{KnownIn}
+use Rattle.jose.specs.Refusals.{first}
+use Rattle.headers.proofs.Stages.{passed-is}
+use Rattle.shape.specs.Answers.{startsOf, arrayOrder}
+use Rattle.shape.proofs.Known.{recipients-known, elements-known}
 use Rattle.shape.proofs.Objects.{stage-refused}
 use Rattle.shape.proofs.Forms.{flattened, flattened-numbers, general-refused, eight, starts-count, starts-are}
 use Rattle.shape.proofs.Forms.{general, general-leaves}
@@ -64,6 +70,13 @@ starts k =
     (c .walk .result) (c .walk .ensures .0) (k .before .walked .given .0 .0) (k .before .walked .given .1) _ _
     (c .walk .ensures .1)
 
+walk-passed : (k : tie.After-known-told) →
+    let c = walked k in
+    first (arrayOrder (elementsAt 12 (message (start c)) (c .before .before .value-of .result .start))) ≡ 0
+walk-passed k =
+    let c = walked k in
+    passed-is (k .before .walked .given .0 .0) _ _ (sym (k .before .walked .given .1) ∙ c .walk .ensures .0) .0
+
 count : (k : tie.After-known-told) →
     k .before .walked .given .0 .0 ≡ length (take (k .before .walked .given .0 .0) (walked k .walk .last .1 .1 .0))
 count k =
@@ -100,7 +113,14 @@ slice-aggregate-walk : tie.Need-slice-aggregate-walk
 slice-aggregate-walk c = search needs
 
 walk-requires : tie.Need-walk-requires
-walk-requires c κs = search needs
+walk-requires c κs =
+    let given = c .before .before .before .before .before .before .before in
+    let m = message given in
+    let same = given .pre .1 .1 .1 .1 in
+    let there = sym (ap (present 5) same) ∙ sym (c .before .before .before .present .ensures)
+    ∙ not-false _ (c .before .before .if1 .left) in
+    let at = c .before .value-of .ensures .0 ∙ ap (λ (es : List Entry). valueOf 5 es .start) same in
+    (search needs, subst (KnownIn square 12 m) (sym at) (recipients-known m (given .pre .1 .1 .1 .0) there))
 
 enum-known-walked : tie.Need-enum-known-walked
 enum-known-walked c = search needs
@@ -128,7 +148,13 @@ slice-aggregate-elements c = count (c .before)
 elements-requires : tie.Need-elements-requires
 elements-requires c κs =
     let given = c .before .before .before .before .before .before .before .before .before .before .before .before .before .before in
-    (given .pre .0, omega (arith, few (c .before .before), count (c .before .before), given .pre .1 .1))
+    let k = c .before .before in (
+      given .pre .0,
+      (
+        omega (arith, few k, count k, given .pre .1 .1 .0),
+        subst (Every (KnownIn curly 12 (message given))) (sym (starts k)) (elements-known (message given) _ (walk-passed k)),
+      ),
+    )
 
 same-length-2 : tie.Need-same-length-2
 same-length-2 c = search needs

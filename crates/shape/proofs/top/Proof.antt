@@ -1,6 +1,6 @@
 -- `top` reads the text, collects the entries of the object that it is, and asks the definition's questions of them. The
 -- list of names in the source is that of the definition, by computing.
-use mathlib.Core.Path.{_≡_, refl, ap, sym, _∙_}
+use mathlib.Core.Path.{_≡_, refl, ap, sym, subst, _∙_}
 use mathlib.Core.Bool.{false}
 use mathlib.Core.List.{List, flatten}
 use Prim.Native.Nat.{ℕ}
@@ -9,6 +9,8 @@ use Rattle.prelude.specs.Ascii.{ascii}
 use Rattle.names.specs.Names.{listOf, filled, total}
 use Rattle.names.proofs.Laws.{names-of}
 use Rattle.rows.specs.Tables.{collectedTable}
+use Rattle.grammar.specs.Grammar.{curly}
+use Rattle.json.specs.Known.{KnownIn}
 use Rattle.jose.specs.Refusals.{first}
 use Rattle.headers.specs.Headers.{unread, objectOrder}
 use Rattle.headers.specs.Answers.{stageOf}
@@ -18,6 +20,7 @@ use Rattle.shape.specs.Recipients.{topEntries}
 use Rattle.shape.proofs.Objects.{Entered, object-answer, object-table, entered, entered-table, as-long}
 use Rattle.shape.proofs.Objects.{object-refused, object-wrong, object-passed}
 use Rattle.shape.proofs.Objects.{top-entries, unread-is, top-unread, top-order, stage-refused}
+use Rattle.shape.proofs.Known.{top-object}
 use borrow.Author.Needs.{needs}
 use Rattle.shape.proofs.top.Statement.{statement}
 use Rattle.shape.proofs.top.Tie as tie
@@ -96,7 +99,21 @@ slice-aggregate-object c = search needs
 
 object-requires : tie.Need-object-requires
 unfolding filled total
-object-requires c κs = search needs
+object-requires c κs =
+    let start = c .before .before .before .before .before .before .before .before in
+    let judged = c .before .before .before .before .before .judge in
+    let reads = unread-is (message start) (judged .result) (judged .ensures)
+    ∙ ap noValue (c .before .before .before .enum-told .given .1) in
+    let known = top-object (message start) reads in (
+      search needs,
+      (
+        search needs,
+        (
+          search needs,
+          subst (KnownIn curly 12 (message start)) (sym (c .before .before .skip-space .ensures)) known,
+        ),
+      ),
+    )
 
 enum-known-object : tie.Need-enum-known-object
 enum-known-object c = search needs

@@ -9,6 +9,8 @@ use Rattle.grammar.specs.Places.{Member}
 use Rattle.grammar.specs.Reader.{valueAt, rowsAt}
 use Rattle.prelude.specs.Buffer.{written}
 use Rattle.json.specs.Members.{fiveOf, flat, collectedOf}
+use Rattle.json.specs.Known.{Given, KnownFrom}
+use Rattle.json.proofs.Knowing.{given-map, known-first, known-entry, known-next}
 use Rattle.json.proofs.MemberRows.{rows-none, the-read, rows-more, rows-spent, members-first}
 use Rattle.json.proofs.MemberTable.{written-none, table-length, rows-all, table-all, rows-over, inside, drop-more, table-more}
 use borrow.Author.Needs.{needs}
@@ -16,10 +18,10 @@ use Rattle.json.proofs.Position.collect.Statement.{statement}
 use Rattle.json.proofs.Position.collect.Tie as tie
 
 abbrev Inv-loop : tie.InvT-loop
-Inv-loop s levels table₀ p₀ count₀ left₀ table p count left = (count ≤ 32) × ((count ≤ length (rowsAt (valueAt levels s) curly s left₀ (p₀ .at))) × ((drop count (rowsAt (valueAt levels s) curly s left₀ (p₀ .at)) ≡ rowsAt (valueAt levels s) curly s left (p .at)) × (table ≡ written 0 (flat (take count (rowsAt (valueAt levels s) curly s left₀ (p₀ .at)))) table₀)))
+Inv-loop s levels judged table₀ p₀ count₀ left₀ table p count left = (count ≤ 32) × ((count ≤ length (rowsAt (valueAt levels s) curly s left₀ (p₀ .at))) × ((drop count (rowsAt (valueAt levels s) curly s left₀ (p₀ .at)) ≡ rowsAt (valueAt levels s) curly s left (p .at)) × ((table ≡ written 0 (flat (take count (rowsAt (valueAt levels s) curly s left₀ (p₀ .at)))) table₀) × Given judged (KnownFrom curly levels s left (p .at)))))
 
 abbrev μ-loop : tie.MeasureT-loop
-μ-loop s levels table₀ p₀ count₀ left₀ table p count left = left
+μ-loop s levels judged table₀ p₀ count₀ left₀ table p count left = left
 
 step-requires : tie.Need-step-requires Inv-loop μ-loop
 step-requires c κs = search needs
@@ -29,10 +31,17 @@ skip-space-requires c κs = search needs
 
 loop-holds : tie.Need-loop-holds Inv-loop μ-loop
 unfolding flat
-loop-holds c = (search needs, (search needs, (refl, written-none (c .before .before .before .before .args .table .now))))
+loop-holds c =
+    let start = c .before .before .before .before in
+    let s = start .args .s .now in
+    let first = known-first curly (start .args .levels) s (start .args .self .at) (c .before .step .result .at) (c .skip-space .result .at) (c .before .step .ensures) (c .skip-space .ensures) in
+    (search needs, (search needs, (refl, (written-none (start .args .table .now), given-map (start .args .judged) first (start .pre .1)))))
 
 member-requires : tie.Need-member-requires Inv-loop μ-loop
-member-requires c κs = search needs
+member-requires c κs =
+    let start = c .before .before .before .before .before .before in
+    let loop = c .before .loop in
+    given-map (start .args .judged) (known-entry curly (start .args .levels) (start .args .s .now) (loop .left) (loop .p .at) (c .loop-test .taken)) (loop .inv .1 .1 .1 .1)
 
 enum-known-found : tie.Need-enum-known-found Inv-loop μ-loop
 enum-known-found c = search needs
@@ -48,7 +57,7 @@ same-length c =
     let loop = c .before .before .before .before .loop in
     let first = c .before .before .before .before .before .skip-space in
     let rows = rowsAt (valueAt l s) curly s (length s) (first .result .at) in
-    table-length rows (loop .count) (start .args .table .now) (loop .table) (loop .inv .0) (start .pre) (loop .inv .1 .1 .1)
+    table-length rows (loop .count) (start .args .table .now) (loop .table) (loop .inv .0) (start .pre .0) (loop .inv .1 .1 .1 .0)
 
 returns : tie.Need-returns Inv-loop μ-loop
 returns c =
@@ -62,7 +71,7 @@ returns c =
     let whole = members-first s l (start .args .self .at) (past .result .at) (first .result .at) (past .ensures) (first .ensures) in
     let none = rows-none curly s l (loop .left) (loop .p .at) (c .before .before .before .loop-test .taken) (sym (c .enum-told .given .1) ∙ c .before .before .member .ensures) in
     let left = loop .inv .1 .1 .0 ∙ none in
-    let table = loop .inv .1 .1 .1 in (
+    let table = loop .inv .1 .1 .1 .0 in (
       rows-all rows (loop .count) (loop .inv .0) (loop .inv .1 .0) left ∙ ap collectedOf whole,
       table ∙ ap (λ (r : List Member). written 0 (flat r) (start .args .table .now)) (table-all rows (loop .count) (loop .inv .0) (loop .inv .1 .0) left ∙ ap (take 32) whole),
     )
@@ -75,7 +84,7 @@ same-length-2 c =
     let loop = c .before .before .before .before .before .before .loop in
     let first = c .before .before .before .before .before .before .before .skip-space in
     let rows = rowsAt (valueAt l s) curly s (length s) (first .result .at) in
-    table-length rows (loop .count) (start .args .table .now) (loop .table) (loop .inv .0) (start .pre) (loop .inv .1 .1 .1)
+    table-length rows (loop .count) (start .args .table .now) (loop .table) (loop .inv .0) (start .pre .0) (loop .inv .1 .1 .1 .0)
 
 returns-2 : tie.Need-returns-2 Inv-loop μ-loop
 returns-2 c =
@@ -95,7 +104,7 @@ returns-2 c =
     let rest = rowsAt (valueAt l s) curly s (loop .left - 1) (got .0 .1 .0 .at) in
     let full = c .if1 .taken in (
       rows-over rows rest (read .entry .row) (loop .count) full here ∙ ap collectedOf whole,
-      loop .inv .1 .1 .1 ∙ ap (λ (r : List Member). written 0 (flat r) (start .args .table .now)) (ap (λ (n : ℕ). take n rows) full ∙ ap (take 32) whole),
+      loop .inv .1 .1 .1 .0 ∙ ap (λ (r : List Member). written 0 (flat r) (start .args .table .now)) (ap (λ (n : ℕ). take n rows) full ∙ ap (take 32) whole),
     )
 
 mul-put-row : tie.Need-mul-put-row Inv-loop μ-loop
@@ -109,7 +118,7 @@ put-row-requires c κs =
     let loop = c .before .before .before .before .before .before .before .loop in
     let first = c .before .before .before .before .before .before .before .before .skip-space in
     let rows = rowsAt (valueAt l s) curly s (length s) (first .result .at) in
-    omega (arith, start .pre, table-length rows (loop .count) (start .args .table .now) (loop .table) (loop .inv .0) (start .pre) (loop .inv .1 .1 .1))
+    omega (arith, start .pre .0, table-length rows (loop .count) (start .args .table .now) (loop .table) (loop .inv .0) (start .pre .0) (loop .inv .1 .1 .1 .0))
 
 add-count : tie.Need-add-count Inv-loop μ-loop
 add-count c = search needs
@@ -140,7 +149,10 @@ loop-again c =
         omega (arith, inside rows rest row (loop .count) here),
         (
           drop-more rows rest row (loop .count) here,
-          table-more rows rest row (loop .count) here (start .args .table .now) (loop .table) (c .before .before .put-row .last .1 .0) (fiveOf (got .0 .0)) (loop .inv .1 .1 .1) (read .five) (c .before .before .put-row .ensures),
+          (
+            table-more rows rest row (loop .count) here (start .args .table .now) (loop .table) (c .before .before .put-row .last .1 .0) (fiveOf (got .0 .0)) (loop .inv .1 .1 .1 .0) (read .five) (c .before .before .put-row .ensures),
+            given-map (start .args .judged) (known-next curly l s (loop .left) (loop .p .at) (c .before .before .before .before .before .before .before .before .before .loop-test .taken) read) (loop .inv .1 .1 .1 .1),
+          ),
         ),
       ),
     )
@@ -153,7 +165,7 @@ same-length-3 c =
     let loop = c .before .loop in
     let first = c .before .before .skip-space in
     let rows = rowsAt (valueAt l s) curly s (length s) (first .result .at) in
-    table-length rows (loop .count) (start .args .table .now) (loop .table) (loop .inv .0) (start .pre) (loop .inv .1 .1 .1)
+    table-length rows (loop .count) (start .args .table .now) (loop .table) (loop .inv .0) (start .pre .0) (loop .inv .1 .1 .1 .0)
 
 returns-3 : tie.Need-returns-3 Inv-loop μ-loop
 returns-3 c =
@@ -167,7 +179,7 @@ returns-3 c =
     let whole = members-first s l (start .args .self .at) (past .result .at) (first .result .at) (past .ensures) (first .ensures) in
     let none = rows-spent curly s l (loop .left) (loop .p .at) (omega arith) in
     let left = loop .inv .1 .1 .0 ∙ none in
-    let table = loop .inv .1 .1 .1 in (
+    let table = loop .inv .1 .1 .1 .0 in (
       rows-all rows (loop .count) (loop .inv .0) (loop .inv .1 .0) left ∙ ap collectedOf whole,
       table ∙ ap (λ (r : List Member). written 0 (flat r) (start .args .table .now)) (table-all rows (loop .count) (loop .inv .0) (loop .inv .1 .0) left ∙ ap (take 32) whole),
     )

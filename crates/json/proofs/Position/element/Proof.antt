@@ -9,8 +9,8 @@ use borrow.Author.Needs.{needs}
 use Rattle.json.proofs.Position.element.Statement.{statement}
 use Rattle.json.proofs.Position.element.Tie as tie
 
-value-requires : tie.Need-value-requires
-value-requires c κs = search needs
+value-in-requires : tie.Need-value-in-requires
+value-in-requires c κs = c .before .pre
 
 enum-known-found : tie.Need-enum-known-found
 enum-known-found c = search needs
@@ -24,7 +24,7 @@ returns c =
     let s = start .args .s .now in
     let at = start .args .self .at in
     let inner = valueAt (start .args .levels) s in
-    let none = is-nothing _ (sym (c .enum-told .given .1) ∙ c .before .before .value .ensures) in
+    let none = is-nothing _ (sym (c .enum-told .given .1) ∙ c .before .before .value-in .ensures) in
     ap (memberOf s) (element-entry inner s at nothing (sym none))
 
 minus-requires : tie.Need-minus-requires
@@ -42,7 +42,7 @@ returns-2 c =
     let got = c .before .before .before .found .given in
     let a = got .0 .0 .at in
     let k = got .0 .1 .0 in
-    let is = is-found _ (got .0 .0) k (sym (got .1) ∙ c .before .before .before .before .before .value .ensures) in
+    let is = is-found _ (got .0 .0) k (sym (got .1) ∙ c .before .before .before .before .before .value-in .ensures) in
     entry-here s 0 0 at a k 0 (c .before .minus .result) (c .next-entry .result) refl (c .before .minus .ensures) (c .next-entry .ensures)
     ∙ ap (memberOf s) (element-entry inner s at (found a k) (sym is))
 
@@ -50,7 +50,7 @@ pub element-spec : {M : Type 1} → statement M
 element-spec =
     tie.close
     (tie.spec
-    value-requires
+    value-in-requires
     enum-known-found
     enum-told
     returns

@@ -5,9 +5,10 @@ use native.Mathlib.Omega.{arith}
 use Rattle.grammar.specs.Reader.{nothing, found, skipSpace, valueAt}
 use Rattle.json.specs.Members.{memberOf}
 use Rattle.json.proofs.NumberParts.{is-ended, is-refused}
-use Rattle.json.proofs.ValueParts.{is-found, is-nothing}
+use Rattle.json.proofs.ValueParts.{is-found, is-nothing, name-value}
 use Rattle.grammar.proofs.Turns.{member-no-name, member-no-colon, member-entry}
 use Rattle.json.proofs.MemberParts.{entry-here, string-inside}
+use Rattle.json.proofs.Knowing.{given-map}
 use borrow.Author.Needs.{needs}
 use Rattle.json.proofs.Position.member.Statement.{statement}
 use Rattle.json.proofs.Position.member.Tie as tie
@@ -56,8 +57,19 @@ step-requires c κs = search needs
 skip-space-requires-2 : tie.Need-skip-space-requires-2
 skip-space-requires-2 c κs = search needs
 
-value-requires : tie.Need-value-requires
-value-requires c κs = search needs
+value-in-requires : tie.Need-value-in-requires
+value-in-requires c κs =
+    let start = c .before .before .before .before .before .before .before .before .before .before in
+    let s = start .args .s .now in
+    let at = start .args .self .at in
+    let spelled = c .before .before .before .before .before .before .spelled .given in
+    let name = is-ended _ (spelled .0 .0) (sym (spelled .1) ∙ c .before .before .before .before .before .before .before .before .string .ensures) in
+    let colon = c .before .before .before .before .skip-space in
+    let octet = c .before .before .before .peek in
+    let past = c .before .step in
+    let begin = c .skip-space2 in
+    let here = name-value s at (spelled .0 .0 .at) name (colon .result .at) (octet .result) (colon .ensures) (octet .ensures) (c .before .before .if1 .left) (past .result .at) (begin .result .at) (past .ensures) (begin .ensures) in
+    given-map (start .args .judged) (λ known. known (begin .result .at) here) (start .pre)
 
 enum-known-found : tie.Need-enum-known-found
 enum-known-found c = search needs
@@ -79,12 +91,12 @@ returns-3 c =
     let begin = c .before .before .before .skip-space2 in
     let v = begin .result .at in
     let from = begin .ensures ∙ ap (skipSpace s) (c .before .before .before .before .step .ensures) in
-    let none = is-nothing _ (sym (c .enum-told2 .given .1) ∙ c .before .before .value .ensures) in
+    let none = is-nothing _ (sym (c .enum-told2 .given .1) ∙ c .before .before .value-in .ensures) in
     ap (memberOf s)
     (member-entry inner s at e (sym name) (colon .result .at) (octet .result) (colon .ensures) (octet .ensures) (c .before .before .before .before .before .if1 .left) v from nothing (sym none))
 
-add-t18 : tie.Need-add-t18
-add-t18 c =
+add-t19 : tie.Need-add-t19
+add-t19 c =
     let start = c .before .before .before .before .before .before .before .before .before .before .before .before .before .before in
     let s = start .args .s .now in
     let spelled = c .before .before .before .before .before .before .before .before .before .before .spelled .given in
@@ -125,7 +137,7 @@ returns-4 c =
     let got = c .before .before .before .before .found .given in
     let a = got .0 .0 .at in
     let k = got .0 .1 .0 in
-    let is = is-found _ (got .0 .0) k (sym (got .1) ∙ c .before .before .before .before .before .before .value .ensures) in
+    let is = is-found _ (got .0 .0) k (sym (got .1) ∙ c .before .before .before .before .before .before .value-in .ensures) in
     let size = c .before .before .minus in
     let len = c .before .minus2 in
     let next = c .next-entry in
@@ -146,11 +158,11 @@ member-spec =
     returns-2
     step-requires
     skip-space-requires-2
-    value-requires
+    value-in-requires
     enum-known-found
     enum-told-2
     returns-3
-    add-t18
+    add-t19
     add-minus
     minus-requires
     minus-requires-2

@@ -78,7 +78,10 @@ slice-aggregate-own-headers-2 c = search needs
 own-headers-requires : tie.Need-own-headers-requires
 own-headers-requires c κs =
     let pre = c .before .before .before .before .before .before .before .before
-    .before .pre in (pre .0, (pre .1 .1 .1 .0, (pre .1 .1 .1 .1 .0, (refl, refl))))
+    .before .pre in (
+      pre .0,
+      (pre .1 .1 .1 .0, (pre .1 .1 .1 .1 .0, (refl, (refl, pre .1 .1 .1 .1 .1 .1 .1 .1 .1)))),
+    )
 
 enum-told : tie.Need-enum-told
 enum-told c = search needs
@@ -248,7 +251,7 @@ copy-requires c κs =
       has .1 .1,
       c .before .before .before .before .before .before .before .before
           .before .before .before .before .before .before .before .before .before .before .before .before .before
-          .before .before .before .before .before .before .before .before .before .before .pre .1 .1 .1 .1 .1 .1 .1 .1,
+          .before .before .before .before .before .before .before .before .before .before .pre .1 .1 .1 .1 .1 .1 .1 .1 .0,
     )
 
 form-requires : tie.Need-form-requires

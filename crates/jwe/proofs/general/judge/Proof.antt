@@ -2,17 +2,20 @@
 -- its
 -- tables then is the message's members and recipients.
 use mathlib.Core.Path.{_≡_, refl, sym, subst, _∙_}
+use mathlib.Core.List.{List}
 use Prim.Native.Nat.{_≤_}
 use native.Mathlib.Omega.{arith}
 use lib.ListN.{length, replicate}
 use Rattle.names.specs.Names.{names}
+use Rattle.rows.specs.Rows.{Entry, valueOf}
 use Rattle.rows.specs.Tables.{flat, entriesOf}
 use Rattle.jose.specs.Refusals.{first}
 use Rattle.headers.specs.Answers.{Leaves}
 use Rattle.headers.proofs.Stages.{refused-is}
 use Rattle.shape.specs.Recipients.{topEntries, topOrder, elementsOrder, recipientsIn}
 use Rattle.shape.specs.Answers.{flatRecipients}
-use Rattle.jwe.specs.Stages.{recipientsOf}
+use Rattle.shape.proofs.Known.{shared-known, own-known}
+use Rattle.jwe.specs.Stages.{HeaderKnown, HeadersKnown, recipientsOf}
 use Rattle.jwe.proofs.JsonOrder.{json-top, json-elements, json-misspelled}
 use Rattle.jwe.proofs.JsonHeads.{judges-refused}
 use Rattle.jwe.proofs.JsonTop.{top-is, elements-as, listed-is, misspelled-as, protected-sound, judges-json}
@@ -91,7 +94,8 @@ slice-aggregate-recipients-2 c = search needs
 
 recipients-requires : tie.Need-recipients-requires
 recipients-requires c κs =
-    let few = tops (c .before .before) .1 .0 in (
+    let top = tops (c .before .before) in
+    let few = top .1 .0 in (
       c .before .before .before .before .before .before .before .before
           .before .before .before .before .pre .0,
       (
@@ -101,7 +105,7 @@ recipients-requires c κs =
           c .before .before .before .before .before
               .before .top2 .kept .1 .0,
         ),
-        omega arith,
+        (omega arith, (top .0, top .1 .1)),
       ),
     )
 
@@ -181,6 +185,12 @@ shaped-requires c κs =
     let few = tops (c .before .before .before .before .before .before .before .before .before .before .before
     .before .before .before .before) .1 .0 in
     let eight = lists (c .before .before .before .before .before .before .before .before) .1 .0 in
+    let top = tops (c .before .before .before .before .before .before .before .before .before .before .before
+    .before .before .before .before) in
+    let list = lists (c .before .before .before .before .before .before .before .before) in
+    let shared = subst (λ (es : List Entry). HeaderKnown message (valueOf 2 es .start)) (sym (top .1 .1))
+    (shared-known message (top .0)) in
+    let own = subst (HeadersKnown message) (sym (list .1 .1)) (own-known message (top .0) (list .0)) in
     let sound = sym (c .before .before .before .before .before .misspelled .ensures) ∙ c .before .before .before
     .before .if1 .left in (
       pre .0,
@@ -202,7 +212,7 @@ shaped-requires c κs =
                 c .before .before .before .before .before .before .before .before .before .before
                     .before .before .recipients .kept .1 .1 .1 .0,
               ),
-              (protected-sound message _ _ sound, (pre .1 .1 .0, pre .1 .1 .1)),
+              (protected-sound message _ _ sound, (pre .1 .1 .0, (pre .1 .1 .1, (shared, own)))),
             ),
           ),
         ),

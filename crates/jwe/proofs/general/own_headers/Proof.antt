@@ -13,10 +13,10 @@ use Rattle.headers.specs.Answers.{stageOf}
 use Rattle.headers.proofs.Stages.{passed-is, refused-is}
 use Rattle.shape.specs.Shape.{Recipient}
 use Rattle.jwe.specs.General.{ownEntries}
-use Rattle.jwe.specs.Stages.{recipientAt, recipientsOf, Owned, LeavesOwn, ownTests}
+use Rattle.jwe.specs.Stages.{HeaderKnown, recipientAt, recipientsOf, Owned, LeavesOwn, ownTests}
 use Rattle.jwe.proofs.JsonOrder.{object-nonzero}
 use Rattle.jwe.proofs.JsonHeaders.{refuses, passes, few}
-use Rattle.jwe.proofs.RecipientRows.{one-passes, one-refuses, all-pass}
+use Rattle.jwe.proofs.RecipientRows.{header-at, one-passes, one-refuses, all-pass}
 use Rattle.jwe.proofs.OwnHeaders.{own-none, own-more, own-is}
 use borrow.Author.Needs.{needs}
 use Rattle.jwe.proofs.general.own_headers.Statement.{statement}
@@ -65,7 +65,7 @@ loop-holds c =
       (
         start .pre .1 .1 .1 .0,
         (
-          start .pre .1 .1 .1 .1,
+          start .pre .1 .1 .1 .1 .0,
           (own-none (args .message .now) (args .of .now) (args .own .now) (args .counts .now), refl),
         ),
       ),
@@ -84,7 +84,18 @@ mul-unprotected-3 : tie.Need-mul-unprotected-3 Inv-loop μ-loop
 mul-unprotected-3 c = search needs
 
 unprotected-requires : tie.Need-unprotected-requires Inv-loop μ-loop
-unprotected-requires c κs = search needs
+unprotected-requires c κs =
+    let start = c .before .before .before .before .before .before .before .before in
+    let args = start .args in
+    let loop = c .before .before .before .loop in
+    let more = c .before .before .loop-test .taken in (
+      start .pre .0,
+      (
+        omega (arith, loop .inv .1 .0, start .pre .1 .0, more),
+        header-at (HeaderKnown (args .message .now)) (args .number) (loop .i) (args .of .now)
+            (start .pre .1 .1 .1 .1 .1) more,
+      ),
+    )
 
 enum-known-object : tie.Need-enum-known-object Inv-loop μ-loop
 enum-known-object c = search needs

@@ -21,7 +21,7 @@ slice-aggregate-object c = search needs
 object-requires : tie.Need-object-requires
 unfolding listOf registered ascii flatten
 object-requires c κs = let start = c .before .before .before .before
-    .before in (start .pre .0, (filled-list registered, start .pre .1))
+    .before in (start .pre .0, (filled-list registered, (start .pre .1, tt)))
 
 enum-known-object : tie.Need-enum-known-object
 enum-known-object c = search needs

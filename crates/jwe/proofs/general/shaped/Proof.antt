@@ -15,7 +15,7 @@ use Rattle.jose.specs.Refusals.{first}
 use Rattle.headers.specs.Headers.{protectedEntries, objectOrder}
 use Rattle.headers.proofs.Stages.{passed-is, refused-is}
 use Rattle.jwe.specs.General.{sharedEntries}
-use Rattle.jwe.specs.Stages.{recipientsOf, textTests, protectedTests}
+use Rattle.jwe.specs.Stages.{HeaderKnown, recipientsOf, textTests, protectedTests}
 use Rattle.jwe.proofs.JsonHeads.{judges-refused}
 use Rattle.jwe.proofs.JsonShaped.{Begun, begun, Collected, protected-as, protected-collected, shared-as}
 use Rattle.jwe.proofs.JsonShaped.{shared-collected}
@@ -188,11 +188,14 @@ unprotected-requires c κs =
     .before .before .before .before .before .before .before .before .before .before .before in
     let has = collects (c .before .before) .1 in (
       start .pre .0,
-      omega (
-        arith,
-        has .short,
-        c .before .before .before .before .before
-            .before .protected .kept .1 .1 .0,
+      (
+        omega (
+          arith,
+          has .short,
+          c .before .before .before .before .before
+              .before .protected .kept .1 .1 .0,
+        ),
+        subst (HeaderKnown (start .args .message .now)) (sym (c .before .value-of .ensures .0)) (start .pre .1 .1 .1 .1 .1 .1 .1 .1 .0),
       ),
     )
 
@@ -280,7 +283,7 @@ headed-requires c κs =
                         (sym (decodes (c .before .before .before .before .before .before .before .before .before
                         .before .before .before .before .before .before .before .before
                         .before) .1 .front)) printed,
-                    pre .1 .1 .1 .1 .1 .1 .1,
+                    (pre .1 .1 .1 .1 .1 .1 .1 .0, pre .1 .1 .1 .1 .1 .1 .1 .1 .1),
                   ),
                 ),
               ),

@@ -25,7 +25,10 @@ slice-aggregate-object c = search needs
 object-requires : tie.Need-object-requires
 unfolding listOf registered ascii flatten
 object-requires c κs = let start = c .before .before .before .before
-    .before in (start .pre .0, (filled-list registered, start .pre .1))
+    .before in (
+      start .pre .0,
+      (filled-list registered, (start .pre .1 .0, start .pre .1 .1 (c .before .before .if1 .left))),
+    )
 
 same-length : tie.Need-same-length
 same-length c = search needs

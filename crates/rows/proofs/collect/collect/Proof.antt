@@ -53,7 +53,7 @@ fill-requires c κs =
         omega (arith, few ms (got .0 .0) told),
         (
           subst (AllBelow 4294967296) (sym (rows-laid ms (got .0 .0) told _ _ (rows .ensures .1))) below,
-          omega (arith, few ms (got .0 .0) told, start .pre .1 .1),
+          omega (arith, few ms (got .0 .0) told, start .pre .1 .1 .0),
         ),
       ),
     )

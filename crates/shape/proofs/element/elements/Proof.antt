@@ -1,6 +1,9 @@
 -- `elements` reads one element after the other: those so far passed, and those from here on decide.
 use Prim.Native.Nat.{_-_}
 use lib.ListN.{length}
+use Rattle.grammar.specs.Grammar.{curly}
+use Rattle.json.specs.Known.{KnownIn}
+use Rattle.shape.proofs.Known.{every-at}
 use Rattle.shape.proofs.Reading.{Reading, reading, room, read-on, read-length, read-refused, read-out}
 use Rattle.shape.proofs.element.elements.Statement.{statement}
 use Rattle.shape.proofs.element.elements.Tie as tie
@@ -18,7 +21,7 @@ abbrev μ-loop : tie.MeasureT-loop
 loop-holds : tie.Need-loop-holds Inv-loop μ-loop
 loop-holds c =
     let start = c .before .before .before in
-    reading (start .args .message .now) (start .args .starts .now) (start .args .into .now) (start .pre .1)
+    reading (start .args .message .now) (start .args .starts .now) (start .args .into .now) (start .pre .1 .0)
 
 mul-element : tie.Need-mul-element Inv-loop μ-loop
 mul-element c = search needs
@@ -31,7 +34,11 @@ mul-element-2 c = search needs
 
 element-requires : tie.Need-element-requires Inv-loop μ-loop
 element-requires c κs =
-    (c .before .before .before .before .before .before .before .pre .0, room (c .before .before .before .loop .inv) (c .before .before .loop-test .taken))
+    let start = c .before .before .before .before .before .before .before in
+    let more = c .before .before .loop-test .taken in (
+      start .pre .0,
+      (room (c .before .before .before .loop .inv) more, every-at (KnownIn curly 12 (start .args .message .now)) (start .args .starts .now) (c .before .before .before .loop .i) (start .pre .1 .1) more),
+    )
 
 enum-told : tie.Need-enum-told Inv-loop μ-loop
 enum-told c = search needs
