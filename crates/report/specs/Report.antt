@@ -1,4 +1,4 @@
--- Document 01's report on a message ('Belt samples'): `too long`, `refused N`, or `accepted` with what the reader hands out,
+-- What document 01's program writes of a message: `too long`, `refused N`, or `accepted` with what the reader hands out,
 -- in lines.
 use mathlib.Core.List.{List, [], _∷_, _++_}
 use mathlib.Core.Bool.{cond}
