@@ -163,6 +163,7 @@ impl Position {
     }
 
     // A value that begins here, in a text that reads where a bracket opens: of an object or an array the end is sought.
+    // Any other is read by `value`: `scalar` then has one caller and is compiled into it, which makes `judge` quicker.
     fn known(self, s: &[u8], levels: u32) -> Found
         requires { ⌜ Known levels (now s) (self .at) ⌝ }
         ensures { λ r. ⌜ r ≡ foundOf (valueAt levels (now (s .entry)) (self .at)) ⌝ }
@@ -186,7 +187,7 @@ impl Position {
                 1,
             );
         }
-        self.scalar(s)
+        self.value(s, levels)
     }
 
     // The same value, sought or read.

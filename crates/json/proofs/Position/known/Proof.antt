@@ -1,7 +1,6 @@
 -- `known` seeks the end of an object or an array, and reads any other value: what is known makes the two one.
-use mathlib.Core.Path.{ap, _∙_}
+use mathlib.Core.Path.{ap}
 use Rattle.json.specs.Ends.{foundOf}
-use Rattle.json.proofs.ValueParts.{value-scalar}
 use Rattle.json.proofs.Knowing.{sought-object, sought-array}
 use borrow.Author.Needs.{needs}
 use Rattle.json.proofs.Position.known.Statement.{statement}
@@ -42,17 +41,11 @@ returns-2 c =
     (start .pre) (c .before .before .before .if1 .left) (c .before .before .if2 .taken) (inside .result .at)
     (c .past2 .result) (inside .ensures) (c .past2 .ensures))
 
-scalar-requires : tie.Need-scalar-requires
-scalar-requires c κs = search needs
+value-requires : tie.Need-value-requires
+value-requires c κs = search needs
 
 returns-3 : tie.Need-returns-3
-returns-3 c =
-    let start = c .before .before .before .before .before in
-    let head = c .before .before .before .peek in
-    c .scalar .ensures
-    ∙ ap foundOf
-    (value-scalar (start .args .s .now) (start .args .self .at) (head .result) (head .ensures) (start .args .levels)
-    (c .before .before .if1 .left) (c .before .if2 .left))
+returns-3 c = c .value .ensures
 
 pub known-spec : {M : Type 1} → statement M
 known-spec =
@@ -65,5 +58,5 @@ known-spec =
     step-requires-2
     past-requires-2
     returns-2
-    scalar-requires
+    value-requires
     returns-3)
