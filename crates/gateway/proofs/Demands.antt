@@ -7,32 +7,25 @@ use mathlib.Core.Path.{_≡_}
 use mathlib.Core.Logic.{_↔_}
 use mathlib.Core.List.{List, map}
 use Prim.Native.Nat.{ℕ, _≤_, _<_}
-use lib.ListN.{length, getD}
-use Rattle.prelude.specs.Buffer.{written}
-use Rattle.grammar.specs.Places.{placedText, emptiedText}
-use Rattle.grammar.specs.Readings.{Reading}
-use Rattle.grammar.proofs.Theorems as json
+use lib.ListN.{length}
 use Rattle.jwe.specs.Judge.{refusal, refused, outcome, result, headerAfter, listAfter}
 use Rattle.meets.specs.Meets.{Meets, count}
-use Rattle.meets.specs.Handed.{Rows, entries, Applies}
-use Rattle.meets.specs.Handed.{count as rows}
-use Rattle.meets.proofs.HandedExactly.{HandedOut}
-use Rattle.meets.proofs.AppliesOnce as AppliesOnce
 use Rattle.meets.proofs.Refused as Refused
 use Rattle.meets.proofs.Accepted as Accepted
+use Rattle.refusals.specs.Table.{Refuses}
+use Rattle.refusals.specs.Numbers.{numbersTable}
+use Rattle.refusals.specs.Writing.{writeTable}
+use Rattle.refusals.proofs.Refused as Numbers
+use Rattle.refusals.proofs.WriteRefuses as Writing
 use Rattle.jwe_write.specs.Write.{Raw, compactText, writeRefusal}
 use Rattle.round_trips.specs.Trips.{RawOctets, writtenPlaces, writtenOutcome, ShowsAll, takenApart}
 use Rattle.round_trips.proofs.RoundTrips as RoundTrips
+use Rattle.means.specs.Means.{HandsOut, ResultMeans}
+use Rattle.means.proofs.HandsOut as HandsOut
+use Rattle.means.proofs.ResultMeans as ResultMeans
+use Rattle.means.proofs.ResultOnce as ResultOnce
 use Rattle.gateway.specs.Samples.{Sample, answer, samples}
 use Rattle.gateway.proofs.Samples as Samples
-
-handed : (message known buffer list : List ℕ) (recipient : ℕ)
-    (m : Meets message known recipient (length buffer) (length list)) (n : ℕ) → n < count (m .form) →
-    HandedOut message known n buffer list
-    × ((h k : List ℕ) (x y : Rows) → Applies message n h x → Applies message n k y → (h ≡ k) × (x ≡ y))
-handed message known buffer list =
-    AppliesOnce.handed-for-each message known buffer list
-    (λ n. Accepted.accepted-exactly message known n (length buffer) (length list) .1)
 
 -- Demand 1. A refusal is a number from document 01's table; its result is that number with zeros, and both lent buffers are
 -- as they were.
@@ -54,6 +47,18 @@ pub accepted-exactly : (message known : List ℕ) (recipient headerLent listLent
     (refusal message known recipient headerLent listLent ≡ 0) ↔ Meets message known recipient headerLent listLent
 accepted-exactly = Accepted.accepted-exactly
 
+-- Demand 2, refusal. A number is given exactly where its rule is the first in document 01's order that is broken
+-- (crates/refusals/specs/Numbers.antt): its sentence does not hold, and those before it do. 0: none is broken.
+pub refused-exactly : (message known : List ℕ) (recipient headerLent listLent k : ℕ) →
+    (refusal message known recipient headerLent listLent ≡ k)
+    ↔ Refuses (numbersTable message known recipient headerLent listLent) k
+refused-exactly = Numbers.refused-exactly
+
+-- And of the compact writer (crates/refusals/specs/Writing.antt).
+pub write-refused-exactly : (c : Raw) (known : List ℕ) (room k : ℕ) →
+    (writeRefusal c known room ≡ k) ↔ Refuses (writeTable c known room) k
+write-refused-exactly = Writing.write-refused-exactly
+
 -- Demand 2, round trips (crates/round_trips/specs/Trips.antt). What the compact writer writes of octets, read with the same
 -- list and the room that is asked for, is accepted; handed out are the places of the components, the header that was given
 -- and its parameters; and each place shows its component encoded, which decodes to what was given.
@@ -73,36 +78,27 @@ pub read-writes-back : (message known : List ℕ) (recipient headerLent listLent
     × (compactText (takenApart message recipient) ≡ message)
 read-writes-back = RoundTrips.read-writes-back
 
--- Demand 3. For each message that demand 2 accepts with what is lent, and each recipient number n below its count: there are a
--- header and rows that apply to n by the grammar (crates/meets/specs/Handed.antt), the header buffer begins with that
--- header and goes on as it was, the list begins with the entries of those rows and goes on as it was, and the result has
--- the header's length and the number of rows ..
-pub listed-exactly : (message known buffer list : List ℕ) (recipient : ℕ)
+-- Demand 3 (crates/means/specs/Means.antt). For each message that demand 2 accepts with what is lent, and each recipient
+-- number n below its count: one header and one list of rows apply to n by the grammar, whatever was known and lent; they are
+-- what the lent memory begins with, its rest unchanged, and their lengths stand in the result; they are the header's octets
+-- and, one for one, the parameters of what the message meets; and the message, if it is JSON, and the header, if there is one,
+-- each have exactly one reading.
+pub handed-out : (message known buffer list : List ℕ) (recipient : ℕ)
     (m : Meets message known recipient (length buffer) (length list)) (n : ℕ) → n < count (m .form) →
-    (header : List ℕ)
-    × (x : Rows)
-    × Applies message n header x
-    × (headerAfter message known n buffer list ≡ written 0 header buffer)
-    × (listAfter message known n buffer list ≡ written 0 (entries x) list)
-    × (length header ≤ length buffer)
-    × (length (entries x) ≤ length list)
-    × (getD (result message known n (length buffer) (length list)) 16 0 ≡ length header)
-    × (getD (result message known n (length buffer) (length list)) 17 0 ≡ rows x)
-listed-exactly message known buffer list recipient m n below =
-    let h = handed message known buffer list recipient m n below .0 in
-    (h .header, h .rows, h .applies, h .headerIs, h .listIs, h .headerFits, h .listFits, h .headerLength, h .parameterCount)
+    HandsOut known buffer list (m .form) n
+handed-out = HandsOut.hands-out
 
--- .. and no other header or rows apply to it: exactly the parameters that apply are listed, whatever was known and lent.
-pub applies-once : (message known buffer list : List ℕ) (recipient : ℕ)
-    (m : Meets message known recipient (length buffer) (length list)) (n : ℕ) → n < count (m .form) →
-    (h k : List ℕ) (x y : Rows) → Applies message n h x → Applies message n k y → (h ≡ k) × (x ≡ y)
-applies-once message known buffer list recipient m n below = handed message known buffer list recipient m n below .1
+-- The result of such a message for n: its numbers mean what the message meets ..
+pub result-means : (message known : List ℕ) (recipient headerLent listLent : ℕ)
+    (m : Meets message known recipient headerLent listLent) (n : ℕ) → n < count (m .form) →
+    ResultMeans (m .form) n (result message known n headerLent listLent)
+result-means = ResultMeans.result-means
 
--- A text has exactly one reading of those that are asked for, spaces aside, or none, and all put every name and value at one
--- place, with one kind.
-pub one-reading : (s : List ℕ) (r q : Reading 12 s) →
-    (emptiedText (r .text) ≡ emptiedText (q .text)) × (placedText (r .text) ≡ placedText (q .text))
-one-reading = json.one-reading 12
+-- .. and no other numbers do.
+pub result-once : (message known : List ℕ) (recipient headerLent listLent : ℕ)
+    (m : Meets message known recipient headerLent listLent) (n : ℕ) → n < count (m .form) →
+    (r : List ℕ) → ResultMeans (m .form) n r → r ≡ result message known n headerLent listLent
+result-once = ResultOnce.result-once
 
 -- Every sample of document 01 holds.
 pub samples-hold : map (λ (s : Sample). answer (s .input)) samples ≡ map (λ (s : Sample). s .expected) samples

@@ -1,10 +1,13 @@
--- Idle programs do not meet the contract of `read`: one that always refuses, one constant answer, one that writes no list, one
--- that lists the same for every recipient. Each falls to a message, by computation.
-use mathlib.Core.Path.{_≡_, refl, ap, sym, _∙_}
-use mathlib.Core.Bool.{xor}
-use mathlib.Core.List.{List, [], _∷_, _++_, flatMap, replicate}
+-- Idle programs do not meet the contract of `read`: one that always refuses, one constant answer, one that exchanges two
+-- numbers of refusal; and, on accepted messages alone, one that writes no list or the same for every recipient, one mode or key
+-- for every recipient, and a form, a recipient count, a mode or a parameter count that does not look at the message. Each
+-- falls to messages, by computation.
+use mathlib.Core.Path.{_≡_, refl, ap, sym, subst, _∙_}
+use mathlib.Core.Bool.{xor, cond}
+use mathlib.Core.List.{List, [], _∷_, flatMap, replicate}
 use Prim.Native.Nat.{ℕ}
-use lib.ListN.{length, getD}
+use lib.ListN.{length, getD, getD-replicate}
+use lib.Dec.{eqb}
 use native.Mathlib.Omega.{arith}
 use Rattle.prelude.specs.Buffer.{written}
 use Rattle.prelude.specs.Ascii.{ascii}
@@ -17,12 +20,12 @@ use Rattle.grammar.specs.Spellings.{undo, undoFrom, adds, next, equal, has, ali
 use Rattle.grammar.specs.Reader.{passOver, skip, turn, scanString, stringAt, digitsAt, intAt, perhapsAt, fractionAt}
 use Rattle.grammar.specs.Reader.{exponentAt, numberAt, wordAt, beforeAt, entryAt, entriesAt, rowsAt, nestedAt, rowsIn}
 use Rattle.grammar.specs.Reader.{valueWith, valueAt, membersAt, elementsOf, elementsAt, readText, opensObject}
-use Rattle.rows.specs.Any.{any, anyPair}
+use Rattle.prelude.specs.Any.{any, anyPair}
 use Rattle.rows.specs.Rows.{entriesIn, present, valueOf, repeated}
 use Rattle.rows.specs.Tables.{listed}
 use Rattle.jose.specs.Registered.{registered, kindAsked}
 use Rattle.algorithms.specs.Algorithms.{algs, algName, encs, encName, algNames, encNames, zipNames, nth}
-use Rattle.jose.specs.Refusals.{first}
+use Rattle.prelude.specs.Refusals.{first}
 use Rattle.jose.specs.HeaderRules.{incomplete, wrongCrit, modeIn, recipientOrder}
 use Rattle.headers.specs.Components.{misspelled}
 use Rattle.headers.specs.Headers.{headerText, unread, textOrder, outermost, protectedEntries, membersOf, headerEntries}
@@ -34,57 +37,164 @@ use Rattle.jwe.specs.Compact.{stops, fourStops, compactComponents, compactOrder
 use Rattle.jwe.specs.General.{sharedEntries, ownEntries, parameters, allPlaces, anyMisspelled, protectedOrder}
 use Rattle.jwe.specs.General.{headersOrder, recipientsOrder, jsonOrder}
 use Rattle.jwe.specs.Judge.{order, refusal, compactOutcome, asked, jsonOutcome, outcome, accepted, refused, result, listAfter}
+use Rattle.meets.specs.Meets.{Meets}
+use Rattle.meets.proofs.Accepted.{accepted-exactly}
+use Rattle.refusals.specs.Table.{Refuses}
+use Rattle.refusals.specs.Numbers.{numbersTable}
+use Rattle.refusals.proofs.Renumbered.{renumber, numbers-fixed}
 use Rattle.gateway.specs.Samples.{M}
 
--- Two recipients with headers of their own.
+-- Beside document 01's M, a compact message with two parameters: a flattened one with three, a general one with two recipients of
+-- their own algorithms and keys, and one that is refused: its header `{"enc":1}` breaks 13 and 14.
+
+abbrev three : List ℕ
+three =
+    ascii "{\"unprotected\":{\"alg\":\"A128KW\",\"enc\":\"A128GCM\",\"kid\":\"a\"},\"encrypted_key\":\"AA\",\"ciphertext\":\"\"}"
+
 abbrev two : List ℕ
 two =
-    ascii "{\"unprotected\":{\"enc\":\"A128GCM\"},\"recipients\":[{\"header\":{\"alg\":\"dir\"}},{\"header\":{\"alg\":\"dir\"}}],\"ciphertext\":\"\"}"
+    ascii "{\"unprotected\":{\"enc\":\"A128GCM\"},\"recipients\":[{\"header\":{\"alg\":\"dir\"}},{\"header\":{\"alg\":\"A128KW\"},\"encrypted_key\":\"AA\"}],\"ciphertext\":\"\"}"
 
-accepts : refusal M (0 ∷ []) 0 4096 576 ≡ 0
+abbrev broken : List ℕ
+broken = ascii "eyJlbmMiOjF9...."
+
+-- No names known.
+abbrev none : List ℕ
+none = 0 ∷ []
+
+abbrev answered : List ℕ → ℕ → ℕ → ℕ
+answered message n i = getD (result message none n 4096 576) i 0
+
+abbrev list : ℕ → List ℕ
+list n = listAfter two none n (replicate 4096 0) (replicate 576 0)
+
+record Computed : Type 0 where
+  one : refusal M none 0 4096 576 ≡ 0
+  other : refusal three none 0 4096 576 ≡ 0
+  first : refusal two none 0 4096 576 ≡ 0
+  second : refusal two none 1 4096 576 ≡ 0
+  forms : (answered M 0 1 ≡ 0) × (answered three 0 1 ≡ 1)
+  counts : (answered M 0 2 ≡ 1) × (answered two 0 2 ≡ 2)
+  modes : (answered two 0 3 ≡ 5) × (answered two 1 3 ≡ 2) × (answered M 0 3 ≡ 5) × (answered three 0 3 ≡ 2)
+  keys : (answered two 0 7 ≡ 0) × (answered two 1 7 ≡ 2)
+  parameters : (answered M 0 17 ≡ 2) × (answered three 0 17 ≡ 3)
+  lists : (getD (list 0) 7 0 ≡ 59) × (getD (list 1) 7 0 ≡ 84)
+  numbers : (answered M 0 0 ≡ 0) × (answered broken 0 0 ≡ 13)
+  exchanged : refusal broken none 0 4096 576 ≡ 13
+
+computed : Computed
 unfolding ascii alphabet character placeIn sixBits sextets octets encoded decoded firstOutside spareBits fault names sound limited filled total cut numberIn part seek seekIn holds utf8 utf8After follow encode undo undoFrom adds next equal has alike fingerprint passOver skip turn scanString stringAt digitsAt intAt perhapsAt fractionAt exponentAt numberAt wordAt beforeAt entryAt entriesAt rowsAt nestedAt rowsIn valueWith valueAt membersAt elementsOf elementsAt readText opensObject any anyPair entriesIn present valueOf repeated listed registered kindAsked algs algName encs encName algNames encNames zipNames nth first incomplete wrongCrit modeIn recipientOrder misspelled headerText unread textOrder outermost protectedEntries membersOf headerEntries objectOrder memberNames memberEntries wrongMember wrongTop wrongElements wrongElement topEntries topOrder elementsIn elementEntries elementOrder elementsOrder recipientsIn componentsIn stops fourStops compactComponents compactOrder sharedEntries ownEntries parameters allPlaces anyMisspelled protectedOrder headersOrder recipientsOrder jsonOrder order refusal compactOutcome asked jsonOutcome outcome accepted refused result written listAfter flatMap xor
-accepts = refl
+computed = record {
+  one = refl;
+  other = refl;
+  first = refl;
+  second = refl;
+  forms = (refl, refl);
+  counts = (refl, refl);
+  modes = (refl, refl, refl, refl);
+  keys = (refl, refl);
+  parameters = (refl, refl);
+  lists = (refl, refl);
+  numbers = (refl, refl);
+  exchanged = refl;
+}
 
+meets : (message : List ℕ) (n : ℕ) → refusal message none n 4096 576 ≡ 0 → Meets message none n 4096 576
+meets message n = accepted-exactly message none n 4096 576 .0
+
+apart : (m n : ℕ) (k l : ℕ) → m ≡ k → n ≡ l → (k ≡ l → ⊥) → m ≡ n → ⊥
+apart m n k l p q d e = d (sym p ∙ e ∙ q)
+
+-- Always refusing.
 pub not-always-refusing : ((message known : List ℕ) (recipient headerLent listLent : ℕ) →
     refusal message known recipient headerLent listLent ≡ 0 → ⊥) → ⊥
-not-always-refusing refuses = refuses M (0 ∷ []) 0 4096 576 accepts
+not-always-refusing refuses = refuses M none 0 4096 576 (computed .one)
 
-refuses-nothing : refusal [] (0 ∷ []) 0 4096 576 ≡ 4
-unfolding ascii alphabet character placeIn sixBits sextets octets encoded decoded firstOutside spareBits fault names sound limited filled total cut numberIn part seek seekIn holds utf8 utf8After follow encode undo undoFrom adds next equal has alike fingerprint passOver skip turn scanString stringAt digitsAt intAt perhapsAt fractionAt exponentAt numberAt wordAt beforeAt entryAt entriesAt rowsAt nestedAt rowsIn valueWith valueAt membersAt elementsOf elementsAt readText opensObject any anyPair entriesIn present valueOf repeated listed registered kindAsked algs algName encs encName algNames encNames zipNames nth first incomplete wrongCrit modeIn recipientOrder misspelled headerText unread textOrder outermost protectedEntries membersOf headerEntries objectOrder memberNames memberEntries wrongMember wrongTop wrongElements wrongElement topEntries topOrder elementsIn elementEntries elementOrder elementsOrder recipientsIn componentsIn stops fourStops compactComponents compactOrder sharedEntries ownEntries parameters allPlaces anyMisspelled protectedOrder headersOrder recipientsOrder jsonOrder order refusal compactOutcome asked jsonOutcome outcome accepted refused result written listAfter flatMap xor
-refuses-nothing = refl
-
-accepted-number : getD (result M (0 ∷ []) 0 4096 576) 0 0 ≡ 0
-unfolding ascii alphabet character placeIn sixBits sextets octets encoded decoded firstOutside spareBits fault names sound limited filled total cut numberIn part seek seekIn holds utf8 utf8After follow encode undo undoFrom adds next equal has alike fingerprint passOver skip turn scanString stringAt digitsAt intAt perhapsAt fractionAt exponentAt numberAt wordAt beforeAt entryAt entriesAt rowsAt nestedAt rowsIn valueWith valueAt membersAt elementsOf elementsAt readText opensObject any anyPair entriesIn present valueOf repeated listed registered kindAsked algs algName encs encName algNames encNames zipNames nth first incomplete wrongCrit modeIn recipientOrder misspelled headerText unread textOrder outermost protectedEntries membersOf headerEntries objectOrder memberNames memberEntries wrongMember wrongTop wrongElements wrongElement topEntries topOrder elementsIn elementEntries elementOrder elementsOrder recipientsIn componentsIn stops fourStops compactComponents compactOrder sharedEntries ownEntries parameters allPlaces anyMisspelled protectedOrder headersOrder recipientsOrder jsonOrder order refusal compactOutcome asked jsonOutcome outcome accepted refused result written listAfter flatMap xor
-accepted-number = refl
-
-refused-number : getD (result [] (0 ∷ []) 0 4096 576) 0 0 ≡ 4
-unfolding ascii alphabet character placeIn sixBits sextets octets encoded decoded firstOutside spareBits fault names sound limited filled total cut numberIn part seek seekIn holds utf8 utf8After follow encode undo undoFrom adds next equal has alike fingerprint passOver skip turn scanString stringAt digitsAt intAt perhapsAt fractionAt exponentAt numberAt wordAt beforeAt entryAt entriesAt rowsAt nestedAt rowsIn valueWith valueAt membersAt elementsOf elementsAt readText opensObject any anyPair entriesIn present valueOf repeated listed registered kindAsked algs algName encs encName algNames encNames zipNames nth first incomplete wrongCrit modeIn recipientOrder misspelled headerText unread textOrder outermost protectedEntries membersOf headerEntries objectOrder memberNames memberEntries wrongMember wrongTop wrongElements wrongElement topEntries topOrder elementsIn elementEntries elementOrder elementsOrder recipientsIn componentsIn stops fourStops compactComponents compactOrder sharedEntries ownEntries parameters allPlaces anyMisspelled protectedOrder headersOrder recipientsOrder jsonOrder order refusal compactOutcome asked jsonOutcome outcome accepted refused result written listAfter flatMap xor
-refused-number = refl
-
+-- One constant answer.
 pub not-constant : (r : List ℕ) → ((message known : List ℕ) (recipient headerLent listLent : ℕ) →
     result message known recipient headerLent listLent ≡ r) → ⊥
 not-constant r same =
-    let a = ap (λ (x : List ℕ). getD x 0 0) (same M (0 ∷ []) 0 4096 576 ∙ sym (same [] (0 ∷ []) 0 4096 576)) in
-    let z = sym accepted-number ∙ a ∙ refused-number in
-    absurd (omega (arith, z))
+    let c = computed in
+    apart (answered M 0 0) (answered broken 0 0) 0 13 (c .numbers .0) (c .numbers .1) (λ z. omega arith)
+    (ap (λ (x : List ℕ). getD x 0 0) (same M none 0 4096 576 ∙ sym (same broken none 0 4096 576)))
 
-listed-name : getD (listAfter M (0 ∷ []) 0 (replicate 4096 0) (replicate 576 0)) 1 0 ≡ 2
-unfolding ascii alphabet character placeIn sixBits sextets octets encoded decoded firstOutside spareBits fault names sound limited filled total cut numberIn part seek seekIn holds utf8 utf8After follow encode undo undoFrom adds next equal has alike fingerprint passOver skip turn scanString stringAt digitsAt intAt perhapsAt fractionAt exponentAt numberAt wordAt beforeAt entryAt entriesAt rowsAt nestedAt rowsIn valueWith valueAt membersAt elementsOf elementsAt readText opensObject any anyPair entriesIn present valueOf repeated listed registered kindAsked algs algName encs encName algNames encNames zipNames nth first incomplete wrongCrit modeIn recipientOrder misspelled headerText unread textOrder outermost protectedEntries membersOf headerEntries objectOrder memberNames memberEntries wrongMember wrongTop wrongElements wrongElement topEntries topOrder elementsIn elementEntries elementOrder elementsOrder recipientsIn componentsIn stops fourStops compactComponents compactOrder sharedEntries ownEntries parameters allPlaces anyMisspelled protectedOrder headersOrder recipientsOrder jsonOrder order refusal compactOutcome asked jsonOutcome outcome accepted refused result written listAfter flatMap xor
-listed-name = refl
+-- 13 for 14 and 14 for 13: the sentences of document 01 with these two exchanged are not what the reader gives.
 
-pub not-listless : ((message known : List ℕ) (recipient : ℕ) (buffer list : List ℕ) →
-    listAfter message known recipient buffer list ≡ list) → ⊥
+abbrev exchanged : ℕ → ℕ
+exchanged n = cond (eqb n 13) 14 (cond (eqb n 14) 13 n)
+
+pub not-exchanged : ((message known : List ℕ) (recipient headerLent listLent : ℕ) →
+    Refuses (renumber exchanged (numbersTable message known recipient headerLent listLent))
+    (refusal message known recipient headerLent listLent)) → ⊥
+not-exchanged other =
+    let gives = computed .exchanged in
+    let z : _≡_ {A = ℕ} 13 14 =
+    numbers-fixed exchanged broken none 0 4096 576 13 (λ e. omega arith) gives
+    (subst (Refuses (renumber exchanged (numbersTable broken none 0 4096 576))) gives (other broken none 0 4096 576)) in
+    omega arith
+
+-- On accepted messages alone
+
+lists-apart : (x y : List ℕ) → getD x 7 0 ≡ 84 → getD y 7 0 ≡ 59 → x ≡ y → ⊥
+lists-apart x y p q e = let z = ap (λ (w : List ℕ). getD w 7 0) e in omega arith
+
+unlisted : (x : List ℕ) → getD x 7 0 ≡ 84 → x ≡ replicate 576 0 → ⊥
+unlisted x p e =
+    let z = ap (λ (w : List ℕ). getD w 7 0) e ∙ getD-replicate 576 7 0 0 (omega arith) in
+    omega arith
+
+-- No list.
+pub not-listless : ((message known buffer list : List ℕ) (n : ℕ) →
+    Meets message known n (length buffer) (length list) → listAfter message known n buffer list ≡ list) → ⊥
 not-listless same =
-    let a = ap (λ (x : List ℕ). getD x 1 0) (same M (0 ∷ []) 0 (replicate 4096 0) (replicate 576 0)) in
-    let z = sym listed-name ∙ a in
-    absurd (omega (arith, z))
+    let c = computed in
+    unlisted (list 1) (c .lists .1) (same two none (replicate 4096 0) (replicate 576 0) 1 (meets two 1 (c .second)))
 
-own-names : (getD (listed (outcome two 0 .entries)) 7 0 ≡ 59) × (getD (listed (outcome two 1 .entries)) 7 0 ≡ 84)
-unfolding ascii alphabet character placeIn sixBits sextets octets encoded decoded firstOutside spareBits fault names sound limited filled total cut numberIn part seek seekIn holds utf8 utf8After follow encode undo undoFrom adds next equal has alike fingerprint passOver skip turn scanString stringAt digitsAt intAt perhapsAt fractionAt exponentAt numberAt wordAt beforeAt entryAt entriesAt rowsAt nestedAt rowsIn valueWith valueAt membersAt elementsOf elementsAt readText opensObject any anyPair entriesIn present valueOf repeated listed registered kindAsked algs algName encs encName algNames encNames zipNames nth first incomplete wrongCrit modeIn recipientOrder misspelled headerText unread textOrder outermost protectedEntries membersOf headerEntries objectOrder memberNames memberEntries wrongMember wrongTop wrongElements wrongElement topEntries topOrder elementsIn elementEntries elementOrder elementsOrder recipientsIn componentsIn stops fourStops compactComponents compactOrder sharedEntries ownEntries parameters allPlaces anyMisspelled protectedOrder headersOrder recipientsOrder jsonOrder order refusal compactOutcome asked jsonOutcome outcome accepted refused result written listAfter flatMap xor
-own-names = (refl, refl)
-
-pub not-the-same-for-all : ((message : List ℕ) (n : ℕ) → listed (outcome message n .entries) ≡ listed (outcome message 0 .entries)) → ⊥
+-- One list for every recipient.
+pub not-the-same-for-all : ((message known buffer list : List ℕ) (n : ℕ) →
+    Meets message known n (length buffer) (length list) →
+    listAfter message known n buffer list ≡ listAfter message known 0 buffer list) → ⊥
 not-the-same-for-all same =
-    let a = ap (λ (x : List ℕ). getD x 7 0) (same two 1) in
-    let z = sym (own-names .1) ∙ a ∙ own-names .0 in
-    absurd (omega (arith, z))
+    let c = computed in
+    lists-apart (list 1) (list 0) (c .lists .1) (c .lists .0)
+    (same two none (replicate 4096 0) (replicate 576 0) 1 (meets two 1 (c .second)))
+
+-- One number of the result for every recipient: its mode (3), the length of its key (7).
+abbrev pub Shared : ℕ → Type 0
+Shared i =
+    (message known : List ℕ) (n headerLent listLent : ℕ) → Meets message known n headerLent listLent →
+    getD (result message known n headerLent listLent) i 0 ≡ getD (result message known 0 headerLent listLent) i 0
+
+pub not-shared : (Shared 3 → ⊥) × (Shared 7 → ⊥)
+not-shared =
+    let c = computed in (
+      (λ same. apart (answered two 1 3) (answered two 0 3) 2 5 (c .modes .1) (c .modes .0) (λ z. omega arith)
+          (same two none 1 4096 576 (meets two 1 (c .second)))),
+      (λ same. apart (answered two 1 7) (answered two 0 7) 2 0 (c .keys .1) (c .keys .0) (λ z. omega arith)
+          (same two none 1 4096 576 (meets two 1 (c .second)))),
+    )
+
+-- A number of the result that is made up of everything but the message: its form (1), the recipient count (2), the mode (3),
+-- the parameter count (17).
+abbrev pub MadeUp : ℕ → Type 0
+MadeUp i =
+    (k : List ℕ → ℕ → ℕ → ℕ → ℕ)
+    × ((message known : List ℕ) (n headerLent listLent : ℕ) → Meets message known n headerLent listLent →
+    getD (result message known n headerLent listLent) i 0 ≡ k known n headerLent listLent)
+
+made-up : (i : ℕ) (s t : List ℕ) → refusal s none 0 4096 576 ≡ 0 → refusal t none 0 4096 576 ≡ 0 →
+    (answered s 0 i ≡ answered t 0 i → ⊥) → MadeUp i → ⊥
+made-up i s t a b d (k, e) = d (e s none 0 4096 576 (meets s 0 a) ∙ sym (e t none 0 4096 576 (meets t 0 b)))
+
+pub not-made-up : (MadeUp 1 → ⊥) × (MadeUp 2 → ⊥) × (MadeUp 3 → ⊥) × (MadeUp 17 → ⊥)
+not-made-up =
+    let c = computed in (
+      made-up 1 M three (c .one) (c .other)
+          (apart (answered M 0 1) (answered three 0 1) 0 1 (c .forms .0) (c .forms .1) (λ z. omega arith)),
+      made-up 2 M two (c .one) (c .first)
+          (apart (answered M 0 2) (answered two 0 2) 1 2 (c .counts .0) (c .counts .1) (λ z. omega arith)),
+      made-up 3 M three (c .one) (c .other)
+          (apart (answered M 0 3) (answered three 0 3) 5 2 (c .modes .2) (c .modes .3) (λ z. omega arith)),
+      made-up 17 M three (c .one) (c .other)
+          (apart (answered M 0 17) (answered three 0 17) 2 3 (c .parameters .0) (c .parameters .1) (λ z. omega arith)),
+    )

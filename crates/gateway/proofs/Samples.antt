@@ -13,12 +13,12 @@ use Rattle.grammar.specs.Spellings.{undo, undoFrom, adds, next, equal, has, ali
 use Rattle.grammar.specs.Reader.{passOver, skip, turn, scanString, stringAt, digitsAt, intAt, perhapsAt, fractionAt}
 use Rattle.grammar.specs.Reader.{exponentAt, numberAt, wordAt, beforeAt, entryAt, entriesAt, rowsAt, nestedAt, rowsIn}
 use Rattle.grammar.specs.Reader.{valueWith, valueAt, membersAt, elementsOf, elementsAt, readText, opensObject}
-use Rattle.rows.specs.Any.{any, anyPair}
+use Rattle.prelude.specs.Any.{any, anyPair}
 use Rattle.rows.specs.Rows.{entriesIn, present, valueOf, repeated}
 use Rattle.rows.specs.Tables.{listed}
 use Rattle.jose.specs.Registered.{registered, kindAsked}
 use Rattle.algorithms.specs.Algorithms.{algs, algName, encs, encName, algNames, encNames, zipNames, nth}
-use Rattle.jose.specs.Refusals.{first}
+use Rattle.prelude.specs.Refusals.{first}
 use Rattle.jose.specs.HeaderRules.{incomplete, wrongCrit, modeIn, recipientOrder}
 use Rattle.headers.specs.Components.{misspelled}
 use Rattle.headers.specs.Headers.{headerText, unread, textOrder, outermost, protectedEntries, membersOf, headerEntries}

@@ -14,9 +14,9 @@ use Rattle.grammar.specs.Reader.{skipSpace, membersAt}
 use Rattle.rows.specs.Rows.{Entry, repeated, entryOf, entriesIn}
 use Rattle.rows.specs.Tables.{flat, entriesOf, collectedTable}
 use Rattle.rows.proofs.Entries.{flat-length, entries-written}
-use Rattle.jose.specs.Refusals.{first}
+use Rattle.prelude.specs.Refusals.{first}
 use Rattle.jose.specs.Registered.{registered}
-use Rattle.headers.specs.Limits.{mostMembers}
+use Rattle.prelude.specs.Limits.{mostMembers}
 use Rattle.headers.specs.Headers.{outermost, protectedEntries, objectOrder}
 use Rattle.headers.specs.Answers.{stageOf}
 use Rattle.headers.specs.declared.Stage.the-variants as stage

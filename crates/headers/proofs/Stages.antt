@@ -10,8 +10,8 @@ use borrow.Author.Tests.{eqb-true, eqb-false}
 use Rattle.rows.specs.Rows.{Entry}
 use Rattle.jose.specs.Judged.{judgedOf}
 use Rattle.jose.specs.declared.judge.Judged.the-variants as ruled
-use Rattle.jose.specs.Refusals.{Test, first}
-use Rattle.jose.proofs.Refusals.{nonzero, first-stop}
+use Rattle.prelude.specs.Refusals.{Test, first}
+use Rattle.prelude.proofs.Refusals.{nonzero, first-stop}
 use Rattle.headers.specs.Headers.{tooLong, unread, textOrder, objectOrder}
 use Rattle.headers.specs.Answers.{stageOf}
 use Rattle.headers.specs.declared.Stage.the-variants.{Passed, Refused}

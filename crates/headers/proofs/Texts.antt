@@ -19,7 +19,7 @@ use Rattle.grammar.specs.Reader.{Answer, nothing, found, readText}
 use Rattle.json.specs.Ends.{foundOf}
 use Rattle.json.specs.declared.Found.{Found}
 use Rattle.json.specs.declared.Found.the-variants.{Value, Nothing}
-use Rattle.jose.specs.Refusals.{first}
+use Rattle.prelude.specs.Refusals.{first}
 use Rattle.headers.specs.Components.{octetsAt, misspelled}
 use Rattle.headers.specs.Headers.{headerText, tooLong, isNothing, unread, textOrder}
 use Rattle.headers.specs.Answers.{stageOf, headerBuffer}

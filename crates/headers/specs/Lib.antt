@@ -1,4 +1,3 @@
-pub mod Limits
 pub mod Components
 pub mod Headers
 pub mod Answers

@@ -9,7 +9,7 @@ ghost use Rattle.grammar.specs.Reader.{membersAt};
 ghost use Rattle.json.specs.Known.{Given, KnownIn};
 ghost use Rattle.rows.specs.Rows.{entriesIn};
 ghost use Rattle.rows.specs.Tables.{collectedTable};
-ghost use Rattle.jose.specs.Refusals.{first};
+ghost use Rattle.prelude.specs.Refusals.{first};
 ghost use Rattle.headers.specs.Components.{misspelled};
 ghost use Rattle.headers.specs.Headers.{headerText, textOrder, protectedEntries, objectOrder};
 ghost use Rattle.headers.specs.Answers.{placeOf, stageOf, headerBuffer};

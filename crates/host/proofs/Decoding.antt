@@ -18,7 +18,7 @@ use Rattle.parts.specs.Parts.{part}
 use Rattle.parts.proofs.Laws.{part-fits}
 use Rattle.grammar.specs.Bounds.{Every}
 use Rattle.grammar.specs.Places.{Place}
-use Rattle.headers.specs.Limits.{headerRoom, listRoom}
+use Rattle.prelude.specs.Limits.{headerRoom, listRoom}
 use Rattle.headers.specs.Components.{misspelled, octetsAt, absent, Components, places}
 use Rattle.jwe.specs.Judge.{refusal, refused, outcome, accepted, result}
 use Rattle.jwe.specs.Answers.{numbers, componentsOf}

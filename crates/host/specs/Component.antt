@@ -7,7 +7,7 @@ use lib.Dec.{eqb, leb}
 use Rattle.prelude.specs.Buffer.{written}
 use Rattle.base64url.specs.Base64url.{decoded}
 use Rattle.grammar.specs.Places.{Place}
-use Rattle.headers.specs.Limits.{headerRoom, listRoom}
+use Rattle.prelude.specs.Limits.{headerRoom, listRoom}
 use Rattle.headers.specs.Components.{octetsAt, absent, Components, places}
 use Rattle.jwe.specs.Judge.{refusal, outcome}
 

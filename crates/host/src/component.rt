@@ -1,7 +1,7 @@
 // A message judged, and one of its components decoded.
 ghost use mathlib.Core.Path.{_≡_};
 ghost use lib.ListN.{length};
-ghost use Rattle.headers.specs.Limits.{headerRoom, listRoom};
+ghost use Rattle.prelude.specs.Limits.{headerRoom, listRoom};
 ghost use Rattle.jwe.specs.Judge.{refusal};
 ghost use Rattle.jwe.specs.Answers.{codePlace, componentsOf};
 ghost use Rattle.host.specs.Component.{componentPlace, componentRefusal, componentCount, componentBuffer};

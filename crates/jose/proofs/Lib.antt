@@ -1,5 +1,3 @@
--- The first test that fails; for crates above.
-pub mod Refusals
 -- For the proofs of the functions.
 pub mod Asked
 pub mod Elements

@@ -9,11 +9,11 @@ use Rattle.names.specs.Names.{numberIn}
 use Rattle.grammar.specs.Places.{Element}
 use Rattle.grammar.specs.Reader.{elementsAt}
 use Rattle.grammar.specs.Spellings.{alike}
-use Rattle.rows.specs.Any.{any, anyPair}
+use Rattle.prelude.specs.Any.{any, anyPair}
 use Rattle.rows.specs.Rows.{Entry, textOf, nameIn, valueIn, numbered, present, repeated}
 use Rattle.algorithms.specs.Algorithms.{algs, algNames, encNames, zipNames, nth, modeOf}
 use Rattle.jose.specs.Registered.{registered, alg, enc, zip, crit, string, anyKind, kindAsked}
-use Rattle.jose.specs.Refusals.{Test, _if_}
+use Rattle.prelude.specs.Refusals.{Test, _if_}
 
 -- How deep JSON may be nested (document 01, 'Sizes').
 abbrev pub levels : ℕ

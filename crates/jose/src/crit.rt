@@ -6,7 +6,7 @@ ghost use Prim.Native.Nat.{_+_, _-_, _*_, _≤_};
 ghost use lib.ListN.{length, drop};
 ghost use Rattle.grammar.specs.Reader.{elementsAt};
 ghost use Rattle.names.specs.Names.{names, filled};
-ghost use Rattle.rows.specs.Any.{any, anyPair};
+ghost use Rattle.prelude.specs.Any.{any, anyPair};
 ghost use Rattle.rows.specs.Tables.{firstOf, entriesOf};
 ghost use Rattle.jose.specs.HeaderRules.{levels, spelledElement, unknown, sameElement, nameSays, misplaced};
 ghost use Rattle.jose.specs.HeaderRules.{isEmpty, wrongCrit, critical};

@@ -6,7 +6,7 @@ ghost use lib.ListN.{length};
 ghost use Rattle.names.specs.Names.{names, filled};
 ghost use Rattle.rows.specs.Prints.{Printed};
 ghost use Rattle.rows.specs.Tables.{entriesOf};
-ghost use Rattle.jose.specs.Refusals.{first};
+ghost use Rattle.prelude.specs.Refusals.{first};
 ghost use Rattle.jose.specs.HeaderRules.{wrongKey, recipientOrder, modeIn};
 ghost use Rattle.jose.specs.Judged.{judgedOf};
 

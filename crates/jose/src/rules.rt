@@ -4,7 +4,7 @@ ghost use mathlib.Core.Bool.{true};
 ghost use Prim.Native.Nat.{_+_, _*_, _≤_};
 ghost use lib.ListN.{length, drop};
 ghost use Rattle.names.specs.Names.{names, filled, numberIn};
-ghost use Rattle.rows.specs.Any.{any};
+ghost use Rattle.prelude.specs.Any.{any};
 ghost use Rattle.rows.specs.Rows.{valueIn};
 ghost use Rattle.rows.specs.Tables.{firstOf, entriesOf};
 ghost use Rattle.algorithms.specs.Algorithms.{algs, algNames, nth, modeOf};

@@ -15,11 +15,11 @@ use Rattle.base64url.specs.Base64url.{octets, decoded}
 use Rattle.parts.specs.Parts.{part}
 use Rattle.grammar.specs.Places.{Place, Member}
 use Rattle.grammar.specs.Reader.{skipSpace, membersAt}
-use Rattle.rows.specs.Any.{any, anyPair}
+use Rattle.prelude.specs.Any.{any, anyPair}
 use Rattle.rows.specs.Rows.{Entry, entryOf, entriesIn, numbered, present, valueOf, repeated}
 use Rattle.rows.specs.Tables.{flat, collectedTable}
 use Rattle.jose.specs.Registered.{registered}
-use Rattle.jose.specs.Refusals.{first}
+use Rattle.prelude.specs.Refusals.{first}
 use Rattle.headers.specs.Components.{absent}
 use Rattle.headers.specs.Headers.{headerText, textOrder, outermost, protectedEntries, membersOf}
 use Rattle.headers.specs.Headers.{headerEntries, objectOrder}

@@ -7,7 +7,7 @@ use lib.ListN.{length}
 use lib.Dec.{leb}
 use borrow.Author.Tests.{le-leb, lt-leb}
 use Rattle.rows.specs.Rows.{Entry}
-use Rattle.jose.specs.Refusals.{Test, _if_, first}
+use Rattle.prelude.specs.Refusals.{Test, _if_, first}
 use Rattle.jose.specs.HeaderRules.{modeIn}
 use Rattle.headers.specs.Components as headers
 use Rattle.headers.specs.declared.Stage.{Stage}

@@ -10,10 +10,10 @@ use lib.ListN.{length}
 use lib.Dec.{eqb, leb, ltb}
 use Rattle.grammar.specs.Places.{Element}
 use Rattle.rows.specs.Rows.{Entry, present}
-use Rattle.jose.specs.Refusals.{Test, _if_, first}
+use Rattle.prelude.specs.Refusals.{Test, _if_, first}
 use Rattle.jose.specs.HeaderRules.{recipientOrder}
-use Rattle.jose.proofs.Refusals.{nonzero, nonzero-append, first-fails, first-passes, first-skip, first-stop}
-use Rattle.headers.specs.Limits.{mostRecipients}
+use Rattle.prelude.proofs.Refusals.{nonzero, nonzero-append, first-fails, first-passes, first-skip, first-stop}
+use Rattle.prelude.specs.Limits.{mostRecipients}
 use Rattle.headers.specs.Headers.{headerText, textOrder, outermost, protectedEntries, objectOrder}
 use Rattle.shape.specs.Shape.{protected, recipients, wrongElements, component, Recipient}
 use Rattle.shape.specs.Recipients.{topEntries, topOrder, elementsIn, elementOrder, elementsOrder, recipientsIn}

@@ -16,7 +16,7 @@ use Rattle.rows.specs.Tables.{flat, entriesOf, collectedTable}
 use Rattle.rows.proofs.Entries.{entries-written, entries-more}
 use Rattle.rows.proofs.Printing.{entries-printed, printed-append}
 use Rattle.jose.specs.Registered.{registered}
-use Rattle.jose.specs.Refusals.{Test, first}
+use Rattle.prelude.specs.Refusals.{Test, first}
 use Rattle.headers.specs.Headers.{headerText, tooLong, unread, textOrder, outermost, protectedEntries, membersOf}
 use Rattle.headers.specs.Headers.{headerEntries, objectOrder}
 use Rattle.headers.specs.Answers.{stageOf, headerBuffer}

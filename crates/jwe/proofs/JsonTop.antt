@@ -10,12 +10,12 @@ use lib.Dec.{ltb}
 use borrow.Author.Tests.{ltb-false}
 use Rattle.prelude.specs.Buffer.{written}
 use Rattle.grammar.specs.Places.{Element}
-use Rattle.rows.specs.Any.{any}
+use Rattle.prelude.specs.Any.{any}
 use Rattle.rows.specs.Rows.{Entry, present, repeated}
 use Rattle.rows.specs.Tables.{flat, entriesOf}
 use Rattle.rows.proofs.Entries.{entries-written}
-use Rattle.jose.specs.Refusals.{_if_, first}
-use Rattle.headers.specs.Limits.{mostRecipients}
+use Rattle.prelude.specs.Refusals.{_if_, first}
+use Rattle.prelude.specs.Limits.{mostRecipients}
 use Rattle.headers.specs.Components.{misspelled}
 use Rattle.headers.specs.Headers.{unread, objectOrder}
 use Rattle.headers.specs.Answers.{stageOf}

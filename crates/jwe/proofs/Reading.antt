@@ -14,9 +14,9 @@ use Rattle.grammar.specs.Reader.{opensObject}
 use Rattle.rows.specs.Rows.{Entry}
 use Rattle.rows.specs.Tables.{flat, listed, entriesOf}
 use Rattle.rows.proofs.Entries.{flat-length, entries-written}
-use Rattle.jose.specs.Refusals.{Test, _if_, first}
-use Rattle.jose.proofs.Refusals.{first-fails, first-passes}
-use Rattle.headers.specs.Limits.{longest, headerRoom, listRoom}
+use Rattle.prelude.specs.Refusals.{Test, _if_, first}
+use Rattle.prelude.proofs.Refusals.{first-fails, first-passes}
+use Rattle.prelude.specs.Limits.{longest, headerRoom, listRoom}
 use Rattle.jwe.specs.Compact.{compactOrder}
 use Rattle.jwe.specs.General.{jsonOrder}
 use Rattle.jwe.specs.Judge.{Outcome, order, refusal, compactOutcome, jsonOutcome, outcome, accepted, refused}

@@ -12,9 +12,9 @@ use lib.Seq.{drop-drop, getD-drop}
 use Rattle.prelude.specs.Buffer.{written}
 use Rattle.grammar.specs.Bounds.{Every}
 use Rattle.grammar.specs.Places.{Place}
-use Rattle.rows.specs.Any.{any}
-use Rattle.jose.specs.Refusals.{Test, first}
-use Rattle.jose.proofs.Refusals.{nonzero}
+use Rattle.prelude.specs.Any.{any}
+use Rattle.prelude.specs.Refusals.{Test, first}
+use Rattle.prelude.proofs.Refusals.{nonzero}
 use Rattle.shape.specs.Shape.{Recipient}
 use Rattle.shape.specs.Answers.{flatRecipients}
 use Rattle.jwe.specs.Judge.{asked}

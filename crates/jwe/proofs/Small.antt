@@ -13,8 +13,8 @@ use Rattle.json.specs.declared.member.Place.{Place}
 use Rattle.grammar.proofs.Endings.{either}
 use Rattle.grammar.specs.Reader.{opensObject}
 use Rattle.names.specs.Names.{names, sound}
-use Rattle.jose.specs.Refusals.{_if_, first}
-use Rattle.headers.specs.Limits.{longest, headerRoom, listRoom}
+use Rattle.prelude.specs.Refusals.{_if_, first}
+use Rattle.prelude.specs.Limits.{longest, headerRoom, listRoom}
 use Rattle.jwe.specs.Compact.{compactOrder}
 use Rattle.jwe.specs.General.{jsonOrder}
 use Rattle.jwe.specs.Judge.{order, refusal, outcome, accepted, refused, result}

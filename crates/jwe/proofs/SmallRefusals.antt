@@ -9,9 +9,9 @@ use borrow.Author.Tests.{ltb-false}
 use Rattle.grammar.specs.Reader.{opensObject}
 use Rattle.grammar.specs.Places.{Element}
 use Rattle.names.specs.Names.{names}
-use Rattle.rows.specs.Any.{any}
+use Rattle.prelude.specs.Any.{any}
 use Rattle.rows.specs.Rows.{Entry, present}
-use Rattle.jose.specs.Refusals.{Test, first}
+use Rattle.prelude.specs.Refusals.{Test, first}
 use Rattle.jose.specs.HeaderRules.{recipientOrder}
 use Rattle.headers.specs.Headers.{textOrder, objectOrder}
 use Rattle.shape.specs.Shape.{Recipient, protected, recipients}

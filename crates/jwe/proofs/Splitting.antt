@@ -9,7 +9,7 @@ use lib.Dec.{eqb, ltb}
 use borrow.Author.Tests.{lt-ltb, le-ltb, eq-eqb, ne-eqb}
 use Rattle.parts.specs.Parts.{seek}
 use Rattle.json.specs.declared.member.Place.{Place}
-use Rattle.rows.specs.Any.{any}
+use Rattle.prelude.specs.Any.{any}
 use Rattle.headers.specs.Components as headers
 use Rattle.headers.specs.Components.{fullStop}
 use Rattle.jwe.specs.Compact.{after, Stops, stops, fourStops, between, compactComponents}

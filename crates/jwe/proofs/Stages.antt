@@ -10,7 +10,7 @@ use Rattle.prelude.specs.Buffer.{written}
 use Rattle.prelude.proofs.Writing.{written-length, begins}
 use Rattle.rows.specs.Rows.{Entry}
 use Rattle.rows.specs.Prints.{Printed}
-use Rattle.jose.specs.Refusals.{Test, first}
+use Rattle.prelude.specs.Refusals.{Test, first}
 use Rattle.jose.specs.HeaderRules.{modeIn}
 use Rattle.headers.specs.Headers.{tooLong, textOrder}
 use Rattle.headers.specs.Answers.{stageOf, headerBuffer}

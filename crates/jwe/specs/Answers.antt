@@ -12,7 +12,7 @@ use Rattle.headers.specs.Answers.{placeOf}
 use Rattle.headers.specs.declared.Stage.{Stage}
 use Rattle.headers.specs.declared.Stage.the-variants as stage
 use Rattle.rows.specs.Tables.{flat}
-use Rattle.jose.specs.Refusals.{Test, first}
+use Rattle.prelude.specs.Refusals.{Test, first}
 use Rattle.jose.specs.declared.judge.Judged as jose
 use Rattle.jose.specs.declared.judge.Judged.the-variants as ruled
 use Rattle.jwe.specs.Judge.{Outcome, accepted}

@@ -6,8 +6,8 @@ use lib.ListN.{length}
 use lib.Dec.{eqb, leb, ltb}
 use Rattle.parts.specs.Parts.{seek}
 use Rattle.grammar.specs.Places.{Place}
-use Rattle.rows.specs.Any.{any}
-use Rattle.jose.specs.Refusals.{Test, _if_}
+use Rattle.prelude.specs.Any.{any}
+use Rattle.prelude.specs.Refusals.{Test, _if_}
 use Rattle.jose.specs.HeaderRules.{recipientOrder}
 use Rattle.headers.specs.Components.{fullStop, absent, Components, places, misspelled}
 use Rattle.headers.specs.Headers.{headerText, textOrder, protectedEntries, objectOrder}

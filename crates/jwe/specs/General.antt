@@ -6,9 +6,9 @@ use Prim.Native.Nat.{ℕ}
 use lib.ListN.{length}
 use lib.Dec.{eqb, leb}
 use Rattle.grammar.specs.Places.{Place, Member}
-use Rattle.rows.specs.Any.{any}
+use Rattle.prelude.specs.Any.{any}
 use Rattle.rows.specs.Rows.{Entry, present, valueOf}
-use Rattle.jose.specs.Refusals.{Test, _if_}
+use Rattle.prelude.specs.Refusals.{Test, _if_}
 use Rattle.jose.specs.HeaderRules.{recipientOrder}
 use Rattle.headers.specs.Components.{misspelled}
 use Rattle.headers.specs.Headers.{headerText, textOrder, outermost, protectedEntries, headerEntries, objectOrder}

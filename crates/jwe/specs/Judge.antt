@@ -11,9 +11,9 @@ use Rattle.grammar.specs.Places.{Place}
 use Rattle.grammar.specs.Reader.{opensObject}
 use Rattle.rows.specs.Rows.{Entry, present}
 use Rattle.rows.specs.Tables.{listed}
-use Rattle.jose.specs.Refusals.{Test, _if_, first}
+use Rattle.prelude.specs.Refusals.{Test, _if_, first}
 use Rattle.jose.specs.HeaderRules.{modeIn}
-use Rattle.headers.specs.Limits.{longest, headerRoom, listRoom}
+use Rattle.prelude.specs.Limits.{longest, headerRoom, listRoom}
 use Rattle.headers.specs.Components.{Components}
 use Rattle.headers.specs.Headers.{headerText, protectedEntries}
 use Rattle.shape.specs.Shape.{recipients, Recipient, recipientOf}

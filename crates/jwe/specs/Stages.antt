@@ -11,7 +11,7 @@ use Rattle.grammar.specs.Bounds.{Every}
 use Rattle.json.specs.Known.{KnownIn}
 use Rattle.rows.specs.Rows.{Entry, present}
 use Rattle.rows.specs.Tables.{flat, entriesOf}
-use Rattle.jose.specs.Refusals.{Test, _if_, first}
+use Rattle.prelude.specs.Refusals.{Test, _if_, first}
 use Rattle.jose.specs.HeaderRules.{recipientOrder}
 use Rattle.headers.specs.Headers.{headerText, textOrder, outermost, protectedEntries, objectOrder}
 use Rattle.headers.specs.declared.Stage.{Stage}

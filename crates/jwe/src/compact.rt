@@ -4,7 +4,7 @@ ghost use mathlib.Core.Bool.{true, false};
 ghost use Prim.Native.Nat.{_+_, _≤_};
 ghost use lib.ListN.{length};
 ghost use Rattle.names.specs.Names.{names, filled};
-ghost use Rattle.rows.specs.Any.{any};
+ghost use Rattle.prelude.specs.Any.{any};
 ghost use Rattle.headers.specs.Components.{misspelled, places};
 ghost use Rattle.jwe.specs.Compact.{between, fourStops, compactComponents, compactOrder};
 ghost use Rattle.jwe.specs.Judge.{compactOutcome};

@@ -9,9 +9,9 @@ use lib.Dec.{eqb, ltb}
 use borrow.Author.Tests.{eq-eqb, ne-eqb, lt-ltb, le-ltb}
 use Rattle.prelude.specs.Buffer.{written}
 use Rattle.names.specs.Names.{names, sound}
-use Rattle.jose.specs.Refusals.{Test, _if_, first}
-use Rattle.jose.proofs.Refusals.{nonzero, nonzero-append, first-fails, first-passes, first-skip}
-use Rattle.headers.specs.Limits.{longest}
+use Rattle.prelude.specs.Refusals.{Test, _if_, first}
+use Rattle.prelude.proofs.Refusals.{nonzero, nonzero-append, first-fails, first-passes, first-skip}
+use Rattle.prelude.specs.Limits.{longest}
 use Rattle.grammar.specs.Reader.{readText}
 use Rattle.json.specs.Ends.{foundOf}
 use Rattle.json.specs.declared.Found.{Found}

@@ -5,12 +5,12 @@ use mathlib.Core.Bool.{Bool, true, false, _&&_, _||_, cond}
 use mathlib.Core.List.{List, [], _∷_, map}
 use Prim.Native.Nat.{ℕ}
 use Rattle.grammar.specs.Places.{Member}
-use Rattle.rows.specs.Any.{any, anyPair}
+use Rattle.prelude.specs.Any.{any, anyPair}
 use Rattle.rows.specs.Rows.{Entry, entryOf, entriesIn, same, repeated, numbered}
-use Rattle.jose.specs.Refusals.{first}
+use Rattle.prelude.specs.Refusals.{first}
 use Rattle.jose.specs.Registered.{registered, zip, crit}
 use Rattle.jose.specs.HeaderRules.{incomplete, wrongKind, unlisted, unprotected, critical, wrongKey, modeIn, recipientOrder}
-use Rattle.jose.proofs.Refusals.{nonzero}
+use Rattle.prelude.proofs.Refusals.{nonzero}
 use Rattle.headers.specs.Headers.{outermost, protectedEntries}
 use Rattle.jwe_write.specs.Write.{rulesOrder}
 

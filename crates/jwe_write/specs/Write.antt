@@ -5,11 +5,11 @@ use Prim.Native.Nat.{ℕ}
 use lib.ListN.{length}
 use lib.Dec.{eqb, ltb}
 use Rattle.names.specs.Names.{names, sound}
-use Rattle.rows.specs.Any.{any}
+use Rattle.prelude.specs.Any.{any}
 use Rattle.rows.specs.Rows.{Entry}
-use Rattle.jose.specs.Refusals.{Test, _if_, first}
+use Rattle.prelude.specs.Refusals.{Test, _if_, first}
 use Rattle.jose.specs.HeaderRules.{incomplete, wrongKind, unlisted, critical, wrongKey, modeIn}
-use Rattle.headers.specs.Limits.{longest}
+use Rattle.prelude.specs.Limits.{longest}
 use Rattle.headers.specs.Components.{dotted}
 use Rattle.headers.specs.Headers.{textOrder, protectedEntries, objectOrder}
 

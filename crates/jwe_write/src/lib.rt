@@ -9,7 +9,7 @@ ghost use Rattle.prelude.specs.Buffer.{written};
 ghost use Rattle.base64url.specs.Base64url.{encoded};
 ghost use Rattle.names.specs.Names.{names, filled};
 ghost use Rattle.rows.specs.Tables.{entriesOf};
-ghost use Rattle.jose.specs.Refusals.{first};
+ghost use Rattle.prelude.specs.Refusals.{first};
 ghost use Rattle.headers.specs.Components.{fullStop};
 ghost use Rattle.headers.specs.Headers.{textOrder, protectedEntries};
 ghost use Rattle.jwe_write.specs.Write.{raw, compactText, rulesOrder, parametersOrder};

@@ -13,8 +13,8 @@ use Rattle.names.proofs.Laws.{sound-exactly, names-of}
 use Rattle.grammar.specs.Reader.{opensObject}
 use Rattle.grammar.proofs.Parse.{true→T}
 use Rattle.grammar.proofs.Scan.{T→true}
-use Rattle.rows.specs.Any.{any}
-use Rattle.jose.specs.Refusals.{Test, _if_, first}
+use Rattle.prelude.specs.Any.{any}
+use Rattle.prelude.specs.Refusals.{Test, _if_, first}
 use Rattle.jwe.specs.Compact.{compactOrder}
 use Rattle.jwe.specs.General.{jsonOrder}
 use Rattle.jwe.specs.Judge.{order, refusal}

@@ -4,18 +4,18 @@ use mathlib.Core.Path.{_≡_, ap, sym, subst, _∙_}
 use mathlib.Core.Bool.{Bool, true, false, true≢false}
 use mathlib.Core.Logic.{_⊎_, inl, inr}
 use mathlib.Core.List.{List, [], _∷_, _++_}
-use Prim.Native.Nat.{ℕ, _<_}
+use Prim.Native.Nat.{ℕ}
 use lib.ListN.{length, getD}
 use Rattle.prelude.specs.Ascii.{ascii}
 use Rattle.prelude.specs.Buffer.{written}
 use Rattle.base64url.specs.Base64url.{encoded}
 use Rattle.names.specs.Names.{names}
-use Rattle.grammar.specs.Places.{Placed, Parts, placedText, partsOf, Member, emptiedText}
+use Rattle.grammar.specs.Places.{Placed, Parts, placedText, partsOf, Member}
 use Rattle.grammar.specs.Reader.{opensObject}
 use Rattle.grammar.specs.Readings.{Reading, octetsAt, Shown, EverywhereIn}
 use Rattle.grammar.proofs.Theorems.{one-reading, read-shows}
 use Rattle.rows.specs.Rows.{Entry, repeated}
-use Rattle.jose.specs.Refusals.{first}
+use Rattle.prelude.specs.Refusals.{first}
 use Rattle.headers.specs.Headers.{outermost}
 use Rattle.shape.specs.Shape.{memberEntries}
 use Rattle.shape.specs.Recipients.{topEntries}
@@ -23,9 +23,7 @@ use Rattle.jwe.specs.General.{jsonOrder}
 use Rattle.jwe.specs.Judge.{refusal, result, headerAfter, listAfter}
 use Rattle.meets.specs.Handed.{Rows, entries, count, MemberAt, NoMember, PartAt, RecipientAt, ProtectedRows}
 use Rattle.meets.specs.Handed.{within, RowsOf, Applies, compact, json}
-use Rattle.meets.specs.Meets.{Octets, Meets}
-use Rattle.meets.specs.Meets as meets
-use Rattle.meets.proofs.Rows.{unread-decides}
+use Rattle.meets.specs.Meets.{Octets}
 use Rattle.meets.proofs.FormsApart.{forms-apart}
 use Rattle.meets.proofs.HandedOut.{outermost-rows}
 use Rattle.meets.proofs.PlacedNames.{NamesStand, Sits, reading-names, reading-sits}
@@ -34,7 +32,7 @@ use Rattle.meets.proofs.MemberPlaced.{entriesAt, Missing, Found, member
 use Rattle.meets.proofs.JsonPassed.{Passed, json-passed}
 use Rattle.meets.proofs.JsonHeaders.{name-recipients}
 use Rattle.meets.proofs.JsonApplies.{element-distinct}
-use Rattle.meets.proofs.HandedExactly.{HandedOut, handed-exactly, each-recipient}
+use Rattle.meets.proofs.HandedExactly.{handed-exactly}
 use Rattle.meets.proofs.HandedFits.{formTests, form-passed}
 use Rattle.meets.proofs.HeaderOctets.{read-octets, encoded-once, first-once, encoded-opens-none}
 use Rattle.meets.proofs.MemberOnce.{Once, no-member, member-once, rows-once, recipient-once}
@@ -102,26 +100,9 @@ module _ (message : List ℕ) (n : ℕ) (ps : Parts) (names : NamesStand message
       twice =
           cases (member-at message 4 (ascii "recipients") (name-recipients .0) (name-recipients .1) ps names)
 
-  own-stands : (rs : Parts) → RecipientAt message ps n rs → Distinct rs
+  pub own-stands : (rs : Parts) → RecipientAt message ps n rs → Distinct rs
   own-stands rs (inl a) = subst Distinct (sym (a .1)) (names, passed .repeats)
   own-stands rs (inr a) = subst Distinct (sym (a .4)) (element-stands (a .0) (a .1) (a .2) (a .3))
-
--- Exactly one reading, spaces aside.
-abbrev pub OneReading : List ℕ → Type 0
-OneReading s =
-    (r : Reading 12 s)
-    × ((q : Reading 12 s) →
-    (emptiedText (r .text) ≡ emptiedText (q .text)) × (placedText (r .text) ≡ placedText (q .text)))
-
-read-one : (s : List ℕ) → Reading 12 s → OneReading s
-read-one s r = (r, one-reading 12 s r)
-
--- The decoded protected header has it, if there is one.
-pub header-read : (message : List ℕ) (n : ℕ) (header : List ℕ) (x : Rows) → Applies message n header x →
-    (header ≡ []) ⊎ OneReading header
-header-read message n header x (compact rest e p s o) = inr (read-one header (p .reading))
-header-read message n header x (json r (inl a) s rs b o) = inl (a .1)
-header-read message n header x (json r (inr a) s rs b o) = inr (read-one header (a .3 .reading))
 
 -- Accepted messages
 module _ (message known : List ℕ) (recipient headerLent listLent : ℕ)
@@ -131,7 +112,7 @@ module _ (message known : List ℕ) (recipient headerLent listLent : ℕ)
       sym (ap (λ (b : Bool). first (formTests message known recipient b)) opens)
       ∙ form-passed message known recipient headerLent listLent accepted .2
 
-  reading-passed : (r : Reading 12 message) →
+  pub reading-passed : (r : Reading 12 message) →
       Passed message recipient (entriesAt message (partsOf (placedText (r .text))))
   unfolding topEntries memberEntries
   reading-passed r =
@@ -178,12 +159,6 @@ module _ (message known : List ℕ) (recipient headerLent listLent : ℕ)
       (subst (λ (z : Parts). RowsOf message (ascii "header") z (y .own)) (sym recipient-is) u) in
       (header .0, rows-same x y (header .1) shared own)
 
-  -- A message that is JSON has exactly one reading.
-  pub message-read : opensObject message ≡ true → OneReading message
-  message-read opens =
-      read-one message
-      (unread-decides message .0 (json-passed (names known) message recipient (order-passed opens) .0))
-
 -- Whatever applies is what is handed out.
 pub applies-handed : (message known : List ℕ) (recipient : ℕ) (buffer list : List ℕ) →
     refusal message known recipient (length buffer) (length list) ≡ 0 →
@@ -202,16 +177,3 @@ applies-handed message known recipient buffer list accepted header x a =
       h .headerLength ∙ ap length (e .0),
       h .parameterCount ∙ ap count (e .1),
     )
-
--- Demand 3, given that what meets the rules is accepted: for each recipient below the count, what is handed out
--- applies, and nothing else does.
-module _ (message known buffer list : List ℕ)
-    (accepts : (n : ℕ) → Meets message known n (length buffer) (length list) →
-    refusal message known n (length buffer) (length list) ≡ 0) where
-  pub handed-for-each : (recipient : ℕ) (m : Meets message known recipient (length buffer) (length list)) (n : ℕ) →
-      n < meets.count (m .form) →
-      HandedOut message known n buffer list
-      × ((h k : List ℕ) (x y : Rows) → Applies message n h x → Applies message n k y → (h ≡ k) × (x ≡ y))
-  handed-for-each recipient m n below =
-      let e = accepts n (each-recipient message known recipient (length buffer) (length list) m n below) in
-      (handed-exactly message known n buffer list e, applies-once message known n (length buffer) (length list) e)

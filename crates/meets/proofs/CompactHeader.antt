@@ -6,12 +6,12 @@ use mathlib.Core.List.{List}
 use Prim.Native.Nat.{ℕ}
 use lib.ListN.{length}
 use borrow.Author.Tests.{ltb-false, le-ltb}
-use Rattle.rows.specs.Any.{any}
+use Rattle.prelude.specs.Any.{any}
 use Rattle.jose.specs.Registered.{registered}
-use Rattle.jose.specs.Refusals.{first}
+use Rattle.prelude.specs.Refusals.{first}
 use Rattle.headers.specs.Headers.{textOrder, outermost, protectedEntries, objectOrder}
 use Rattle.meets.specs.Meets.{Object, Protected, membersRead}
-use Rattle.meets.proofs.Zip.{Zip}
+use Rattle.meets.proofs.OneForOne.{OneForOne}
 use Rattle.meets.proofs.Rows.{unread-decides, outermost-stand}
 use Rattle.meets.proofs.Deciding.{first-none}
 use Rattle.meets.proofs.Entries.{EntryStands, entries-stand}
@@ -29,7 +29,7 @@ text-decided header =
 
 -- Its members stand where its entries say.
 pub protected-stands : (header message : List ℕ) (p : Protected header) →
-    Zip (EntryStands registered header message 0) (membersRead p) (protectedEntries header)
+    OneForOne (EntryStands registered header message 0) (membersRead p) (protectedEntries header)
 unfolding protectedEntries
 protected-stands header message p =
     entries-stand registered header message 0 (membersRead p) (outermost header) (outermost-stand header (p .reading))

@@ -9,8 +9,8 @@ use Rattle.grammar.specs.Bounds.{Every}
 use Rattle.grammar.specs.Places.{Place}
 use Rattle.grammar.specs.Reader.{opensObject}
 use Rattle.names.specs.Names.{names}
-use Rattle.rows.specs.Any.{any}
-use Rattle.jose.specs.Refusals.{Test, _if_, first}
+use Rattle.prelude.specs.Any.{any}
+use Rattle.prelude.specs.Refusals.{Test, _if_, first}
 use Rattle.jose.specs.HeaderRules.{recipientOrder}
 use Rattle.headers.specs.Components.{misspelled, places}
 use Rattle.headers.specs.Headers.{headerText, textOrder, protectedEntries, objectOrder}

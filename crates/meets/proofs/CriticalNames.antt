@@ -16,14 +16,14 @@ use Rattle.grammar.specs.Spellings.{equal}
 use Rattle.grammar.specs.Reader.{elementsAt}
 use Rattle.grammar.specs.Bounds.{Every}
 use Rattle.names.specs.Names.{numberIn}
-use Rattle.rows.specs.Any.{any, anyPair}
+use Rattle.prelude.specs.Any.{any, anyPair}
 use Rattle.rows.specs.Rows.{Entry, textOf, nameIn, numbered}
 use Rattle.jose.specs.Registered.{registered, crit}
 use Rattle.jose.specs.HeaderRules.{spelledElement, unknown, sameElement, nameSays, misplaced, isEmpty, wrongCrit}
 use Rattle.jose.specs.HeaderRules.{critical}
 use Rattle.meets.specs.Members.{Member, elementsOf, Some, Among, Distinct}
 use Rattle.meets.specs.Rules.{EveryNamed, arrayNames, OfKind, Critical}
-use Rattle.meets.proofs.Zip.{Zip, zip-into, zip-map-left}
+use Rattle.meets.proofs.OneForOne.{OneForOne, zip-into, zip-map-left}
 use Rattle.meets.proofs.Standing.{ElementStands, kind-string}
 use Rattle.meets.proofs.Rows.{elements-stand}
 use Rattle.meets.proofs.Saying.{Spells, string-spells, alike-spells}
@@ -42,15 +42,15 @@ string-element : (s : List ℕ) (x : Str) (y : Element) → ElementStands s (str
 unfolding kind
 string-element s x y r = record { kinds = r .kinds; spells = string-spells s x (y .start) (y .size) (r .stands) }
 
-strings-stand : (s : List ℕ) (xs : List Str) (ys : List Element) → Zip (ElementStands s) (map string xs) ys →
-    Zip (StringStands s) xs ys
+strings-stand : (s : List ℕ) (xs : List Str) (ys : List Element) → OneForOne (ElementStands s) (map string xs) ys →
+    OneForOne (StringStands s) xs ys
 strings-stand s xs ys z =
     zip-into (λ x y. ElementStands s (string x) y) (StringStands s) (string-element s) xs ys
     (zip-map-left (ElementStands s) string xs ys .1 z)
 
 -- Where every element is known, all are strings.
 all-strings : (known : List (List ℕ)) (s : List ℕ) (vs : List Value) (ys : List Element) →
-    Zip (ElementStands s) vs ys → any (unknown known s) ys ≡ false → (xs : List Str) × (vs ≡ map string xs)
+    OneForOne (ElementStands s) vs ys → any (unknown known s) ys ≡ false → (xs : List Str) × (vs ≡ map string xs)
 unfolding any
 all-strings known s [] [] z e = ([], refl)
 all-strings known s [] (y ∷ ys) z e = absurd z
@@ -63,7 +63,7 @@ all-strings known s (v ∷ vs) (y ∷ ys) z e =
     let (xs, q) = all-strings known s vs ys (z .1) (h .1) in
     (x ∷ xs, ap₂ (λ (u : Value) (us : List Value). u ∷ us) p q)
 
-empty-where : (s : List ℕ) (xs : List Str) (ys : List Element) → Zip (StringStands s) xs ys →
+empty-where : (s : List ℕ) (xs : List Str) (ys : List Element) → OneForOne (StringStands s) xs ys →
     FalseWhere (isEmpty ys) (xs ≡ [] → ⊥)
 empty-where s [] [] z = ((λ e. absurd (true≢false e)), (λ n. absurd (n refl)))
 empty-where s [] (y ∷ ys) z = absurd z
@@ -71,7 +71,7 @@ empty-where s (x ∷ xs) [] z = absurd z
 empty-where s (x ∷ xs) (y ∷ ys) z = ((λ e p. omega (arith, ap length p)), (λ n. refl))
 
 module _ (known : List (List ℕ)) (header message : List ℕ) (ps : List Member) (es : List Entry)
-    (z : Zip (Seen registered header message) ps es) (s : List ℕ) where
+    (z : OneForOne (Seen registered header message) ps es) (s : List ℕ) where
   -- An element
 
   abbrev Placed : Str → Type 0
@@ -99,7 +99,7 @@ module _ (known : List (List ℕ)) (header message : List ℕ) (ps : List Member
   abbrev Asked : List Str → Type 0
   Asked xs = (xs ≡ [] → ⊥) × (Every (Among known) xs × (Distinct xs × Every Placed xs))
 
-  strings-where : (xs : List Str) (ys : List Element) → Zip (StringStands s) xs ys →
+  strings-where : (xs : List Str) (ys : List Element) → OneForOne (StringStands s) xs ys →
       FalseWhere (wrongCrit known header message es s ys) (Asked xs)
   unfolding wrongCrit
   strings-where xs ys u =
@@ -116,7 +116,7 @@ module _ (known : List (List ℕ)) (header message : List ℕ) (ps : List Member
 
   -- The elements of an array
 
-  crit-where : (v : Value) (ys : List Element) → Zip (ElementStands s) (elementsOf v) ys →
+  crit-where : (v : Value) (ys : List Element) → OneForOne (ElementStands s) (elementsOf v) ys →
       FalseWhere (wrongCrit known header message es s ys) (Critical known ps v)
   unfolding wrongCrit
   crit-where v ys u = (
@@ -126,7 +126,7 @@ module _ (known : List (List ℕ)) (header message : List ℕ) (ps : List Member
         let c = any (misplaced header message es s) ys in
         let strings = or-false a (b || c) .0 (or-false (isEmpty ys) (a || (b || c)) .0 e .1) .0 in
         let (xs, p) = all-strings known s (elementsOf v) ys u strings in
-        let stand = strings-stand s xs ys (subst (λ (vs : List Value). Zip (ElementStands s) vs ys) p u) in
+        let stand = strings-stand s xs ys (subst (λ (vs : List Value). OneForOne (ElementStands s) vs ys) p u) in
         let t = strings-where xs ys stand .0 e in
         let placed = every-both (λ x. Among registered x → ⊥) (λ x. Some (λ m. SayAlike (m .name) x) ps) xs .0
         (t .1 .1 .1) in
@@ -141,7 +141,7 @@ module _ (known : List (List ℕ)) (header message : List ℕ) (ps : List Member
         }),
     (λ r.
         let xs = r .names in
-        let stand = strings-stand s xs ys (subst (λ (vs : List Value). Zip (ElementStands s) vs ys) (r .elements) u) in
+        let stand = strings-stand s xs ys (subst (λ (vs : List Value). OneForOne (ElementStands s) vs ys) (r .elements) u) in
         let placed = every-both (λ x. Among registered x → ⊥) (λ x. Some (λ m. SayAlike (m .name) x) ps) xs .1
         (r .unregistered, r .present) in
         strings-where xs ys stand .1 (r .some, (r .areKnown, (r .distinct, placed)))),
@@ -154,7 +154,7 @@ crit-array = refl
 
 -- 17, where 14 does not refuse
 pub critical-decided : (known : List (List ℕ)) (header message : List ℕ) (ps : List Member) (es : List Entry) →
-    Zip (Seen registered header message) ps es → OfKind arrayNames 1 ps →
+    OneForOne (Seen registered header message) ps es → OfKind arrayNames 1 ps →
     (any (critical known header message es) es ≡ false) ↔ EveryNamed (ascii "crit") (Critical known ps) ps
 critical-decided known header message ps es z arrays =
     every-where (λ m e. Seen registered header message m e × (Among arrayNames (m .name) → kind (m .value) ≡ 1))

@@ -8,10 +8,10 @@ use Prim.Native.Nat.{ℕ}
 use lib.Dec.{eqb}
 use borrow.Author.Tests.{not-true, not-false, eqb-true, eqb-false, eq-eqb}
 use Rattle.grammar.specs.Bounds.{Every}
-use Rattle.rows.specs.Any.{any, anyPair}
-use Rattle.jose.specs.Refusals.{Test, first}
+use Rattle.prelude.specs.Any.{any, anyPair}
+use Rattle.prelude.specs.Refusals.{Test, first}
 use Rattle.meets.specs.Members.{Some}
-use Rattle.meets.proofs.Zip.{Zip, zip-any, zip-all}
+use Rattle.meets.proofs.OneForOne.{OneForOne, zip-any, zip-all}
 use Rattle.meets.proofs.Saying.{refuted}
 
 -- A test that is true exactly where a sentence holds ..
@@ -126,7 +126,7 @@ module _ {A : Type 0} (f : A → Bool) (P : A → Type 0) where
 
 module _ {A B : Type 0} (R : A → B → Type 0) (P : A → Type 0) where
   -- What holds of each on the left holds beside what relates the two.
-  pub zip-with : (xs : List A) (ys : List B) → Zip R xs ys → Every P xs → Zip (λ x y. R x y × P x) xs ys
+  pub zip-with : (xs : List A) (ys : List B) → OneForOne R xs ys → Every P xs → OneForOne (λ x y. R x y × P x) xs ys
   zip-with [] [] z h = tt
   zip-with [] (y ∷ ys) z h = absurd z
   zip-with (x ∷ xs) [] z h = absurd z
@@ -134,16 +134,16 @@ module _ {A B : Type 0} (R : A → B → Type 0) (P : A → Type 0) where
 
   -- No element is refused; some element passes.
   module _ (f : B → Bool) (xs : List A) (ys : List B) where
-    pub every-where : ((x : A) (y : B) → R x y → FalseWhere (f y) (P x)) → Zip R xs ys →
+    pub every-where : ((x : A) (y : B) → R x y → FalseWhere (f y) (P x)) → OneForOne R xs ys →
         FalseWhere (any f ys) (Every P xs)
     every-where w z = Iff·symm (zip-all R P f (λ x y r. Iff·symm (w x y r)) xs ys z)
 
-    pub some-where : ((x : A) (y : B) → R x y → TrueWhere (f y) (P x)) → Zip R xs ys →
+    pub some-where : ((x : A) (y : B) → R x y → TrueWhere (f y) (P x)) → OneForOne R xs ys →
         TrueWhere (any f ys) (Some P xs)
     some-where w z = Iff·symm (zip-any R P f (λ x y r. Iff·symm (w x y r)) xs ys z)
 
 pub every-right : {A B : Type 0} (R : A → B → Type 0) (Q : B → Type 0) → ((x : A) (y : B) → R x y → Q y) →
-    (xs : List A) (ys : List B) → Zip R xs ys → Every Q ys
+    (xs : List A) (ys : List B) → OneForOne R xs ys → Every Q ys
 every-right R Q f [] [] z = tt
 every-right R Q f [] (y ∷ ys) z = absurd z
 every-right R Q f (x ∷ xs) [] z = absurd z

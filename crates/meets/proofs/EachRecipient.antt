@@ -9,7 +9,7 @@ use lib.Dec.{eqb}
 use Rattle.prelude.specs.Ascii.{ascii}
 use Rattle.grammar.specs.Bounds.{Every}
 use Rattle.rows.specs.Rows.{Entry, present, valueOf}
-use Rattle.jose.specs.Refusals.{first}
+use Rattle.prelude.specs.Refusals.{first}
 use Rattle.jose.specs.Registered.{registered}
 use Rattle.jose.specs.HeaderRules.{recipientOrder}
 use Rattle.headers.specs.Components.{misspelled}
@@ -21,7 +21,7 @@ use Rattle.meets.specs.Members.{Member, namesOf, Distinct}
 use Rattle.meets.specs.Rules.{Headers, EveryNamed, Rules}
 use Rattle.meets.specs.Meets.{Octets, Object, Plain, Component, HeaderIn}
 use Rattle.meets.specs.Meets as meets
-use Rattle.meets.proofs.Zip.{Zip}
+use Rattle.meets.proofs.OneForOne.{OneForOne}
 use Rattle.meets.proofs.Standing.{MemberStands}
 use Rattle.meets.proofs.Deciding.{every-map}
 use Rattle.meets.proofs.Entries.{EntryStands}
@@ -41,26 +41,26 @@ plain-of w ms h = every-map (Field w Whole) (Field w Plain) (λ m f n. f n .0) m
 -- The entries of headers
 
 module _ (header message : List ℕ) where
-  pub protected-entries : (hs : List Member) → Zip (MemberStands header) hs (outermost header) →
-      Zip (EntryStands registered header message 0) hs (protectedEntries header)
+  pub protected-entries : (hs : List Member) → OneForOne (MemberStands header) hs (outermost header) →
+      OneForOne (EntryStands registered header message 0) hs (protectedEntries header)
   unfolding protectedEntries
   protected-entries hs z = entries-of registered header message 0 hs (outermost header) z
 
   module _ (es : List Entry) (hs : List Member)
-      (z : Zip (MemberStands message) hs (headers.membersOf message (valueOf 2 es .start))) where
-    pub shared-entries : Zip (EntryStands registered header message 1) hs (sharedEntries message es)
+      (z : OneForOne (MemberStands message) hs (headers.membersOf message (valueOf 2 es .start))) where
+    pub shared-entries : OneForOne (EntryStands registered header message 1) hs (sharedEntries message es)
     unfolding sharedEntries headerEntries
     shared-entries = entries-of registered header message 1 hs (headers.membersOf message (valueOf 2 es .start)) z
 
   module _ (r : Recipient) (hs : List Member)
-      (z : Zip (MemberStands message) hs (headers.membersOf message (r .header))) where
-    pub own-entries : Zip (EntryStands registered header message 2) hs (ownEntries message r)
+      (z : OneForOne (MemberStands message) hs (headers.membersOf message (r .header))) where
+    pub own-entries : OneForOne (EntryStands registered header message 2) hs (ownEntries message r)
     unfolding ownEntries headerEntries
     own-entries = entries-of registered header message 2 hs (headers.membersOf message (r .header)) z
 
 module _ (known : List (List ℕ)) (header message : List ℕ) (protected shared : List Member) (es : List Entry)
-    (zp : Zip (MemberStands header) protected (outermost header))
-    (zs : Zip (MemberStands message) shared (headers.membersOf message (valueOf 2 es .start)))
+    (zp : OneForOne (MemberStands header) protected (outermost header))
+    (zs : OneForOne (MemberStands message) shared (headers.membersOf message (valueOf 2 es .start)))
     (dp : Distinct (namesOf protected)) (ds : Distinct (namesOf shared)) where
   -- The tests of a recipient.
 
@@ -82,7 +82,7 @@ module _ (known : List (List ℕ)) (header message : List ℕ) (protected shared
 
   -- Where an own header and a key are given.
   module _ (r : Recipient) (own : List Member) (key : List ℕ)
-      (zo : Zip (MemberStands message) own (headers.membersOf message (r .header)))
+      (zo : OneForOne (MemberStands message) own (headers.membersOf message (r .header)))
       (keyed : (eqb (r .key .size) 0 ≡ true) ↔ (key ≡ [])) where
     own-decided : OwnPasses r ↔ Object own
     own-decided = object-decided registered message 2 own (ownEntries message r) (own-entries message message r own zo)
@@ -115,7 +115,7 @@ module _ (known : List (List ℕ)) (header message : List ℕ) (protected shared
           (plain-of (ascii "encrypted_key") ms (f .1 .key)) key-lookup
 
       own-stands : (own : List Member) → HeaderIn (ascii "header") ms own →
-          Zip (MemberStands message) own (headers.membersOf message (r .header))
+          OneForOne (MemberStands message) own (headers.membersOf message (r .header))
       own-stands own i =
           header-stands message (ascii "header") ms (valueOf 3 fs) (present 3 fs) (f .1 .header) own own-lookup i
 
@@ -168,7 +168,7 @@ module _ (known : List (List ℕ)) (header message : List ℕ) (protected shared
       (keeps ms (h .entries) (h .holds), passes ms (h .entries) (h .holds))
 
   -- All of them.
-  pub recipients-decided : (rs : List (List Member)) (us : List Recipient) → Zip (Holder message) rs us →
+  pub recipients-decided : (rs : List (List Member)) (us : List Recipient) → OneForOne (Holder message) rs us →
       (Every Formed rs × (Every Spelled us × (Every OwnPasses us × Every RulesPass us)))
       ↔ Every (meets.Recipient known protected shared) rs
   recipients-decided rs us z =

@@ -11,11 +11,11 @@ use Rattle.grammar.specs.Places as places
 use Rattle.grammar.specs.Strings.{SayAlike, HasOctets}
 use Rattle.grammar.specs.Bounds.{Every}
 use Rattle.names.specs.Names.{numberIn}
-use Rattle.rows.specs.Any.{any, anyPair}
+use Rattle.prelude.specs.Any.{any, anyPair}
 use Rattle.rows.specs.Rows.{Entry, textOf, entryOf, entriesIn, nameIn, valueIn, numbered}
 use Rattle.meets.specs.Members.{Member, Among, Distinct, Apart}
 use Rattle.meets.specs.Rules.{ValueAmong}
-use Rattle.meets.proofs.Zip.{Zip, zip-into, zip-map-right}
+use Rattle.meets.proofs.OneForOne.{OneForOne, zip-into, zip-map-right}
 use Rattle.meets.proofs.Standing.{Stands, MemberStands, kind-string}
 use Rattle.meets.proofs.Saying.{Spells, name-spells, string-spells, refuted}
 use Rattle.meets.proofs.Deciding.{TrueWhere, FalseWhere, neither, every-where, anyAcross}
@@ -37,8 +37,8 @@ pub record Seen (names : List (List ℕ)) (header message : List ℕ) (p : Membe
 module _ (names : List (List ℕ)) (header message : List ℕ) where
   -- The entries of rows where members stand.
   pub entries-stand : (o : ℕ) (ps : List Member) (ms : List places.Member) →
-      Zip (MemberStands (textOf header message o)) ps ms →
-      Zip (EntryStands names header message o) ps (entriesIn names (textOf header message o) o ms)
+      OneForOne (MemberStands (textOf header message o)) ps ms →
+      OneForOne (EntryStands names header message o) ps (entriesIn names (textOf header message o) o ms)
   unfolding entriesIn
   entries-stand o ps ms z =
       let s = textOf header message o in
@@ -96,13 +96,13 @@ module _ (names : List (List ℕ)) (header message : List ℕ) (p : Member) (e :
 -- A test on two of a list that asks whether they say the same.
 module _ {B : Type 0} (S U : Str → B → Type 0) (g : B → B → Bool)
     (w : (x y : Str) (b c : B) → S x b → U y c → TrueWhere (g b c) (SayAlike x y)) where
-  others-where : (x : Str) (b : B) → S x b → (ys : List Str) (cs : List B) → Zip U ys cs →
+  others-where : (x : Str) (b : B) → S x b → (ys : List Str) (cs : List B) → OneForOne U ys cs →
       FalseWhere (any (g b) cs) (Every (λ y. SayAlike x y → ⊥) ys)
   others-where x b r ys cs z =
       every-where U (λ y. SayAlike x y → ⊥) (g b) ys cs (λ y c q. refuted (g b c) (w x y b c r q)) z
 
   -- None of one list with one of another.
-  pub apart-where : (xs ys : List Str) (bs cs : List B) → Zip S xs bs → Zip U ys cs →
+  pub apart-where : (xs ys : List Str) (bs cs : List B) → OneForOne S xs bs → OneForOne U ys cs →
       FalseWhere (anyAcross g bs cs) (Apart xs ys)
   apart-where xs ys bs cs z u =
       every-where S (λ x. Every (λ y. SayAlike x y → ⊥) ys) (λ b. any (g b) cs) xs bs
@@ -111,7 +111,7 @@ module _ {B : Type 0} (S U : Str → B → Type 0) (g : B → B → Bool)
 -- No two of one list.
 module _ {B : Type 0} (S : Str → B → Type 0) (g : B → B → Bool)
     (w : (x y : Str) (b c : B) → S x b → S y c → TrueWhere (g b c) (SayAlike x y)) where
-  pub distinct-where : (xs : List Str) (bs : List B) → Zip S xs bs → FalseWhere (anyPair g bs) (Distinct xs)
+  pub distinct-where : (xs : List Str) (bs : List B) → OneForOne S xs bs → FalseWhere (anyPair g bs) (Distinct xs)
   unfolding anyPair
   distinct-where [] [] z = ((λ e. tt), (λ h. refl))
   distinct-where [] (b ∷ bs) z = absurd z

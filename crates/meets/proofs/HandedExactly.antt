@@ -13,7 +13,7 @@ use Rattle.grammar.specs.Places.{placedText, partsOf}
 use Rattle.grammar.specs.Reader.{opensObject}
 use Rattle.rows.specs.Rows.{Entry}
 use Rattle.rows.specs.Tables.{listed}
-use Rattle.jose.specs.Refusals.{first}
+use Rattle.prelude.specs.Refusals.{first}
 use Rattle.jose.specs.Registered.{registered}
 use Rattle.headers.specs.Headers.{headerText, protectedEntries, headerEntries}
 use Rattle.shape.specs.Shape.{memberEntries, protected, component}
@@ -126,12 +126,6 @@ module _ (message known : List ℕ) (recipient : ℕ) where
           headerLength = ap (λ (b : Bool). getD (cond b (accepted message o) (refused n)) 16 0) none;
           parameterCount = ap (λ (b : Bool). getD (cond b (accepted message o) (refused n)) 17 0) none ∙ h .size;
         }
-
-    -- So each message that meets the rules, given that it is accepted.
-    pub listed-exactly : (Meets message known recipient (length buffer) (length list) →
-        refusal message known recipient (length buffer) (length list) ≡ 0) →
-        Meets message known recipient (length buffer) (length list) → HandedOut
-    listed-exactly decided m = handed-exactly (decided m)
 
 -- What meets the rules for one recipient does for each below the count.
 pub each-recipient : (message known : List ℕ) (recipient headerLent listLent : ℕ)

@@ -12,12 +12,12 @@ use Rattle.names.specs.Names.{names, sound}
 use Rattle.grammar.specs.Places.{Place}
 use Rattle.grammar.specs.Bounds.{Every}
 use Rattle.grammar.specs.Reader.{opensObject}
-use Rattle.rows.specs.Any.{any}
+use Rattle.prelude.specs.Any.{any}
 use Rattle.rows.specs.Rows.{Entry, numbered, present, valueOf}
 use Rattle.rows.specs.Tables.{six, listed}
-use Rattle.jose.specs.Refusals.{Test, _if_, first}
+use Rattle.prelude.specs.Refusals.{Test, _if_, first}
 use Rattle.jose.specs.Registered.{registered}
-use Rattle.headers.specs.Limits.{longest, headerRoom, listRoom}
+use Rattle.prelude.specs.Limits.{longest, headerRoom, listRoom}
 use Rattle.headers.specs.Headers.{headerText, protectedEntries}
 use Rattle.shape.specs.Shape.{protected, component, inner, Recipient}
 use Rattle.shape.specs.Recipients.{topEntries, recipientsIn, componentsIn}
@@ -25,7 +25,7 @@ use Rattle.jwe.specs.Compact.{compactOrder}
 use Rattle.jwe.specs.General.{sharedEntries, ownEntries, parameters, jsonOrder}
 use Rattle.jwe.specs.Judge.{order, refusal, compactOutcome, asked, jsonOutcome, outcome}
 use Rattle.meets.specs.Meets.{membersRead, Compact}
-use Rattle.meets.proofs.Zip.{zip-length}
+use Rattle.meets.proofs.OneForOne.{zip-length}
 use Rattle.meets.proofs.Deciding.{or-false, first-none}
 use Rattle.meets.proofs.InOrder.{first-append}
 use Rattle.meets.proofs.SpelledDecided.{Spelled, spelled-header}

@@ -5,8 +5,8 @@ use mathlib.Core.Logic.{_↔_}
 use mathlib.Core.List.{List, [], _∷_, _++_}
 use lib.Dec.{eqb}
 use borrow.Author.Tests.{eqb-false}
-use Rattle.rows.specs.Any.{any}
-use Rattle.jose.specs.Refusals.{Test, first}
+use Rattle.prelude.specs.Any.{any}
+use Rattle.prelude.specs.Refusals.{Test, first}
 use Rattle.meets.proofs.Deciding.{or-false}
 
 -- Whether a test has the number 0, which says that nothing refuses.

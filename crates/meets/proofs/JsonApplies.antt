@@ -14,7 +14,7 @@ use Rattle.grammar.specs.Reader.{elementsAt}
 use Rattle.grammar.specs.Bounds.{Every}
 use Rattle.grammar.specs.Readings.{Reading, Shown, Everywhere, EverywhereIn}
 use Rattle.grammar.proofs.Theorems.{read-shows}
-use Rattle.rows.specs.Any.{any}
+use Rattle.prelude.specs.Any.{any}
 use Rattle.rows.specs.Rows.{Entry, valueOf, repeated}
 use Rattle.jose.specs.HeaderRules.{isEmpty}
 use Rattle.headers.specs.Headers.{headerText, outermost, membersOf, objectOrder}
@@ -50,7 +50,7 @@ module _ (message : List ℕ) (n : ℕ) (ps : Parts) (names : NamesStand message
       × RowsOf message (ascii "header") rs (membersOf message (asked (recipientsIn message es) n .header))
 
   -- The flattened form: the one recipient is the top level.
-  one-asked : (r : Recipient) (k : ℕ) → k < 1 → asked (r ∷ []) k ≡ r
+  pub one-asked : (r : Recipient) (k : ℕ) → k < 1 → asked (r ∷ []) k ≡ r
   unfolding asked
   one-asked r zero h = refl
   one-asked r (suc k) h = absurd (omega arith)
@@ -98,7 +98,7 @@ module _ (message : List ℕ) (n : ℕ) (ps : Parts) (names : NamesStand message
         ap (λ (q : Place). elementsAt 12 message (q .start)) (f .valued)
         ∙ shown-elements message array array-shown array-kind
 
-    array-recipients : recipientsIn message es ≡ map recipientAt (elements (partsOf array))
+    pub array-recipients : recipientsIn message es ≡ map recipientAt (elements (partsOf array))
     unfolding recipientsIn
     array-recipients =
         ap (λ (b : Bool). cond b (map recipientAt (elementsIn message es)) (recipientOf es ∷ [])) (f .present)
@@ -111,7 +111,7 @@ module _ (message : List ℕ) (n : ℕ) (ps : Parts) (names : NamesStand message
         let mapped = length-map (elements (partsOf array)) recipientAt in
         omega arith
 
-    asked-element : (x : Placed) × PartAt n x (partsOf array)
+    pub asked-element : (x : Placed) × PartAt n x (partsOf array)
         × (asked (map recipientAt (elements (partsOf array))) n ≡ recipientAt (elementOf x))
     unfolding asked
     asked-element =
@@ -119,12 +119,12 @@ module _ (message : List ℕ) (n : ℕ) (ps : Parts) (names : NamesStand message
 
     -- One element.
     module _ (x : Placed) (at : PartAt n x (partsOf array)) where
-      element-shown : Everywhere (Shown 12 message) x
+      pub element-shown : Everywhere (Shown 12 message) x
       element-shown =
           part-everywhere (Shown 12 message) n x (partsOf array) at
           (everywhere-in (Shown 12 message) array array-shown)
 
-      element-sits : Everywhere (Sits message 1) x
+      pub element-sits : Everywhere (Sits message 1) x
       element-sits =
           part-everywhere (Sits message 1) n x (partsOf array) at (everywhere-in (Sits message 1) array array-sits)
 
@@ -138,7 +138,7 @@ module _ (message : List ℕ) (n : ℕ) (ps : Parts) (names : NamesStand message
           eqb-true (kindOf x) 0
           (not-false _ (element-every (λ (y : Element). noObject y ≡ false) (partsOf array) array-unnamed n x at each))
 
-      element-entries : elementEntries message (startOf x) ≡ entriesAt message (partsOf x)
+      pub element-entries : elementEntries message (startOf x) ≡ entriesAt message (partsOf x)
       unfolding elementEntries memberEntries
       element-entries = ap (memberEntries message) (shown-members message x element-shown element-kind)
 

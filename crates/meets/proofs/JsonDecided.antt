@@ -12,7 +12,7 @@ use borrow.Author.Tests.{leb-false, lt-leb}
 use Rattle.prelude.specs.Ascii.{ascii}
 use Rattle.grammar.specs.Readings.{Reading}
 use Rattle.rows.specs.Rows.{Entry, present, valueOf}
-use Rattle.jose.specs.Refusals.{first}
+use Rattle.prelude.specs.Refusals.{first}
 use Rattle.jose.specs.Registered.{registered}
 use Rattle.headers.specs.Components.{misspelled}
 use Rattle.headers.specs.Headers.{headerText, outermost, protectedEntries, objectOrder}
@@ -23,7 +23,7 @@ use Rattle.jwe.specs.General.{sharedEntries, jsonOrder}
 use Rattle.meets.specs.Members.{Member, membersOf}
 use Rattle.meets.specs.Rules.{EveryNamed}
 use Rattle.meets.specs.Meets.{Octets, Object, Plain, TopShape, Component, HeaderIn, ProtectedIn, Json}
-use Rattle.meets.proofs.Zip.{Zip, zip-length}
+use Rattle.meets.proofs.OneForOne.{OneForOne, zip-length}
 use Rattle.meets.proofs.Standing.{MemberStands}
 use Rattle.meets.proofs.Rows.{unread-decides}
 use Rattle.meets.proofs.NamesApart.{object-decided}
@@ -49,13 +49,13 @@ module _ (message : List ℕ) where
 
   -- 8 and 9 on the protected and on the shared header, by their members.
 
-  protected-object : (hs : List Member) → Zip (MemberStands header) hs (outermost header) →
+  protected-object : (hs : List Member) → OneForOne (MemberStands header) hs (outermost header) →
       (first (objectOrder header (protectedEntries header)) ≡ 0) ↔ Object hs
   protected-object hs z =
       object-decided registered header 0 hs (protectedEntries header) (protected-entries header header hs z)
 
   shared-object : (hs : List Member) →
-      Zip (MemberStands message) hs (headers.membersOf message (valueOf 2 es .start)) →
+      OneForOne (MemberStands message) hs (headers.membersOf message (valueOf 2 es .start)) →
       (first (objectOrder message (sharedEntries message es)) ≡ 0) ↔ Object hs
   shared-object hs z =
       object-decided registered message 1 hs (sharedEntries message es) (shared-entries message message es hs z)
@@ -66,7 +66,7 @@ module _ (message : List ℕ) (reading : Reading 12 message) where
   abbrev ps : List Member
   ps = membersOf (reading .text .value)
 
-  holds : Holds message ps (topEntries message)
+  pub holds : Holds message ps (topEntries message)
   unfolding topEntries
   holds = top-holds message reading
 
@@ -77,33 +77,33 @@ module _ (message : List ℕ) (reading : Reading 12 message) where
   -- With names none of which stands twice
 
   module _ (object : Object ps) where
-    look : (n : ℕ) (w : List ℕ) → IsMember n w →
+    pub look : (n : ℕ) (w : List ℕ) → IsMember n w →
         Lookup message w ps (valueOf n (topEntries message)) (present n (topEntries message))
     look n w i = lookup message w n i ps (topEntries message) (holds .held) (object .distinct)
 
     -- A component.
 
-    spelling : (n : ℕ) (w : List ℕ) → IsMember n w → EveryNamed w Plain ps →
+    pub spelling : (n : ℕ) (w : List ℕ) → IsMember n w → EveryNamed w Plain ps →
         Spelling message w ps (inner (valueOf n (topEntries message)))
     spelling n w i plain =
         component-spelling message w ps (valueOf n (topEntries message)) (present n (topEntries message)) plain
         (look n w i)
 
-    spelled : (n : ℕ) (w : List ℕ) → IsMember n w → EveryNamed w Plain ps →
+    pub spelled : (n : ℕ) (w : List ℕ) → IsMember n w → EveryNamed w Plain ps →
         (misspelled message (component n (topEntries message)) ≡ false)
         ↔ ((xs : List ℕ) × Octets xs × Component w ps xs)
     spelled n w i plain =
         misspelled-decided message w ps (inner (valueOf n (topEntries message))) (spelling n w i plain)
 
-    header-is : EveryNamed (ascii "protected") Plain ps → (xs : List ℕ) → Octets xs →
+    pub header-is : EveryNamed (ascii "protected") Plain ps → (xs : List ℕ) → Octets xs →
         Component (ascii "protected") ps xs → headerText message (component 1 (topEntries message)) ≡ xs
     header-is plain =
         decoded-is message (ascii "protected") ps (inner (valueOf 1 (topEntries message)))
         (spelling 1 (ascii "protected") protected-number plain)
 
     -- The shared header.
-    shared-stands : TopShape ps → (hs : List Member) → HeaderIn (ascii "unprotected") ps hs →
-        Zip (MemberStands message) hs (headers.membersOf message (valueOf 2 (topEntries message) .start))
+    pub shared-stands : TopShape ps → (hs : List Member) → HeaderIn (ascii "unprotected") ps hs →
+        OneForOne (MemberStands message) hs (headers.membersOf message (valueOf 2 (topEntries message) .start))
     shared-stands shape hs i =
         header-stands message (ascii "unprotected") ps (valueOf 2 (topEntries message))
         (present 2 (topEntries message)) (shape .unprotected) hs

@@ -19,7 +19,7 @@ use Rattle.grammar.specs.Reader.{octetAt, step, skipSpace, rowsAt, rowsIn, memb
 use Rattle.grammar.specs.Bounds as bounds
 use Rattle.grammar.specs.Readings.{octetsAt, Shown, EverywhereIn}
 use Rattle.json.proofs.Within.{value-within}
-use Rattle.rows.specs.Any.{any}
+use Rattle.prelude.specs.Any.{any}
 use Rattle.rows.specs.Rows.{Entry, valueOf}
 use Rattle.headers.specs.Components.{absent, misspelled}
 use Rattle.headers.specs.Headers.{headerText, outermost, membersOf}
@@ -38,7 +38,7 @@ use Rattle.meets.proofs.JsonPassed.{Passed}
 
 -- The names by their numbers.
 
-name-protected : (0 < length memberNames) × (getD memberNames 0 [] ≡ ascii "protected")
+pub name-protected : (0 < length memberNames) × (getD memberNames 0 [] ≡ ascii "protected")
 unfolding memberNames
 name-protected = (omega arith, refl)
 
@@ -97,7 +97,7 @@ outermost-none = cases (eqb (octetAt [] (skipSpace [] (step [] (skipSpace [] 0))
     cases false = refl
 
 -- Where a placed value ends.
-placed-within : (s : List ℕ) (v : Placed) → Shown 12 s v →
+pub placed-within : (s : List ℕ) (v : Placed) → Shown 12 s v →
     bounds.Within (length s) (startOf v) (startOf v + sizeOf v) (kindOf v)
 unfolding Shown
 placed-within s (item k q ps) h = value-within 12 s (q .start) (q .start + q .size) k (h .0)

@@ -8,11 +8,11 @@ use lib.Dec.{leb, ltb}
 use borrow.Author.Tests.{leb-false, ltb-false}
 use Rattle.grammar.specs.Places.{Element}
 use Rattle.grammar.specs.Bounds.{Every}
-use Rattle.rows.specs.Any.{any}
+use Rattle.prelude.specs.Any.{any}
 use Rattle.rows.specs.Rows.{Entry, present, repeated}
-use Rattle.jose.specs.Refusals.{Test, _if_, first}
+use Rattle.prelude.specs.Refusals.{Test, _if_, first}
 use Rattle.jose.specs.HeaderRules.{recipientOrder}
-use Rattle.headers.specs.Limits.{mostRecipients}
+use Rattle.prelude.specs.Limits.{mostRecipients}
 use Rattle.headers.specs.Headers.{headerText, tooLong, unread, textOrder, outermost, protectedEntries, objectOrder}
 use Rattle.shape.specs.Shape.{protected, recipients, component, wrongTop, wrongElements, Recipient}
 use Rattle.shape.specs.Recipients.{topEntries, topOrder, elementsIn, elementOrder, elementsOrder, recipientsIn}

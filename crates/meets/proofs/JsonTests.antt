@@ -8,9 +8,9 @@ use Prim.Native.Nat.{ℕ}
 use lib.ListN.{length}
 use lib.Dec.{eqb, leb}
 use Rattle.grammar.specs.Bounds.{Every}
-use Rattle.rows.specs.Any.{any}
+use Rattle.prelude.specs.Any.{any}
 use Rattle.rows.specs.Rows.{Entry}
-use Rattle.jose.specs.Refusals.{Test, _if_, first}
+use Rattle.prelude.specs.Refusals.{Test, _if_, first}
 use Rattle.jose.specs.HeaderRules.{recipientOrder}
 use Rattle.headers.specs.Components.{misspelled}
 use Rattle.headers.specs.Headers.{unread, headerText, protectedEntries, objectOrder}

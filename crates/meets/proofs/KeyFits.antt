@@ -25,7 +25,7 @@ use Rattle.jose.specs.Registered.{registered, alg}
 use Rattle.jose.specs.HeaderRules.{modeIn, keyless, wrongKey}
 use Rattle.meets.specs.Members.{Member, namesOf, Some, Among, Distinct, Absent}
 use Rattle.meets.specs.Rules.{EveryNamed, Present, ValueAmong, KeyFits}
-use Rattle.meets.proofs.Zip.{Zip}
+use Rattle.meets.proofs.OneForOne.{OneForOne}
 use Rattle.meets.proofs.Standing.{Stands, is-string}
 use Rattle.meets.proofs.Saying.{string-spells, refuted}
 use Rattle.meets.proofs.Deciding.{TrueWhere, FalseWhere, either, eqb-where, every-map}
@@ -74,14 +74,14 @@ alg-mode EcdhEsA256Kw = (refl, refl)
 alg-mode Dir = (refl, refl)
 
 -- A value that has an algorithm's name.
-abbrev Names : Alg → Value → Type 0
+abbrev pub Names : Alg → Value → Type 0
 Names a = ValueAmong (algName a ∷ [])
 
 some-of : {A B : Type 0} (f : A → B) (P : B → Type 0) (xs : List A) → Some P (map f xs) → (a : A) × P (f a)
 some-of f P [] s = absurd s
 some-of f P (x ∷ xs) s = elim s [ inl p ↦ (x, p) | inr r ↦ some-of f P xs r ]
 
-listed-names : (v : Value) → ValueAmong algNames v → (a : Alg) × Names a v
+pub listed-names : (v : Value) → ValueAmong algNames v → (a : Alg) × Names a v
 unfolding algNames
 listed-names v h =
     let (x, i, among) = is-string (Among algNames) v .0 h in
@@ -98,7 +98,7 @@ same-octets x y w s t p q = ap points (sym (says-octets x s) ∙ p ∙ sym q ∙
 module _ (header message : List ℕ) where
   -- So a name stands once where no name stands twice.
   once : (x : Str) (w : List ℕ) → T (sayable x) → HasOctets x w → (ps : List Member) (es : List Entry) →
-      Zip (Seen registered header message) ps es → Every (λ y. SayAlike x y → ⊥) (namesOf ps) → Absent w ps
+      OneForOne (Seen registered header message) ps es → Every (λ y. SayAlike x y → ⊥) (namesOf ps) → Absent w ps
   once x w s p [] es z h = tt
   once x w s p (m ∷ ms) [] z h = absurd z
   once x w s p (m ∷ ms) (e ∷ es) z h = (
@@ -126,10 +126,10 @@ module _ (header message : List ℕ) where
 
   -- What is asked of the mode of each algorithm that an `alg` names.
   module _ (Q : ℕ → Type 0) where
-    abbrev Asked : Alg → Value → Type 0
+    abbrev pub Asked : Alg → Value → Type 0
     Asked a v = Names a v → Q (mode a)
 
-    mode-where : (ps : List Member) (es : List Entry) → Zip (Seen registered header message) ps es →
+    pub mode-where : (ps : List Member) (es : List Entry) → OneForOne (Seen registered header message) ps es →
         Distinct (namesOf ps) → Present (ascii "alg") ps → EveryNamed (ascii "alg") (ValueAmong algNames) ps →
         Q (modeIn header message es) ↔ ((a : Alg) → EveryNamed (ascii "alg") (Asked a) ps)
     unfolding modeIn
@@ -165,7 +165,7 @@ module _ (header message : List ℕ) where
 
   -- 18, where 13 and 15 do not refuse and no name stands twice
   pub key-decided : (ps : List Member) (es : List Entry) (key : List ℕ) (noKey : Bool) →
-      Zip (Seen registered header message) ps es → Distinct (namesOf ps) → Present (ascii "alg") ps →
+      OneForOne (Seen registered header message) ps es → Distinct (namesOf ps) → Present (ascii "alg") ps →
       EveryNamed (ascii "alg") (ValueAmong algNames) ps → (noKey ≡ true) ↔ (key ≡ []) →
       (wrongKey (modeIn header message es) noKey ≡ false)
       ↔ ((a : Alg) →

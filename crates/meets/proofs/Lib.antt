@@ -1,7 +1,7 @@
 -- From the trees of a reading to the rows that the reader collects, one for one.
 
--- Lists whose elements are related one to one.
-pub mod Zip
+-- Lists whose elements are related one for one.
+pub mod OneForOne
 -- Values, members and elements that stand where the reader says.
 pub mod Standing
 pub mod Rows
@@ -40,6 +40,7 @@ pub mod JsonTests
 pub mod JsonDecided
 -- The forms, the whole order, and what a refusal leaves.
 pub mod FormsApart
+pub mod FormTold
 pub mod Accepted
 pub mod Refused
 -- What is handed out.

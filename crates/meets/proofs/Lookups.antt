@@ -16,14 +16,14 @@ use Rattle.grammar.specs.Spellings.{sayable}
 use Rattle.grammar.specs.Bounds.{Every}
 use Rattle.grammar.specs.Reader.{membersAt}
 use Rattle.grammar.proofs.Theorems.{says-octets}
-use Rattle.rows.specs.Any.{any}
+use Rattle.prelude.specs.Any.{any}
 use Rattle.rows.specs.Rows.{Entry, numbered, present, valueOf}
 use Rattle.headers.specs.Components.{absent}
 use Rattle.headers.specs.Headers as headers
 use Rattle.meets.specs.Members.{Member, membersOf, namesOf, Distinct, Named, Absent}
 use Rattle.meets.specs.Rules.{EveryNamed}
 use Rattle.meets.specs.Meets.{Header, HeaderIn}
-use Rattle.meets.proofs.Zip.{Zip}
+use Rattle.meets.proofs.OneForOne.{OneForOne}
 use Rattle.meets.proofs.Standing.{Stands, MemberStands}
 use Rattle.meets.proofs.Rows.{members-stand}
 use Rattle.meets.proofs.Saying.{refuted}
@@ -52,7 +52,7 @@ same-octets x y w s t p q = ap points (sym (says-octets x s) ∙ p ∙ sym q ∙
 
 module _ (message w : List ℕ) where
   no-other : (x : Str) → T (sayable x) → HasOctets x w → (ps : List Member) (es : List Entry) →
-      Zip (Held message) ps es → Every (λ y. SayAlike x y → ⊥) (namesOf ps) → Absent w ps
+      OneForOne (Held message) ps es → Every (λ y. SayAlike x y → ⊥) (namesOf ps) → Absent w ps
   no-other x s p [] es z h = tt
   no-other x s p (m ∷ ms) [] z h = absurd z
   no-other x s p (m ∷ ms) (e ∷ es) z h = (
@@ -60,7 +60,7 @@ module _ (message w : List ℕ) where
     no-other x s p ms es (z .1) (h .1),
   )
 
-  pub lookup : (n : ℕ) → IsMember n w → (ps : List Member) (es : List Entry) → Zip (Held message) ps es →
+  pub lookup : (n : ℕ) → IsMember n w → (ps : List Member) (es : List Entry) → OneForOne (Held message) ps es →
       Distinct (namesOf ps) → Lookup message w ps (valueOf n es) (present n es)
   unfolding valueOf present any
   lookup n i [] [] z d = missing refl tt refl
@@ -130,11 +130,11 @@ module _ (message w : List ℕ) (ps : List Member) (q : Place) (b : Bool) (h : E
   header-found (single v t o) = (membersOf v, inr (v, o .named, refl))
 
   pub header-stands : (hs : List Member) → Lookup message w ps q b → HeaderIn w ps hs →
-      Zip (MemberStands message) hs (headers.membersOf message (q .start))
+      OneForOne (MemberStands message) hs (headers.membersOf message (q .start))
   unfolding headers.membersOf
   header-stands hs (missing t a e) (inl i) =
-      subst (λ (ms : List Member). Zip (MemberStands message) ms (headers.membersOf message (q .start))) (sym (i .1))
-      (subst (λ (p : Place). Zip (MemberStands message) [] (headers.membersOf message (p .start))) (sym e) tt)
+      subst (λ (ms : List Member). OneForOne (MemberStands message) ms (headers.membersOf message (q .start))) (sym (i .1))
+      (subst (λ (p : Place). OneForOne (MemberStands message) [] (headers.membersOf message (p .start))) (sym e) tt)
   header-stands hs (missing t a e) (inr (u, n, i)) = absurd (none-named w ps u a n)
   header-stands hs (single v t o) (inl i) = absurd (only-there message w ps q v o (i .0))
   header-stands hs (single v t o) (inr (u, n, i)) =
@@ -143,6 +143,6 @@ module _ (message w : List ℕ) (ps : List Member) (q : Place) (b : Bool) (h : E
       let s = q .start in
       let l = o .later in
       let f : eqb s 0 ≡ false = ne-eqb s 0 (λ z. omega arith) in
-      subst (λ (ms : List Member). Zip (MemberStands message) ms (cond (eqb s 0) [] (membersAt 12 message s))) (sym m)
-      (subst (λ (c : Bool). Zip (MemberStands message) (membersOf v) (cond c [] (membersAt 12 message s))) (sym f)
+      subst (λ (ms : List Member). OneForOne (MemberStands message) ms (cond (eqb s 0) [] (membersAt 12 message s))) (sym m)
+      (subst (λ (c : Bool). OneForOne (MemberStands message) (membersOf v) (cond c [] (membersAt 12 message s))) (sym f)
       (members-stand message v s (q .size) (o .stands) (k .0)))

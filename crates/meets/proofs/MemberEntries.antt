@@ -18,12 +18,12 @@ use Rattle.grammar.specs.Readings.{Shown, Everywhere, Reading}
 use Rattle.grammar.specs.Reader.{membersAt, skipSpace}
 use Rattle.grammar.specs.Spellings.{adds, next, undoFrom, undo, equal, has}
 use Rattle.names.specs.Names.{numberIn}
-use Rattle.rows.specs.Any.{any}
+use Rattle.prelude.specs.Any.{any}
 use Rattle.rows.specs.Rows.{Entry, textOf, entriesIn, entryOf}
 use Rattle.headers.specs.Headers.{outermost}
 use Rattle.shape.specs.Shape.{memberNames, memberEntries}
 use Rattle.meets.specs.Members.{Member, membersOf}
-use Rattle.meets.proofs.Zip.{Zip, zip-into, zip-map-right}
+use Rattle.meets.proofs.OneForOne.{OneForOne, zip-into, zip-map-right}
 use Rattle.meets.proofs.Standing.{Stands, MemberStands, placed-kind, placed-start, reading-stands}
 use Rattle.meets.proofs.Rows.{members-stand}
 use Rattle.meets.proofs.Numbering.{disagrees}
@@ -76,8 +76,8 @@ members-later s v at size h e =
 
 -- Entries of rows where members stand.
 pub entries-of : (names : List (List ℕ)) (header message : List ℕ) (o : ℕ) (ps : List Member)
-    (rows : List places.Member) → Zip (MemberStands (textOf header message o)) ps rows →
-    Zip (EntryStands names header message o) ps (entriesIn names (textOf header message o) o rows)
+    (rows : List places.Member) → OneForOne (MemberStands (textOf header message o)) ps rows →
+    OneForOne (EntryStands names header message o) ps (entriesIn names (textOf header message o) o rows)
 unfolding entriesIn
 entries-of names header message o ps rows z =
     zip-map-right (EntryStands names header message o) (entryOf names (textOf header message o) o) ps rows .0
@@ -93,12 +93,12 @@ pub record Held (message : List ℕ) (p : Member) (e : Entry) : Type 0 where
 
 -- An object of the message and its entries.
 pub record Holds (message : List ℕ) (ps : List Member) (es : List Entry) : Type 0 where
-  pub entries : Zip (EntryStands memberNames message message 1) ps es
-  pub held : Zip (Held message) ps es
+  pub entries : OneForOne (EntryStands memberNames message message 1) ps es
+  pub held : OneForOne (Held message) ps es
 
 module _ (message : List ℕ) where
-  held-of : (ps : List Member) (rows : List places.Member) → Zip (MemberStands message) ps rows → Every Later rows →
-      Zip (λ p m. Held message p (entryOf memberNames message 1 m)) ps rows
+  held-of : (ps : List Member) (rows : List places.Member) → OneForOne (MemberStands message) ps rows → Every Later rows →
+      OneForOne (λ p m. Held message p (entryOf memberNames message 1 m)) ps rows
   held-of [] [] z h = tt
   held-of [] (m ∷ rows) z h = absurd z
   held-of (p ∷ ps) [] z h = absurd z

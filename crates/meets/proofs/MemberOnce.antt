@@ -11,7 +11,7 @@ use Rattle.grammar.specs.Places.{Place, Placed, Parts, done, part, partsOf, Mem
 use Rattle.grammar.specs.Spellings.{equal, alike}
 use Rattle.grammar.proofs.Spellings.{equal-same}
 use Rattle.grammar.proofs.Scan.{T→true}
-use Rattle.rows.specs.Any.{any, anyPair}
+use Rattle.prelude.specs.Any.{any, anyPair}
 use Rattle.rows.specs.Rows.{entriesIn, same, repeated}
 use Rattle.meets.specs.Handed.{NameAt, MemberAt, NoMember, PartAt, RowsOf, RecipientAt}
 use Rattle.meets.proofs.Deciding.{or-false}

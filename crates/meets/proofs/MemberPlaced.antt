@@ -14,7 +14,7 @@ use Rattle.grammar.specs.Places.{Place, Placed, item, Parts, done, part, startO
 use Rattle.grammar.specs.Places.{members, Element, elementOf, elements}
 use Rattle.grammar.specs.Bounds.{Every}
 use Rattle.grammar.specs.Readings.{Shown, Everywhere, EverywhereIn}
-use Rattle.rows.specs.Any.{any}
+use Rattle.prelude.specs.Any.{any}
 use Rattle.rows.specs.Rows.{Entry, entryOf, entriesIn, present, valueOf}
 use Rattle.grammar.specs.Reader.{membersAt}
 use Rattle.headers.specs.Headers.{membersOf}

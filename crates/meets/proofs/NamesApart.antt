@@ -11,14 +11,14 @@ use borrow.Author.Tests.{eq-eqb, ltb-false, le-ltb}
 use Rattle.grammar.specs.Grammar.{Str}
 use Rattle.grammar.specs.Strings.{SayAlike}
 use Rattle.grammar.specs.Spellings.{alike}
-use Rattle.rows.specs.Any.{any, anyPair}
+use Rattle.prelude.specs.Any.{any, anyPair}
 use Rattle.rows.specs.Rows.{Entry, nameIn, apart, same, repeated}
-use Rattle.jose.specs.Refusals.{first}
+use Rattle.prelude.specs.Refusals.{first}
 use Rattle.headers.specs.Headers.{objectOrder}
 use Rattle.meets.specs.Members.{Member, namesOf, Distinct, Apart}
 use Rattle.meets.specs.Rules.{Headers, NamesApart}
 use Rattle.meets.specs.Meets.{Object}
-use Rattle.meets.proofs.Zip.{Zip, zip-into, zip-map-left, zip-length}
+use Rattle.meets.proofs.OneForOne.{OneForOne, zip-into, zip-map-left, zip-length}
 use Rattle.meets.proofs.Saying.{Spells, alike-spells}
 use Rattle.meets.proofs.Deciding.{TrueWhere, FalseWhere, pair-append, anyAcross}
 use Rattle.meets.proofs.Deciding.{across-append, no-pair, every-right, first-none}
@@ -31,8 +31,8 @@ record NameStands (header message : List ℕ) (o : ℕ) (x : Str) (e : Entry) : 
 
 module _ (names : List (List ℕ)) (header message : List ℕ) where
   -- The names of members and their entries.
-  names-stand : (o : ℕ) (ps : List Member) (es : List Entry) → Zip (EntryStands names header message o) ps es →
-      Zip (NameStands header message o) (namesOf ps) es
+  names-stand : (o : ℕ) (ps : List Member) (es : List Entry) → OneForOne (EntryStands names header message o) ps es →
+      OneForOne (NameStands header message o) (namesOf ps) es
   names-stand o ps es z =
       zip-map-left (NameStands header message o) (λ (p : Member). p .name) ps es .0
       (zip-into (EntryStands names header message o) (λ p e. NameStands header message o (p .name) e)
@@ -62,7 +62,7 @@ one-origin header message o e f a b =
 
 -- 9: no name twice in an object of one text.
 pub distinct-decided : (names : List (List ℕ)) (s : List ℕ) (o : ℕ) (ps : List Member) (es : List Entry) →
-    Zip (EntryStands names s s o) ps es → (repeated false s s es ≡ false) ↔ Distinct (namesOf ps)
+    OneForOne (EntryStands names s s o) ps es → (repeated false s s es ≡ false) ↔ Distinct (namesOf ps)
 unfolding repeated
 distinct-decided names s o ps es z =
     distinct-where (NameStands s s o) (same false s s) (same-where false s s o o (eq-eqb o o refl)) (namesOf ps) es
@@ -70,7 +70,7 @@ distinct-decided names s o ps es z =
 
 -- 8: at most 32 members.
 pub few-decided : (names : List (List ℕ)) (s : List ℕ) (o : ℕ) (ps : List Member) (es : List Entry) →
-    Zip (EntryStands names s s o) ps es → (ltb 32 (length es) ≡ false) ↔ (length ps ≤ 32)
+    OneForOne (EntryStands names s s o) ps es → (ltb 32 (length es) ≡ false) ↔ (length ps ≤ 32)
 few-decided names s o ps es z =
     let n = zip-length (EntryStands names s s o) ps es z in (
       (λ e. let h = ltb-false 32 (length es) e in omega arith),
@@ -79,7 +79,7 @@ few-decided names s o ps es z =
 
 -- Both: the object's names may be compared, and none stands twice.
 pub object-decided : (names : List (List ℕ)) (s : List ℕ) (o : ℕ) (ps : List Member) (es : List Entry) →
-    Zip (EntryStands names s s o) ps es → (first (objectOrder s es) ≡ 0) ↔ Object ps
+    OneForOne (EntryStands names s s o) ps es → (first (objectOrder s es) ≡ 0) ↔ Object ps
 unfolding objectOrder any
 object-decided names s o ps es z =
     let t = first-none (objectOrder s es) refl in
@@ -91,22 +91,22 @@ object-decided names s o ps es z =
 
 -- 12: no name stands in two headers.
 module _ (names : List (List ℕ)) (header message : List ℕ) (h : Headers) (ps ss os : List Entry)
-    (zp : Zip (EntryStands names header message 0) (h .protected) ps)
-    (zs : Zip (EntryStands names header message 1) (h .shared) ss)
-    (zo : Zip (EntryStands names header message 2) (h .own) os) where
+    (zp : OneForOne (EntryStands names header message 0) (h .protected) ps)
+    (zs : OneForOne (EntryStands names header message 1) (h .shared) ss)
+    (zo : OneForOne (EntryStands names header message 2) (h .own) os) where
   abbrev test : Entry → Entry → Bool
   test = same true header message
 
   -- Two lists of entries of two origins.
   across-where : (o q : ℕ) → apart true o q ≡ true → (xs ys : List Member) (es fs : List Entry) →
-      Zip (EntryStands names header message o) xs es → Zip (EntryStands names header message q) ys fs →
+      OneForOne (EntryStands names header message o) xs es → OneForOne (EntryStands names header message q) ys fs →
       FalseWhere (anyAcross test es fs) (Apart (namesOf xs) (namesOf ys))
   across-where o q a xs ys es fs z u =
       apart-where (NameStands header message o) (NameStands header message q) test
       (same-where true header message o q a) (namesOf xs) (namesOf ys) es fs
       (names-stand names header message o xs es z) (names-stand names header message q ys fs u)
 
-  within : (o : ℕ) (xs : List Member) (es : List Entry) → Zip (EntryStands names header message o) xs es →
+  within : (o : ℕ) (xs : List Member) (es : List Entry) → OneForOne (EntryStands names header message o) xs es →
       anyPair test es ≡ false
   within o xs es z =
       no-pair test (λ e. e .origin ≡ o) (one-origin header message o) es

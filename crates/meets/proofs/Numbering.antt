@@ -17,7 +17,7 @@ use Rattle.grammar.proofs.Parse.{true→T}
 use Rattle.names.specs.Names.{numberIn}
 use Rattle.names.specs.Names as names
 use Rattle.names.proofs.Laws.{number-alike}
-use Rattle.rows.specs.Any.{any}
+use Rattle.prelude.specs.Any.{any}
 use Rattle.meets.specs.Members.{Some, Among}
 use Rattle.meets.proofs.Saying.{Spells, number-among}
 use Rattle.meets.proofs.Deciding.{TrueWhere, FalseWhere, not-where, neither, any-every, any-some}

@@ -7,9 +7,9 @@ use mathlib.Core.List.{List, [], _∷_, _++_, map, flatMap}
 use Prim.Native.Nat.{ℕ}
 use lib.Dec.{eqb}
 use Rattle.grammar.specs.Bounds.{Every}
-use Rattle.rows.specs.Any.{any}
-use Rattle.jose.specs.Refusals.{Test, _if_, first}
-use Rattle.meets.proofs.Zip.{Zip}
+use Rattle.prelude.specs.Any.{any}
+use Rattle.prelude.specs.Refusals.{Test, _if_, first}
+use Rattle.meets.proofs.OneForOne.{OneForOne}
 use Rattle.meets.proofs.Deciding.{or-false, any-append, first-none, FalseWhere}
 
 -- No test has the number 0.
@@ -88,7 +88,7 @@ module _ {A B : Type 0} (f : A → B) where
 -- What holds of each on the left, and three more of each on the right, are together a sentence on each on the left.
 module _ {A B : Type 0} (R : A → B → Type 0) (P S : A → Type 0) (U Q W : B → Type 0)
     (same : (x : A) (y : B) → R x y → (S x × (U y × (Q y × W y))) ↔ P x) where
-  pub every-together : (xs : List A) (ys : List B) → Zip R xs ys →
+  pub every-together : (xs : List A) (ys : List B) → OneForOne R xs ys →
       (Every S xs × (Every U ys × (Every Q ys × Every W ys))) ↔ Every P xs
   every-together [] [] z = ((λ h. tt), (λ h. (tt, (tt, (tt, tt)))))
   every-together [] (y ∷ ys) z = absurd z

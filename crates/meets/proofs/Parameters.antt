@@ -13,7 +13,7 @@ use Rattle.grammar.specs.Places.{kind}
 use Rattle.grammar.specs.Strings.{HasOctets}
 use Rattle.grammar.specs.Spellings.{adds, next, undoFrom, undo, equal, has}
 use Rattle.names.specs.Names.{numberIn}
-use Rattle.rows.specs.Any.{any}
+use Rattle.prelude.specs.Any.{any}
 use Rattle.rows.specs.Rows.{Entry, valueIn, numbered, present}
 use Rattle.algorithms.specs.Algorithms.{algNames, encNames, zipNames}
 use Rattle.jose.specs.Registered.{registered, alg, enc, zip, jwk, x5c, crit, object, array, string, anyKind, kindAsked}
@@ -21,7 +21,7 @@ use Rattle.jose.specs.HeaderRules.{incomplete, wrongKind, unlisted, unprotected
 use Rattle.meets.specs.Members.{Member, Among}
 use Rattle.meets.specs.Rules.{Headers, EveryNamed, Present, stringNames, objectNames, arrayNames, OfKind}
 use Rattle.meets.specs.Rules.{ValueAmong}
-use Rattle.meets.proofs.Zip.{Zip, zip-into, zip-append}
+use Rattle.meets.proofs.OneForOne.{OneForOne, zip-into, zip-append}
 use Rattle.meets.proofs.Saying.{refuted}
 use Rattle.meets.proofs.Deciding.{TrueWhere, FalseWhere, not-where, not-none-where, where-true}
 use Rattle.meets.proofs.Deciding.{neither, where-asked, none-of-three, eqb-where, every-both, every-three}
@@ -170,7 +170,7 @@ zip-string = refl
 -- All entries
 
 module _ (header message : List ℕ) (ps : List Member) (es : List Entry)
-    (z : Zip (Seen registered header message) ps es) where
+    (z : OneForOne (Seen registered header message) ps es) where
   present-where : (n : ℕ) (w : List ℕ) → IsNumber n w → TrueWhere (present n es) (Present w ps)
   unfolding present
   present-where n w a =
@@ -229,14 +229,14 @@ module _ (header message : List ℕ) (ps : List Member) (es : List Entry)
 
 -- 16: the three headers' entries, of origins 0, 1 and 2
 module _ (header message : List ℕ) (h : Headers) (ps ss os : List Entry)
-    (zp : Zip (EntryStands registered header message 0) (h .protected) ps)
-    (zs : Zip (EntryStands registered header message 1) (h .shared) ss)
-    (zo : Zip (EntryStands registered header message 2) (h .own) os) where
+    (zp : OneForOne (EntryStands registered header message 0) (h .protected) ps)
+    (zs : OneForOne (EntryStands registered header message 1) (h .shared) ss)
+    (zo : OneForOne (EntryStands registered header message 2) (h .own) os) where
   abbrev Outside : Member → Entry → Type 0
   Outside m e = Seen registered header message m e × (eqb (e .origin) 0 ≡ false)
 
   outside : (o : ℕ) → eqb o 0 ≡ false → (ms : List Member) (es : List Entry) →
-      Zip (EntryStands registered header message o) ms es → Zip Outside ms es
+      OneForOne (EntryStands registered header message o) ms es → OneForOne Outside ms es
   outside o a ms es z =
       zip-into (EntryStands registered header message o) Outside
       (λ p e r. (

@@ -12,14 +12,14 @@ use Rattle.prelude.specs.Ascii.{ascii}
 use Rattle.grammar.specs.Grammar.{string}
 use Rattle.grammar.specs.Places as places
 use Rattle.grammar.specs.Reader.{passOver, skip, rowsAt, rowsIn, membersAt}
-use Rattle.rows.specs.Any.{any}
+use Rattle.prelude.specs.Any.{any}
 use Rattle.rows.specs.Rows.{Entry, present, valueOf}
-use Rattle.jose.specs.Refusals.{Test, _if_, first}
+use Rattle.prelude.specs.Refusals.{Test, _if_, first}
 use Rattle.headers.specs.Headers.{unread, textOrder, tooLong, outermost}
 use Rattle.jwe.specs.General.{isHollow, protectedOrder}
 use Rattle.meets.specs.Members.{Member}
 use Rattle.meets.specs.Meets.{Protected, membersRead, Component, ProtectedIn}
-use Rattle.meets.proofs.Zip.{Zip}
+use Rattle.meets.proofs.OneForOne.{OneForOne}
 use Rattle.meets.proofs.Standing.{MemberStands}
 use Rattle.meets.proofs.Rows.{unread-decides, outermost-stand}
 use Rattle.meets.proofs.Deciding.{FalseWhere, first-none}
@@ -33,7 +33,7 @@ no-members = refl
 
 -- A text that is read
 
-hollow-where : (header : List ℕ) (hs : List Member) (rows : List places.Member) → Zip (MemberStands header) hs rows →
+pub hollow-where : (header : List ℕ) (hs : List Member) (rows : List places.Member) → OneForOne (MemberStands header) hs rows →
     FalseWhere (isHollow rows) (hs ≡ [] → ⊥)
 hollow-where header [] [] z = ((λ e. absurd (true≢false e)), (λ n. absurd (n refl)))
 hollow-where header [] (m ∷ ms) z = absurd z
@@ -46,7 +46,7 @@ module _ (es : List Entry) (header : List ℕ) where
   abbrev tests : List Test
   tests = textOrder header ++ (10 if isHollow (outermost header) ∷ [])
 
-  order-is : (b : Bool) → present 1 es ≡ b → protectedOrder es header ≡ cond b tests []
+  pub order-is : (b : Bool) → present 1 es ≡ b → protectedOrder es header ≡ cond b tests []
   unfolding protectedOrder
   order-is b e = ap (λ (x : Bool). cond x tests []) e
 
@@ -59,17 +59,17 @@ module _ (message : List ℕ) (ps : List Member) (es : List Entry) (header : Lis
     (c : Component (ascii "protected") ps header) where
   -- The members stand where the rows of the text say.
   pub protected-stands : (hs : List Member) → ProtectedIn ps header hs →
-      Zip (MemberStands header) hs (outermost header)
+      OneForOne (MemberStands header) hs (outermost header)
   protected-stands hs (inl i) =
       let none : header ≡ [] = elim c [
         | inl k ↦ k .1
         | inr k ↦ absurd (none-named (ascii "protected") ps (string (k .0)) (i .0) (k .1))
       ] in
-      subst (λ (us : List Member). Zip (MemberStands header) us (outermost header)) (sym (i .1))
-      (subst (λ (w : List ℕ). Zip (MemberStands w) [] (outermost w)) (sym none)
-      (subst (λ (ms : List places.Member). Zip (MemberStands []) [] ms) (sym no-members) tt))
+      subst (λ (us : List Member). OneForOne (MemberStands header) us (outermost header)) (sym (i .1))
+      (subst (λ (w : List ℕ). OneForOne (MemberStands w) [] (outermost w)) (sym none)
+      (subst (λ (ms : List places.Member). OneForOne (MemberStands []) [] ms) (sym no-members) tt))
   protected-stands hs (inr (p, i, n)) =
-      subst (λ (us : List Member). Zip (MemberStands header) us (outermost header)) (sym i)
+      subst (λ (us : List Member). OneForOne (MemberStands header) us (outermost header)) (sym i)
       (outermost-stand header (p .reading))
 
   pub protected-decided : (first (protectedOrder es header) ≡ 0) ↔ ((hs : List Member) × ProtectedIn ps header hs)

@@ -15,16 +15,16 @@ use Rattle.grammar.specs.Places.{kind, Place, Element}
 use Rattle.grammar.specs.Strings.{HasOctets}
 use Rattle.grammar.specs.Bounds.{Every}
 use Rattle.grammar.specs.Reader.{elementsAt}
-use Rattle.rows.specs.Any.{any}
+use Rattle.prelude.specs.Any.{any}
 use Rattle.rows.specs.Rows.{Entry, present, valueOf}
-use Rattle.jose.specs.Refusals.{Test, _if_, first}
+use Rattle.prelude.specs.Refusals.{Test, _if_, first}
 use Rattle.headers.specs.Headers.{objectOrder}
 use Rattle.shape.specs.Shape.{Recipient, recipientOf, wrongElement, wrongElements}
 use Rattle.shape.specs.Recipients.{elementsIn, elementEntries, elementOrder, elementsOrder, recipientsIn}
 use Rattle.meets.specs.Members.{Member, membersOf, elementsOf}
 use Rattle.meets.specs.Rules.{EveryNamed}
 use Rattle.meets.specs.Meets.{Object, Recipients, RecipientShape, RecipientsIn}
-use Rattle.meets.proofs.Zip.{Zip, zip-length, zip-into, zip-every, zip-map-left, zip-map-right}
+use Rattle.meets.proofs.OneForOne.{OneForOne, zip-length, zip-into, zip-every, zip-map-left, zip-map-right}
 use Rattle.meets.proofs.Standing.{ElementStands}
 use Rattle.meets.proofs.Rows.{elements-stand}
 use Rattle.meets.proofs.Deciding.{every-map, zip-with}
@@ -62,10 +62,10 @@ module _ (message : List ℕ) where
 
   -- Elements that are objects, and the entries of each.
 
-  abbrev ObjectStands : Value → Element → Type 0
+  abbrev pub ObjectStands : Value → Element → Type 0
   ObjectStands v x = ElementStands message v x × (kind v ≡ 0)
 
-  element-holds : (v : Value) (x : Element) → ObjectStands v x →
+  pub element-holds : (v : Value) (x : Element) → ObjectStands v x →
       Holds message (membersOf v) (elementEntries message (x .start))
   unfolding elementEntries
   element-holds v x r = object-holds message v (x .start) (x .size) (r .0 .stands) (r .1)
@@ -93,7 +93,7 @@ module _ (message : List ℕ) (es : List Entry) where
   abbrev tests : List Test
   tests = 10 if wrongElements xs ∷ 11 if ltb 8 (length xs) ∷ inside
 
-  order-is : (b : Bool) → present 5 es ≡ b → elementsOrder message es ≡ cond b tests []
+  pub order-is : (b : Bool) → present 5 es ≡ b → elementsOrder message es ≡ cond b tests []
   unfolding elementsOrder elementsIn
   order-is b e = ap (λ (c : Bool). cond c tests []) e
 
@@ -136,8 +136,8 @@ module _ (message : List ℕ) (ps : List Member) (es : List Entry)
       found (missing t a e) = (ps ∷ [], inl (a, refl))
       found (single v t o) = (map membersOf (elementsOf v), inr (v, o .named, refl))
 
-  objects-stand : (v : Value) → Only message (ascii "recipients") ps at v → Recipients v →
-      Zip (ObjectStands message) (elementsOf v) ys
+  pub objects-stand : (v : Value) → Only message (ascii "recipients") ps at v → Recipients v →
+      OneForOne (ObjectStands message) (elementsOf v) ys
   objects-stand v o r =
       zip-with (ElementStands message) (λ x. kind x ≡ 0) (elementsOf v) ys
       (elements-stand message v (at .start) (at .size) (o .stands) (r .0)) (r .2)
@@ -152,14 +152,14 @@ module _ (message : List ℕ) (ps : List Member) (es : List Entry)
 
   -- They stand one for one for the objects.
   pub recipients-stand : Holds message ps es → EveryNamed (ascii "recipients") Recipients ps →
-      (rs : List (List Member)) → RecipientsIn ps rs → Zip (Holder message) rs (recipientsIn message es)
+      (rs : List (List Member)) → RecipientsIn ps rs → OneForOne (Holder message) rs (recipientsIn message es)
   recipients-stand h shape rs i = cases l i
     where
       cases : Lookup message (ascii "recipients") ps (valueOf 5 es) (present 5 es) → RecipientsIn ps rs →
-          Zip (Holder message) rs (recipientsIn message es)
+          OneForOne (Holder message) rs (recipientsIn message es)
       cases (missing t a e) (inl j) =
-          subst (λ (us : List (List Member)). Zip (Holder message) us (recipientsIn message es)) (sym (j .1))
-          (subst (λ (us : List Recipient). Zip (Holder message) (ps ∷ []) us) (sym (recipients-are false t))
+          subst (λ (us : List (List Member)). OneForOne (Holder message) us (recipientsIn message es)) (sym (j .1))
+          (subst (λ (us : List Recipient). OneForOne (Holder message) (ps ∷ []) us) (sym (recipients-are false t))
           (record { entries = es; holds = h; made = refl }, tt))
       cases (missing t a e) (inr (u, n, j)) = absurd (none-named (ascii "recipients") ps u a n)
       cases (single v t o) (inl j) = absurd (only-there message (ascii "recipients") ps at v o (j .0))
@@ -168,8 +168,8 @@ module _ (message : List ℕ) (ps : List Member) (es : List Entry)
           let is : rs ≡ map membersOf (elementsOf v) = j ∙ ap (λ (x : Value). map membersOf (elementsOf x)) same in
           let z = objects-stand v o (of-only message (ascii "recipients") ps at v o Recipients shape) in
           let make : Element → Recipient = λ x. recipientOf (elementEntries message (x .start)) in
-          subst (λ (us : List (List Member)). Zip (Holder message) us (recipientsIn message es)) (sym is)
-          (subst (λ (us : List Recipient). Zip (Holder message) (map membersOf (elementsOf v)) us)
+          subst (λ (us : List (List Member)). OneForOne (Holder message) us (recipientsIn message es)) (sym is)
+          (subst (λ (us : List Recipient). OneForOne (Holder message) (map membersOf (elementsOf v)) us)
           (sym (recipients-are true t))
           (zip-map-left (Holder message) membersOf (elementsOf v) general .0
           (zip-map-right (λ x r. Holder message (membersOf x) r) make (elementsOf v) ys .0

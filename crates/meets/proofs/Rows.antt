@@ -32,14 +32,14 @@ use Rattle.grammar.proofs.Positions.{Rest, rest-along, rest-next, octet-cons, s
 use Rattle.headers.specs.Headers.{isNothing, unread, outermost}
 use Rattle.shape.specs.Shape.{hollow}
 use Rattle.meets.specs.Members.{Member, memberOf, elementOf, membersIn, elementsIn, membersOf, elementsOf}
-use Rattle.meets.proofs.Zip.{Zip, zip-none}
+use Rattle.meets.proofs.OneForOne.{OneForOne, zip-none}
 use Rattle.meets.proofs.Standing.{Stands, MemberStands, ElementStands, placed-kind, placed-start}
 use Rattle.meets.proofs.Standing.{stands-placed, str-stands, reading-stands}
 
 module _ (s : List ℕ) where
   -- Members and elements stand where the rows of parts say.
   abbrev RowsStand : List Member → List Value → Parts → Type 0
-  RowsStand ms vs ps = Zip (MemberStands s) ms (members ps) × Zip (ElementStands s) vs (elements ps)
+  RowsStand ms vs ps = OneForOne (MemberStands s) ms (members ps) × OneForOne (ElementStands s) vs (elements ps)
 
   -- One entry more.
   first-stands : (b : Bracket) (l : Label b) (v : Value) (n : ℕ) (r : List ℕ) (ps : Parts) (ms : List Member)
@@ -144,16 +144,16 @@ module _ (s : List ℕ) (v : Value) (at size : ℕ) (h : Stands s v at size) whe
   rows-there = rows-stand s v (h .from) (h .rest) (h .leaves) (h .shown) (h .strings) (h .sayable)
 
   -- The members of an object stand where the reader's rows say ..
-  pub members-stand : kind v ≡ 0 → Zip (MemberStands s) (membersOf v) (membersAt 12 s at)
+  pub members-stand : kind v ≡ 0 → OneForOne (MemberStands s) (membersOf v) (membersAt 12 s at)
   members-stand e =
       let rows = shown-members s (placed (h .from) v) (h .shown) (placed-kind v (h .from) ∙ e) in
-      subst (λ ms. Zip (MemberStands s) (membersOf v) ms) (sym rows ∙ ap (membersAt 12 s) starts-there) (rows-there .0)
+      subst (λ ms. OneForOne (MemberStands s) (membersOf v) ms) (sym rows ∙ ap (membersAt 12 s) starts-there) (rows-there .0)
 
   -- .. and so do the elements of an array.
-  pub elements-stand : kind v ≡ 1 → Zip (ElementStands s) (elementsOf v) (elementsAt 12 s at)
+  pub elements-stand : kind v ≡ 1 → OneForOne (ElementStands s) (elementsOf v) (elementsAt 12 s at)
   elements-stand e =
       let rows = shown-elements s (placed (h .from) v) (h .shown) (placed-kind v (h .from) ∙ e) in
-      subst (λ xs. Zip (ElementStands s) (elementsOf v) xs) (sym rows ∙ ap (elementsAt 12 s) starts-there)
+      subst (λ xs. OneForOne (ElementStands s) (elementsOf v) xs) (sym rows ∙ ap (elementsAt 12 s) starts-there)
       (rows-there .1)
 
 -- An object without members is one behind whose bracket nothing but space stands.
@@ -238,6 +238,6 @@ unread-decides s = (
     cases (found d k) q e = read-sound 12 s d k q
 
 pub outermost-stand : (s : List ℕ) (r : Reading 12 s) →
-    Zip (MemberStands s) (membersOf (r .text .value)) (outermost s)
+    OneForOne (MemberStands s) (membersOf (r .text .value)) (outermost s)
 unfolding outermost
 outermost-stand s r = members-stand s (r .text .value) (skipSpace s 0) _ (reading-stands s r) (r .object)

@@ -8,14 +8,14 @@ use Prim.Native.Nat.{ℕ}
 use Rattle.grammar.specs.Grammar.{Str}
 use Rattle.grammar.specs.Strings.{SayAlike}
 use Rattle.grammar.specs.Bounds.{Every}
-use Rattle.rows.specs.Any.{any}
+use Rattle.prelude.specs.Any.{any}
 use Rattle.rows.specs.Rows.{Entry}
 use Rattle.jose.specs.Registered.{registered}
-use Rattle.jose.specs.Refusals.{first}
+use Rattle.prelude.specs.Refusals.{first}
 use Rattle.jose.specs.HeaderRules.{recipientOrder}
 use Rattle.meets.specs.Members.{Member, namesOf, Distinct, Apart}
 use Rattle.meets.specs.Rules.{Headers, parameters, NamesApart, Rules}
-use Rattle.meets.proofs.Zip.{Zip, zip-into, zip-append}
+use Rattle.meets.proofs.OneForOne.{OneForOne, zip-into, zip-append}
 use Rattle.meets.proofs.Deciding.{first-none}
 use Rattle.meets.proofs.Entries.{EntryStands, Seen, entry-seen}
 use Rattle.meets.proofs.NamesApart.{names-apart-decided}
@@ -50,29 +50,37 @@ pub record NamesOnce (h : Headers) : Type 0 where
   pub shared : Distinct (namesOf (h .shared))
   pub own : Distinct (namesOf (h .own))
 
-parameters-distinct : (h : Headers) → NamesOnce h → NamesApart h → Distinct (namesOf (parameters h))
+pub parameters-distinct : (h : Headers) → NamesOnce h → NamesApart h → Distinct (namesOf (parameters h))
 parameters-distinct h o a =
     distinct-append (h .protected) (h .shared ++ h .own) (o .protected)
     (distinct-append (h .shared) (h .own) (o .shared) (o .own) (a .2))
     (apart-append (namesOf (h .protected)) (h .shared) (h .own) (a .0) (a .1))
 
-module _ (known : List (List ℕ)) (header message : List ℕ) (h : Headers) (ps ss os : List Entry) (key : List ℕ)
-    (noKey : Bool) (zp : Zip (EntryStands registered header message 0) (h .protected) ps)
-    (zs : Zip (EntryStands registered header message 1) (h .shared) ss)
-    (zo : Zip (EntryStands registered header message 2) (h .own) os) (once : NamesOnce h)
-    (keyed : (noKey ≡ true) ↔ (key ≡ [])) where
-  seen : (o : ℕ) (ms : List Member) (es : List Entry) → Zip (EntryStands registered header message o) ms es →
-      Zip (Seen registered header message) ms es
-  seen o ms es z =
+-- Entries that stand for three headers are seen to stand for all their parameters.
+module _ (header message : List ℕ) (h : Headers) (ps ss os : List Entry)
+    (zp : OneForOne (EntryStands registered header message 0) (h .protected) ps)
+    (zs : OneForOne (EntryStands registered header message 1) (h .shared) ss)
+    (zo : OneForOne (EntryStands registered header message 2) (h .own) os) where
+  one-seen : (o : ℕ) (ms : List Member) (es : List Entry) → OneForOne (EntryStands registered header message o) ms es →
+      OneForOne (Seen registered header message) ms es
+  one-seen o ms es z =
       zip-into (EntryStands registered header message o) (Seen registered header message)
       (entry-seen registered header message o) ms es z
 
-  all-seen : Zip (Seen registered header message) (parameters h) (ps ++ (ss ++ os))
+  pub all-seen : OneForOne (Seen registered header message) (parameters h) (ps ++ (ss ++ os))
   all-seen =
       zip-append (Seen registered header message) (h .protected) ps (h .shared ++ h .own) (ss ++ os)
-      (seen 0 (h .protected) ps zp)
-      (zip-append (Seen registered header message) (h .shared) ss (h .own) os (seen 1 (h .shared) ss zs)
-      (seen 2 (h .own) os zo))
+      (one-seen 0 (h .protected) ps zp)
+      (zip-append (Seen registered header message) (h .shared) ss (h .own) os (one-seen 1 (h .shared) ss zs)
+      (one-seen 2 (h .own) os zo))
+
+module _ (known : List (List ℕ)) (header message : List ℕ) (h : Headers) (ps ss os : List Entry) (key : List ℕ)
+    (noKey : Bool) (zp : OneForOne (EntryStands registered header message 0) (h .protected) ps)
+    (zs : OneForOne (EntryStands registered header message 1) (h .shared) ss)
+    (zo : OneForOne (EntryStands registered header message 2) (h .own) os) (once : NamesOnce h)
+    (keyed : (noKey ≡ true) ↔ (key ≡ [])) where
+  seen : OneForOne (Seen registered header message) (parameters h) (ps ++ (ss ++ os))
+  seen = all-seen header message h ps ss os zp zs zo
 
   pub rules-decided : (first (recipientOrder known header message (ps ++ (ss ++ os)) noKey) ≡ 0) ↔ Rules known h key
   unfolding recipientOrder any
@@ -81,12 +89,12 @@ module _ (known : List (List ℕ)) (header message : List ℕ) (h : Headers) (ps
       let es = ps ++ (ss ++ os) in
       let tests = first-none (recipientOrder known header message es noKey) refl in
       let names = names-apart-decided registered header message h ps ss os zp zs zo in
-      let required = required-decided header message ms es all-seen in
-      let kinds = kinds-decided header message ms es all-seen in
-      let listed = listed-decided header message ms es all-seen in
+      let required = required-decided header message ms es seen in
+      let kinds = kinds-decided header message ms es seen in
+      let listed = listed-decided header message ms es seen in
       let protected = protected-decided header message h ps ss os zp zs zo in
-      let critical = critical-decided known header message ms es all-seen in
-      let fits = key-decided header message ms es key noKey all-seen in (
+      let critical = critical-decided known header message ms es seen in
+      let fits = key-decided header message ms es key noKey seen in (
         (λ e.
             let t = tests .0 e in
             let apart = names .0 (t .0) in

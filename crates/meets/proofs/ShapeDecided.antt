@@ -14,14 +14,14 @@ use Rattle.grammar.specs.Places.{kind, Place, Element}
 use Rattle.grammar.specs.Strings.{HasOctets}
 use Rattle.grammar.specs.Bounds.{Every}
 use Rattle.grammar.specs.Reader.{elementsAt}
-use Rattle.rows.specs.Any.{any}
+use Rattle.prelude.specs.Any.{any}
 use Rattle.rows.specs.Rows.{Entry, numbered, present, valueOf}
 use Rattle.jose.specs.HeaderRules.{isEmpty}
 use Rattle.shape.specs.Shape.{wrongMember, wrongInElement, wrongTop, wrongElement, noObject, wrongElements}
 use Rattle.meets.specs.Members.{Member, elementsOf, Absent}
 use Rattle.meets.specs.Rules.{EveryNamed, Present}
 use Rattle.meets.specs.Meets.{Plain, Header, Recipients, RecipientShape, TopShape}
-use Rattle.meets.proofs.Zip.{Zip}
+use Rattle.meets.proofs.OneForOne.{OneForOne}
 use Rattle.meets.proofs.Standing.{ElementStands}
 use Rattle.meets.proofs.Rows.{elements-stand}
 use Rattle.meets.proofs.Saying.{refuted}
@@ -34,7 +34,7 @@ use Rattle.meets.proofs.Lookups.{Lookup, missing, single, of-only, only
 
 -- Whether a name is there
 
-module _ (message : List ℕ) (ps : List Member) (es : List Entry) (z : Zip (Held message) ps es) where
+module _ (message : List ℕ) (ps : List Member) (es : List Entry) (z : OneForOne (Held message) ps es) where
   module _ (n : ℕ) (w : List ℕ) (i : IsMember n w) where
     pub present-where : TrueWhere (present n es) (Present w ps)
     unfolding present
@@ -86,14 +86,14 @@ module _ (message : List ℕ) (ps : List Member) (es : List Entry) (z : Zip (Hel
 
 -- The elements of an array
 
-empty-where : (message : List ℕ) (vs : List Value) (xs : List Element) → Zip (ElementStands message) vs xs →
+empty-where : (message : List ℕ) (vs : List Value) (xs : List Element) → OneForOne (ElementStands message) vs xs →
     FalseWhere (isEmpty xs) (vs ≡ [] → ⊥)
 empty-where message [] [] z = ((λ e. absurd (true≢false e)), (λ n. absurd (n refl)))
 empty-where message [] (x ∷ xs) z = absurd z
 empty-where message (v ∷ vs) [] z = absurd z
 empty-where message (v ∷ vs) (x ∷ xs) z = ((λ e p. omega (arith, ap length p)), (λ n. refl))
 
-elements-where : (message : List ℕ) (vs : List Value) (xs : List Element) → Zip (ElementStands message) vs xs →
+elements-where : (message : List ℕ) (vs : List Value) (xs : List Element) → OneForOne (ElementStands message) vs xs →
     FalseWhere (wrongElements xs) ((vs ≡ [] → ⊥) × Every (λ x. kind x ≡ 0) vs)
 unfolding wrongElements
 elements-where message vs xs z =
@@ -137,7 +137,7 @@ all-shaped (m ∷ ms) a b c d e f g h i = (
   all-shaped ms (a .1) (b .1) (c .1) (d .1) (e .1) (f .1) (g .1) (h .1) (i .1),
 )
 
-module _ (message : List ℕ) (ps : List Member) (es : List Entry) (z : Zip (Held message) ps es) where
+module _ (message : List ℕ) (ps : List Member) (es : List Entry) (z : OneForOne (Held message) ps es) where
   pub top-arrays : Every Shaped ps → EveryNamed (ascii "recipients") IsArray ps
   top-arrays s = every-map Shaped (Field (ascii "recipients") IsArray) (λ m f. f .1 .1 .1 .1 .1 .1 .1 .1) ps s
 

@@ -20,7 +20,7 @@ use Rattle.base64url.proofs.Laws.{accepted-exactly, decode-encode, encoded-leng
 use Rattle.parts.specs.Parts.{holds}
 use Rattle.parts.proofs.Laws.{part-fits}
 use Rattle.grammar.specs.Places.{Place}
-use Rattle.rows.specs.Any.{any}
+use Rattle.prelude.specs.Any.{any}
 use Rattle.headers.specs.Components.{absent, octetsAt, places, misspelled}
 use Rattle.headers.specs.Headers.{headerText}
 use Rattle.jwe.specs.Compact.{fourStops, compactComponents}

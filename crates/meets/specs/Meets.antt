@@ -2,7 +2,7 @@
 -- and the encoding. Nothing is searched.
 use mathlib.Core.Path.{_≡_}
 use mathlib.Core.Logic.{_⊎_}
-use mathlib.Core.List.{List, [], _∷_, map}
+use mathlib.Core.List.{List, [], _∷_, _++_, map}
 use Prim.Native.Nat.{ℕ, _≤_, _<_}
 use lib.ListN.{length}
 use Rattle.prelude.specs.Ascii.{ascii}
@@ -149,6 +149,12 @@ pub record Json (known : List (List ℕ)) (message : List ℕ) : Type 0 where
   pub recipientsRead : RecipientsIn (membersOf (reading .text .value)) recipients
   pub few : length recipients ≤ 8
   pub each : Every (Recipient known protected shared) recipients
+
+-- The form is told by the first octet that is not space: a JSON message has an opening curly bracket there.
+pub record OpensCurly (message : List ℕ) : Type 0 where
+  pub space : grammar.Space
+  pub rest : List ℕ
+  pub is : grammar.octets space ++ (grammar.opening grammar.curly ∷ rest) ≡ message
 
 -- A message in one of the forms, and how many recipients it has.
 pub data Message (known : List (List ℕ)) (message : List ℕ) : Type 0 where

@@ -58,6 +58,13 @@ abbrev pub Some : {A : Type 0} → (A → Type 0) → List A → Type 0
 Some P [] = ⊥
 Some P (x ∷ xs) = P x ⊎ Some P xs
 
+-- Lists of one length whose elements are related, one for one.
+abbrev pub OneForOne : {A B : Type 0} → (A → B → Type 0) → List A → List B → Type 0
+OneForOne R [] [] = Unit {0}
+OneForOne R [] (y ∷ ys) = ⊥
+OneForOne R (x ∷ xs) [] = ⊥
+OneForOne R (x ∷ xs) (y ∷ ys) = R x y × OneForOne R xs ys
+
 -- A value is a string of which something holds.
 abbrev pub IsString : (Str → Type 0) → Value → Type 0
 IsString P (nested b x es y) = ⊥

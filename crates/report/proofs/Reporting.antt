@@ -12,7 +12,7 @@ use Rattle.grammar.proofs.Endings.{either}
 use Rattle.rows.specs.Tables.{listed}
 use Rattle.rows.proofs.Entries.{listed-length}
 use Rattle.jose.specs.HeaderRules.{modeIn}
-use Rattle.headers.specs.Limits.{headerRoom, listRoom}
+use Rattle.prelude.specs.Limits.{headerRoom, listRoom}
 use Rattle.jwe.specs.Judge.{refusal, Outcome, outcome, accepted, refused, result, listAfter}
 use Rattle.jwe.specs.Answers.{numbers}
 use Rattle.jwe.specs.declared.Result.{Result}

@@ -9,7 +9,7 @@ use Rattle.prelude.specs.Ascii.{ascii}
 use Rattle.grammar.specs.Places.{Place}
 use Rattle.rows.specs.Rows.{Entry}
 use Rattle.jose.specs.HeaderRules.{modeIn}
-use Rattle.headers.specs.Limits.{headerRoom, listRoom}
+use Rattle.prelude.specs.Limits.{headerRoom, listRoom}
 use Rattle.headers.specs.Components.{Components}
 use Rattle.jwe.specs.Judge.{refusal, Outcome, outcome}
 use Rattle.report.specs.Text.{decimal, word, line}

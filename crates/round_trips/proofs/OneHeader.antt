@@ -8,10 +8,10 @@ use lib.Dec.{eqb}
 use Rattle.grammar.specs.Places.{Member, Element}
 use Rattle.grammar.specs.Reader.{elementsAt}
 use Rattle.names.specs.Names.{numberIn}
-use Rattle.rows.specs.Any.{any, anyPair}
+use Rattle.prelude.specs.Any.{any, anyPair}
 use Rattle.rows.specs.Rows.{Entry, entryOf, entriesIn, numbered, repeated, same}
 use Rattle.jose.specs.Registered.{registered, zip, crit}
-use Rattle.jose.specs.Refusals.{first}
+use Rattle.prelude.specs.Refusals.{first}
 use Rattle.jose.specs.HeaderRules.{levels, unlisted, unprotected, spelledElement, unknown, sameElement, nameSays}
 use Rattle.jose.specs.HeaderRules.{misplaced, isEmpty, wrongCrit, critical, modeIn, recipientOrder}
 use Rattle.headers.specs.Headers.{outermost, protectedEntries}

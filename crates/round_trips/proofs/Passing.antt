@@ -13,10 +13,10 @@ use Rattle.base64url.specs.Base64url.{sextets, encoded}
 use Rattle.base64url.proofs.Laws.{encoded-length}
 use Rattle.names.specs.Names.{names, sound}
 use Rattle.grammar.specs.Reader.{opensObject}
-use Rattle.rows.specs.Any.{any}
-use Rattle.jose.specs.Refusals.{Test, _if_, first}
+use Rattle.prelude.specs.Any.{any}
+use Rattle.prelude.specs.Refusals.{Test, _if_, first}
 use Rattle.jose.specs.HeaderRules.{recipientOrder}
-use Rattle.headers.specs.Limits.{longest, headerRoom, listRoom}
+use Rattle.prelude.specs.Limits.{longest, headerRoom, listRoom}
 use Rattle.headers.specs.Components.{places, misspelled}
 use Rattle.headers.specs.Headers.{headerText, textOrder, protectedEntries, objectOrder}
 use Rattle.jwe.specs.Compact.{fourStops, compactComponents, compactOrder}

@@ -7,7 +7,7 @@ use Prim.Native.Nat.{ℕ, _≤_}
 use native.Mathlib.Omega.{arith}
 use Rattle.names.specs.Names.{names}
 use Rattle.grammar.specs.Reader.{opensObject}
-use Rattle.jose.specs.Refusals.{first}
+use Rattle.prelude.specs.Refusals.{first}
 use Rattle.headers.specs.Components.{Components}
 use Rattle.headers.specs.Headers.{protectedEntries}
 use Rattle.jwe.specs.Compact.{compactOrder}

@@ -10,7 +10,7 @@ use Rattle.grammar.specs.Spellings.{undo, alike, fingerprint}
 use Rattle.grammar.specs.Places.{Member}
 use Rattle.grammar.specs.Bounds.{Every}
 use Rattle.spelling.proofs.Fingerprints.{alike-fingerprint}
-use Rattle.rows.specs.Any.{any, anyPair}
+use Rattle.prelude.specs.Any.{any, anyPair}
 use Rattle.rows.specs.Rows.{Entry, textOf, spelledName, entriesIn, nameIn, apart, same, repeated, clash, clashes}
 use Rattle.rows.specs.Prints.{HasPrint, Printed}
 

@@ -1,4 +1,3 @@
-pub mod Any
 pub mod Rows
 pub mod Prints
 pub mod Tables

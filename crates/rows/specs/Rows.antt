@@ -8,7 +8,7 @@ use Rattle.parts.specs.Parts.{part}
 use Rattle.names.specs.Names.{numberIn}
 use Rattle.grammar.specs.Places.{Member, Place}
 use Rattle.grammar.specs.Spellings.{undo, alike, fingerprint}
-use Rattle.rows.specs.Any.{any, anyPair}
+use Rattle.prelude.specs.Any.{any, anyPair}
 
 -- Origins (document 01): 0 the protected header, 1 the shared header or the message itself, 2 a recipient's own header.
 pub record Entry : Type 0 where

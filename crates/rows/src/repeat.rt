@@ -3,7 +3,7 @@ ghost use mathlib.Core.Path.{_≡_};
 ghost use Prim.Native.Nat.{_+_, _*_, _≤_, _<_};
 ghost use lib.ListN.{length, drop};
 ghost use Rattle.grammar.specs.Spellings.{alike};
-ghost use Rattle.rows.specs.Any.{any};
+ghost use Rattle.prelude.specs.Any.{any};
 ghost use Rattle.rows.specs.Rows.{spelledName, nameIn, apart, clash, clashes};
 ghost use Rattle.rows.specs.Tables.{firstOf, entriesOf};
 use crate::ask::field;

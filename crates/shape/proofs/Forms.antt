@@ -11,8 +11,8 @@ use Rattle.prelude.proofs.Writing.{begins}
 use Rattle.grammar.specs.Places.{Element}
 use Rattle.grammar.specs.Reader.{elementsAt}
 use Rattle.rows.specs.Rows.{Entry, present, valueOf}
-use Rattle.jose.specs.Refusals.{Test, _if_, first}
-use Rattle.jose.proofs.Refusals.{nonzero}
+use Rattle.prelude.specs.Refusals.{Test, _if_, first}
+use Rattle.prelude.proofs.Refusals.{nonzero}
 use Rattle.headers.specs.Answers.{stageOf, Leaves}
 use Rattle.headers.specs.declared.Stage.{Stage}
 use Rattle.headers.specs.declared.Stage.the-variants.{Passed, Refused}

@@ -16,10 +16,10 @@ use Rattle.grammar.specs.Reader.{skipSpace, Answer, nothing, found, readText, m
 use Rattle.json.specs.Known.{KnownIn}
 use Rattle.json.proofs.Knowing.{text-known}
 use Rattle.json.proofs.RowValues.{Reads, reads-known, members-read, elements-read}
-use Rattle.rows.specs.Any.{any}
+use Rattle.prelude.specs.Any.{any}
 use Rattle.rows.specs.Rows.{Entry, entryOf, entriesIn, numbered, present, valueOf, repeated}
-use Rattle.jose.specs.Refusals.{Test, _if_, first}
-use Rattle.jose.proofs.Refusals.{nonzero, first-append}
+use Rattle.prelude.specs.Refusals.{Test, _if_, first}
+use Rattle.prelude.proofs.Refusals.{nonzero, first-append}
 use Rattle.jose.specs.HeaderRules.{isEmpty}
 use Rattle.headers.specs.Headers.{isNothing, unread, outermost, objectOrder}
 use Rattle.shape.specs.Shape.{memberNames, memberEntries, wrongComponent, wrongHeader, wrongMember, wrongTop}

@@ -8,7 +8,7 @@ use lib.Dec.{eqb}
 use borrow.Author.Tests.{eq-eqb, ne-eqb}
 use Rattle.parts.specs.Parts.{holds}
 use Rattle.grammar.specs.Grammar.{curly}
-use Rattle.rows.specs.Any.{any}
+use Rattle.prelude.specs.Any.{any}
 use Rattle.rows.specs.Rows.{Entry, textOf, numbered, present, spelledValue, valueIn}
 use Rattle.shape.specs.Shape.{wrongComponent, hollow, wrongHeader, wrongMember, wrongTop, wrongInElement}
 

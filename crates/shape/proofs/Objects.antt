@@ -17,8 +17,8 @@ use Rattle.json.specs.declared.Found.{Found}
 use Rattle.rows.specs.Rows.{Entry, entryOf, entriesIn, repeated}
 use Rattle.rows.specs.Tables.{flat, entriesOf, collectedTable}
 use Rattle.rows.proofs.Entries.{flat-length, entries-written}
-use Rattle.jose.specs.Refusals.{_if_, first}
-use Rattle.jose.proofs.Refusals.{first-fails, first-passes}
+use Rattle.prelude.specs.Refusals.{_if_, first}
+use Rattle.prelude.proofs.Refusals.{first-fails, first-passes}
 use Rattle.headers.specs.Headers.{isNothing, unread, outermost, objectOrder}
 use Rattle.headers.specs.Answers.{stageOf, Leaves}
 use Rattle.headers.specs.declared.Stage.{Stage}

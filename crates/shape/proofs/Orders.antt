@@ -5,8 +5,8 @@ use mathlib.Core.List.{List, [], _∷_, _++_}
 use Prim.Native.Nat.{ℕ, _<_}
 use native.Mathlib.Omega.{arith}
 use borrow.Author.Tests.{ne-eqb}
-use Rattle.jose.specs.Refusals.{Test, _if_, first}
-use Rattle.jose.proofs.Refusals.{nonzero, first-skip, first-stop}
+use Rattle.prelude.specs.Refusals.{Test, _if_, first}
+use Rattle.prelude.proofs.Refusals.{nonzero, first-skip, first-stop}
 use Rattle.headers.specs.Answers.{stageOf}
 use Rattle.headers.specs.declared.Stage.the-variants.{Passed, Refused}
 use Rattle.headers.proofs.Stages.{passed-is, refused-is}

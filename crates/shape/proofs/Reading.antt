@@ -9,8 +9,8 @@ use lib.ListN.{length, drop, getD, drop-of-length-le}
 use Rattle.prelude.specs.Buffer.{written}
 use Rattle.prelude.proofs.Lists.{drop-next}
 use Rattle.prelude.proofs.Writing.{Writing, begin, put-part, room-part, done}
-use Rattle.jose.specs.Refusals.{first}
-use Rattle.jose.proofs.Refusals.{nonzero, first-skip}
+use Rattle.prelude.specs.Refusals.{first}
+use Rattle.prelude.proofs.Refusals.{nonzero, first-skip}
 use Rattle.headers.specs.Headers.{objectOrder}
 use Rattle.headers.specs.Answers.{stageOf, Leaves}
 use Rattle.headers.specs.declared.Stage.{Stage}

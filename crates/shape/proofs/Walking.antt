@@ -11,8 +11,8 @@ use borrow.Author.Tests.{ne-eqb, lt-ltb, le-ltb}
 use Rattle.prelude.specs.Buffer.{written}
 use Rattle.prelude.proofs.Writing.{Writing, begin, put, done}
 use Rattle.grammar.specs.Places.{Element}
-use Rattle.rows.specs.Any.{any}
-use Rattle.jose.specs.Refusals.{first}
+use Rattle.prelude.specs.Any.{any}
+use Rattle.prelude.specs.Refusals.{first}
 use Rattle.jose.specs.HeaderRules.{isEmpty}
 use Rattle.headers.specs.Answers.{stageOf, Leaves}
 use Rattle.headers.specs.declared.Stage.{Stage}

@@ -7,8 +7,8 @@ use lib.ListN.{length}
 use lib.Dec.{eqb, ltb}
 use Rattle.prelude.specs.Buffer.{written}
 use Rattle.grammar.specs.Places.{Element}
-use Rattle.jose.specs.Refusals.{Test, _if_}
-use Rattle.headers.specs.Limits.{mostRecipients}
+use Rattle.prelude.specs.Refusals.{Test, _if_}
+use Rattle.prelude.specs.Limits.{mostRecipients}
 use Rattle.headers.specs.declared.Stage.{Stage}
 use Rattle.headers.specs.declared.Stage.the-variants.{Passed, Refused}
 use Rattle.shape.specs.Shape.{Recipient, recipientOf, wrongElements}

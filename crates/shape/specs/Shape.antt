@@ -10,7 +10,7 @@ use Rattle.grammar.specs.Grammar.{backslash, Bracket, curly, closing}
 use Rattle.grammar.specs.Places.{Place, Member, Element}
 use Rattle.grammar.specs.Reader.{octetAt}
 use Rattle.json.specs.Members.{firstIn}
-use Rattle.rows.specs.Any.{any}
+use Rattle.prelude.specs.Any.{any}
 use Rattle.rows.specs.Rows.{Entry, entriesIn, numbered, present, valueOf, spelledValue}
 use Rattle.jose.specs.Registered.{object, array, string}
 use Rattle.jose.specs.HeaderRules.{isEmpty}

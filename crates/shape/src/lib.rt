@@ -3,7 +3,7 @@ ghost use mathlib.Core.Path.{_≡_};
 ghost use Prim.Native.Nat.{_*_, _≤_};
 ghost use lib.ListN.{length};
 ghost use Rattle.rows.specs.Tables.{flat, entriesOf};
-ghost use Rattle.jose.specs.Refusals.{first};
+ghost use Rattle.prelude.specs.Refusals.{first};
 ghost use Rattle.headers.specs.Answers.{stageOf, Leaves};
 ghost use Rattle.shape.specs.Recipients.{topEntries, topOrder, elementsOrder, recipientsIn};
 ghost use Rattle.shape.specs.Answers.{flatRecipients};

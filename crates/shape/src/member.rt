@@ -5,7 +5,7 @@ ghost use mathlib.Core.Path.{_≡_};
 ghost use Prim.Native.Nat.{_+_, _*_, _≤_};
 ghost use lib.ListN.{length, drop};
 ghost use Rattle.grammar.specs.Grammar.{curly};
-ghost use Rattle.rows.specs.Any.{any};
+ghost use Rattle.prelude.specs.Any.{any};
 ghost use Rattle.rows.specs.Tables.{firstOf, entriesOf};
 ghost use Rattle.shape.specs.Shape.{wrongComponent, hollow, wrongHeader, wrongMember, wrongTop};
 ghost use Rattle.shape.specs.Shape.{wrongInElement, wrongElement};

@@ -11,7 +11,7 @@ use Rattle.names.specs.Names.{names, sound}
 use Rattle.names.proofs.Laws.{sound-filled}
 use Rattle.rows.specs.Rows.{Entry}
 use Rattle.rows.specs.Tables.{listed}
-use Rattle.jose.specs.Refusals.{first}
+use Rattle.prelude.specs.Refusals.{first}
 use Rattle.jwe.specs.Judge.{refusal, refused, outcome}
 use Rattle.jwe.specs.Answers.{refusedBy}
 use Rattle.jwe.specs.declared.judged.Judged.{Judged}

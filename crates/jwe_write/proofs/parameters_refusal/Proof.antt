@@ -2,7 +2,7 @@
 use mathlib.Core.Path.{sym, _∙_}
 use native.Mathlib.Omega.{arith}
 use lib.ListN.{replicate}
-use Rattle.jose.proofs.Refusals.{first-skip}
+use Rattle.prelude.proofs.Refusals.{first-skip}
 use Rattle.headers.specs.Headers.{protectedEntries, objectOrder}
 use Rattle.headers.proofs.Stages.{refused-is, object-nonzero, stopped}
 use Rattle.headers.proofs.Collected.{Kept, kept-passed}

@@ -6,7 +6,7 @@ use Rattle.names.specs.Names.{names}
 use Rattle.rows.specs.Rows.{Entry}
 use Rattle.rows.specs.Prints.{Printed}
 use Rattle.rows.proofs.Printing.{entries-printed}
-use Rattle.jose.specs.Refusals.{first}
+use Rattle.prelude.specs.Refusals.{first}
 use Rattle.jose.specs.Registered.{registered}
 use Rattle.jose.specs.HeaderRules.{recipientOrder, modeIn}
 use Rattle.jose.specs.Judged.{judgedOf}

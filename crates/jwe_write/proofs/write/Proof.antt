@@ -9,7 +9,7 @@ use lib.Dec.{eqb}
 use borrow.Author.Tests.{not-true, not-false, ltb-false}
 use Rattle.names.specs.Names.{names, sound}
 use Rattle.names.proofs.Laws.{sound-filled}
-use Rattle.jose.specs.Refusals.{first}
+use Rattle.prelude.specs.Refusals.{first}
 use Rattle.headers.specs.Headers.{textOrder}
 use Rattle.headers.proofs.Stages.{not-long}
 use Rattle.jwe_write.specs.Write.{Raw, raw, compactText, parametersOrder}

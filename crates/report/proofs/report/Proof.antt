@@ -5,7 +5,7 @@ use Prim.Native.Nat.{ℕ, zero, suc}
 use native.Mathlib.Omega.{arith}
 use lib.ListN.{length, replicate}
 use Rattle.prelude.specs.Buffer.{AllBelow}
-use Rattle.headers.specs.Limits.{headerRoom, listRoom}
+use Rattle.prelude.specs.Limits.{headerRoom, listRoom}
 use Rattle.jwe.specs.Judge.{result}
 use Rattle.jwe.specs.Answers.{numbers}
 use Rattle.jwe.proofs.Small.{limit, result-small}

@@ -14,7 +14,7 @@ use Rattle.rows.specs.Tables.{entriesOf}
 use Rattle.grammar.specs.Grammar.{curly, square}
 use Rattle.grammar.specs.Bounds.{Every}
 use Rattle.json.specs.Known.{KnownIn}
-use Rattle.jose.specs.Refusals.{first}
+use Rattle.prelude.specs.Refusals.{first}
 use Rattle.headers.proofs.Stages.{passed-is}
 use Rattle.shape.specs.Answers.{startsOf, arrayOrder}
 use Rattle.shape.proofs.Known.{recipients-known, elements-known}

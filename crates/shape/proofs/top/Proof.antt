@@ -11,7 +11,7 @@ use Rattle.names.proofs.Laws.{names-of}
 use Rattle.rows.specs.Tables.{collectedTable}
 use Rattle.grammar.specs.Grammar.{curly}
 use Rattle.json.specs.Known.{KnownIn}
-use Rattle.jose.specs.Refusals.{first}
+use Rattle.prelude.specs.Refusals.{first}
 use Rattle.headers.specs.Headers.{unread, objectOrder}
 use Rattle.headers.specs.Answers.{stageOf}
 use Rattle.headers.proofs.Texts.{noValue}

@@ -1,7 +1,7 @@
 -- `again` walks along the elements: what is asked of those from here on stays the answer.
 use mathlib.Core.Path.{_≡_, refl, sym, _∙_}
 use native.Mathlib.Omega.{arith}
-use Rattle.rows.specs.Any.{any}
+use Rattle.prelude.specs.Any.{any}
 use Rattle.jose.specs.HeaderRules.{sameElement}
 use Rattle.jose.specs.Elements.{elementOf, elementsFrom}
 use Rattle.jose.proofs.Walks.{of-any, walk-spent, walk-end, walk-found, walk-on}

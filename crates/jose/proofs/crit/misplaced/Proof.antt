@@ -9,7 +9,7 @@ use Rattle.prelude.specs.Ascii.{ascii}
 use Rattle.names.specs.Names.{listOf, numberIn}
 use Rattle.names.proofs.Laws.{names-of}
 use Rattle.names.proofs.Contents.{filled-list}
-use Rattle.rows.specs.Any.{any}
+use Rattle.prelude.specs.Any.{any}
 use Rattle.rows.specs.Tables.{entriesOf}
 use Rattle.jose.specs.Registered.{registered}
 use Rattle.jose.specs.HeaderRules.{nameSays}

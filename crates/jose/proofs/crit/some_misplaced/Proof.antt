@@ -2,7 +2,7 @@
 use mathlib.Core.Path.{_≡_, ap, sym, _∙_}
 use native.Mathlib.Omega.{arith}
 use Rattle.grammar.specs.Reader.{elementsAt}
-use Rattle.rows.specs.Any.{any}
+use Rattle.prelude.specs.Any.{any}
 use Rattle.rows.specs.Tables.{entriesOf}
 use Rattle.jose.specs.HeaderRules.{levels, misplaced}
 use Rattle.jose.specs.Elements.{elementsFrom}

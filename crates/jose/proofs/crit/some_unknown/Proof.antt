@@ -2,7 +2,7 @@
 use mathlib.Core.Path.{_≡_, ap, sym, _∙_}
 use Rattle.grammar.specs.Reader.{elementsAt}
 use Rattle.names.specs.Names.{names}
-use Rattle.rows.specs.Any.{any}
+use Rattle.prelude.specs.Any.{any}
 use Rattle.jose.specs.HeaderRules.{levels, unknown}
 use Rattle.jose.specs.Elements.{elementsFrom}
 use Rattle.jose.proofs.Elements.{elements-all}

@@ -2,7 +2,7 @@
 use mathlib.Core.Path.{_≡_, ap, sym, _∙_}
 use native.Mathlib.Omega.{arith}
 use Rattle.grammar.specs.Reader.{elementsAt}
-use Rattle.rows.specs.Any.{anyPair}
+use Rattle.prelude.specs.Any.{anyPair}
 use Rattle.jose.specs.HeaderRules.{levels, sameElement}
 use Rattle.jose.specs.Elements.{elementsFrom}
 use Rattle.jose.proofs.Elements.{elements-all}

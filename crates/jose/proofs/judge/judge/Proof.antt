@@ -8,7 +8,7 @@ use Rattle.rows.proofs.Printing.{clashes-repeated}
 use Rattle.jose.specs.HeaderRules.{recipientOrder, wrongKey, modeIn}
 use Rattle.jose.specs.Judged.{judgedOf}
 use Rattle.jose.specs.declared.judge.Judged.the-variants.{Mode}
-use Rattle.jose.proofs.Refusals.{first-stops, first-passed}
+use Rattle.prelude.proofs.Refusals.{first-stops, first-passed}
 use borrow.Author.Needs.{needs}
 use Rattle.jose.proofs.judge.judge.Statement.{statement}
 use Rattle.jose.proofs.judge.judge.Tie as tie

@@ -2,7 +2,7 @@
 use mathlib.Core.Path.{_≡_, refl, sym, _∙_}
 use Prim.Native.Nat.{_-_, _≤_}
 use lib.ListN.{drop}
-use Rattle.rows.specs.Any.{any}
+use Rattle.prelude.specs.Any.{any}
 use Rattle.rows.specs.Tables.{entriesOf}
 use Rattle.rows.proofs.Asking.{any-turn, any-found, any-done}
 use Rattle.jose.specs.HeaderRules.{unlisted}

@@ -7,13 +7,13 @@ use native.Mathlib.Omega.{arith}
 use lib.ListN.{length}
 use lib.Dec.{eqb}
 use Rattle.names.specs.Names.{names}
-use Rattle.rows.specs.Any.{any}
+use Rattle.prelude.specs.Any.{any}
 use Rattle.rows.specs.Rows.{Entry}
 use Rattle.rows.specs.Tables.{collectedTable}
 use Rattle.rows.specs.Prints.{Printed}
 use Rattle.rows.proofs.Printing.{entries-printed}
 use Rattle.jose.specs.Registered.{registered}
-use Rattle.jose.specs.Refusals.{first}
+use Rattle.prelude.specs.Refusals.{first}
 use Rattle.jose.specs.HeaderRules.{recipientOrder, modeIn}
 use Rattle.jose.specs.Judged.{judgedOf}
 use Rattle.headers.specs.Components.{misspelled, places}

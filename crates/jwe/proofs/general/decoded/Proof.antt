@@ -4,7 +4,7 @@ use lib.ListN.{length}
 use borrow.Author.Tests.{not-true, not-false}
 use Rattle.grammar.specs.Places.{Place}
 use Rattle.rows.specs.Tables.{entriesOf}
-use Rattle.jose.specs.Refusals.{first}
+use Rattle.prelude.specs.Refusals.{first}
 use Rattle.headers.specs.Components.{misspelled}
 use Rattle.headers.specs.Headers.{headerText, textOrder}
 use Rattle.headers.specs.Answers.{stageOf, headerBuffer}

@@ -12,7 +12,7 @@ use Rattle.names.specs.Names.{names}
 use Rattle.rows.specs.Rows.{Entry}
 use Rattle.rows.specs.Tables.{flat, entriesOf}
 use Rattle.rows.proofs.Entries.{flat-of, entries-length}
-use Rattle.jose.specs.Refusals.{first}
+use Rattle.prelude.specs.Refusals.{first}
 use Rattle.jose.specs.HeaderRules.{modeIn}
 use Rattle.headers.proofs.Stages.{passed-is, refused-is}
 use Rattle.shape.specs.Shape.{Recipient}

@@ -9,7 +9,7 @@ use lib.ListN.{length, replicate}
 use Rattle.names.specs.Names.{names}
 use Rattle.rows.specs.Rows.{Entry, valueOf}
 use Rattle.rows.specs.Tables.{flat, entriesOf}
-use Rattle.jose.specs.Refusals.{first}
+use Rattle.prelude.specs.Refusals.{first}
 use Rattle.headers.specs.Answers.{Leaves}
 use Rattle.headers.proofs.Stages.{refused-is}
 use Rattle.shape.specs.Recipients.{topEntries, topOrder, elementsOrder, recipientsIn}

@@ -3,7 +3,7 @@ use Prim.Native.Nat.{_-_, _≤_}
 use mathlib.Core.Path.{_≡_, refl, ap, sym, _∙_}
 use native.Mathlib.Omega.{arith}
 use lib.ListN.{drop}
-use Rattle.rows.specs.Any.{any}
+use Rattle.prelude.specs.Any.{any}
 use Rattle.headers.specs.Components.{misspelled}
 use Rattle.jwe.specs.Stages.{recipientsOf}
 use Rattle.jwe.proofs.RecipientRows.{keys, key-turn, key-found, keys-done}

@@ -4,7 +4,7 @@ use mathlib.Core.Bool.{Bool}
 use mathlib.Core.List.{List}
 use Prim.Native.Nat.{ℕ}
 use Rattle.grammar.specs.Places.{Place}
-use Rattle.rows.specs.Any.{any}
+use Rattle.prelude.specs.Any.{any}
 use Rattle.headers.specs.Components.{misspelled}
 use Rattle.jwe.specs.General.{allPlaces}
 use Rattle.jwe.proofs.JsonPlaces.{this-one, another}

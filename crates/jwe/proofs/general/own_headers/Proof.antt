@@ -7,7 +7,7 @@ use native.Mathlib.Omega.{arith}
 use lib.ListN.{length, drop, length-set}
 use Rattle.rows.specs.Rows.{Entry}
 use Rattle.rows.specs.Tables.{collectedTable}
-use Rattle.jose.specs.Refusals.{Test, first}
+use Rattle.prelude.specs.Refusals.{Test, first}
 use Rattle.headers.specs.Headers.{objectOrder}
 use Rattle.headers.specs.Answers.{stageOf}
 use Rattle.headers.proofs.Stages.{passed-is, refused-is}

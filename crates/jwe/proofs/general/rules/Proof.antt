@@ -14,10 +14,10 @@ use Rattle.rows.specs.Rows.{Entry}
 use Rattle.rows.specs.Prints.{Printed}
 use Rattle.rows.specs.Tables.{entriesOf}
 use Rattle.rows.proofs.Printing.{printed-append}
-use Rattle.jose.specs.Refusals.{Test, first}
+use Rattle.prelude.specs.Refusals.{Test, first}
 use Rattle.jose.specs.HeaderRules.{recipientOrder, modeIn}
 use Rattle.jose.specs.Judged.{judgedOf}
-use Rattle.jose.proofs.Refusals.{nonzero}
+use Rattle.prelude.proofs.Refusals.{nonzero}
 use Rattle.headers.specs.Answers.{stageOf}
 use Rattle.shape.specs.Shape.{Recipient}
 use Rattle.jwe.specs.General.{ownEntries}

@@ -11,7 +11,7 @@ use Rattle.names.specs.Names.{names}
 use Rattle.rows.specs.Rows.{present}
 use Rattle.rows.specs.Prints.{Printed}
 use Rattle.rows.specs.Tables.{entriesOf}
-use Rattle.jose.specs.Refusals.{first}
+use Rattle.prelude.specs.Refusals.{first}
 use Rattle.headers.specs.Headers.{protectedEntries, objectOrder}
 use Rattle.headers.proofs.Stages.{passed-is, refused-is}
 use Rattle.jwe.specs.General.{sharedEntries}

@@ -3,7 +3,7 @@ use Prim.Native.Nat.{_-_, _≤_}
 use mathlib.Core.Path.{_≡_, refl, sym, _∙_}
 use native.Mathlib.Omega.{arith}
 use lib.ListN.{drop}
-use Rattle.rows.specs.Any.{anyPair}
+use Rattle.prelude.specs.Any.{anyPair}
 use Rattle.rows.specs.Rows.{clash, clashes}
 use Rattle.rows.specs.Tables.{entriesOf}
 use Rattle.rows.proofs.Asking.{pair-turn, pair-found, pair-done}

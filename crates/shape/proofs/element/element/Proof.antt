@@ -8,7 +8,7 @@ use Rattle.prelude.specs.Buffer.{written}
 use Rattle.names.specs.Names.{listOf, filled, total}
 use Rattle.names.proofs.Laws.{names-of}
 use Rattle.rows.specs.Rows.{Entry}
-use Rattle.jose.specs.Refusals.{first}
+use Rattle.prelude.specs.Refusals.{first}
 use Rattle.headers.specs.Headers.{objectOrder}
 use Rattle.headers.specs.Answers.{stageOf}
 use Rattle.shape.specs.Shape.{memberNames, wrongElement, recipientOf}

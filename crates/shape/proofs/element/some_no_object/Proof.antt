@@ -7,7 +7,7 @@ use Rattle.grammar.specs.Grammar.{square}
 use Rattle.json.specs.Known.{KnownFrom}
 use Rattle.json.proofs.MemberRows.{the-read}
 use Rattle.json.proofs.Knowing.{known-element, known-next}
-use Rattle.rows.specs.Any.{any}
+use Rattle.prelude.specs.Any.{any}
 use Rattle.jose.specs.Elements.{elementsFrom}
 use Rattle.jose.proofs.Walks.{of-any, walk-spent, walk-end, walk-found, walk-on}
 use Rattle.shape.specs.Shape.{noObject}

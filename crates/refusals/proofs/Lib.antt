@@ -1,0 +1,16 @@
+-- A test at a time.
+pub mod Steps
+-- What the forms share, and compact.
+pub mod RulesRefuse
+pub mod CompactRefuses
+-- JSON: the shape, the components, the headers and the recipients, and all of it.
+pub mod ShapeRefuses
+pub mod SpelledRefuses
+pub mod HeadersRefuse
+pub mod JsonRefuses
+-- The whole order.
+pub mod Refused
+-- No exchange of numbers meets it.
+pub mod Renumbered
+-- The compact writer.
+pub mod WriteRefuses
