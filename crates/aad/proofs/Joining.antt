@@ -5,11 +5,12 @@ use mathlib.Core.List.{List, _∷_, _++_}
 use Prim.Native.Nat.{ℕ, _≤_, _<_}
 use native.Mathlib.Omega.{arith}
 use lib.ListN.{length, length-append}
-use lib.Dec.{eqb, leb}
-use borrow.Author.Tests.{eq-eqb, ne-eqb, le-leb, lt-leb}
+use lib.Dec.{eqb, ltb}
+use borrow.Author.Tests.{eq-eqb, ne-eqb, le-ltb, lt-ltb}
 use Rattle.prelude.specs.Buffer.{written}
-use Rattle.aad.specs.Aad.{aadText, aadAnswer, aadBuffer}
-use Rattle.aad.specs.declared.Joined.{Joined}
+use Rattle.prelude.specs.Refusals.{first}
+use Rattle.prelude.proofs.Outputs.{writes-refused, writes-done}
+use Rattle.aad.specs.Aad.{aadText, aadOrder, aadRefusal, Joins}
 use Rattle.aad.specs.declared.Joined.the-variants.{Octets, Short}
 
 module _ (header aad out : List ℕ) where
@@ -30,26 +31,20 @@ module _ (header aad out : List ℕ) where
   unfolding aadText
   with-aad h = ap (λ (b : Bool). cond b header (header ++ (46 ∷ aad))) (ne-eqb (length aad) 0 h)
 
-  -- both promises, of an answer and of what the output holds then
-  abbrev Joins : Joined → List ℕ → Type 0
-  Joins r last = (r ≡ aadAnswer header aad (length out)) × (last ≡ aadBuffer header aad out)
-
   module _ (text : List ℕ) (is : aadText header aad ≡ text) where
-    pub fits : length text ≤ length out → (n : ℕ) (last : List ℕ) → n ≡ length text → last ≡ written 0 text out →
-        Joins (Octets n) last
-    unfolding aadAnswer aadBuffer
-    fits h n last e f =
-        let t = sym (ap (λ (l : List ℕ). leb (length l) (length out)) is ∙ le-leb (length text) (length out) h) in (
-          ap Octets (e ∙ ap length (sym is))
-              ∙ ap (λ (b : Bool). cond b (Octets (length (aadText header aad))) Short) t,
-          f ∙ ap (λ (l : List ℕ). written 0 l out) (sym is)
-              ∙ ap (λ (b : Bool). cond b (written 0 (aadText header aad) out) out) t,
-        )
+    by-room : (b : Bool) → ltb (length out) (length text) ≡ b → aadRefusal header aad (length out) ≡ cond b 1 0
+    unfolding aadRefusal aadOrder first
+    by-room b e =
+        ap (λ (l : List ℕ). cond (ltb (length out) (length l)) 1 0) is ∙ ap (λ (t : Bool). cond t 1 0) e
 
-    pub short : length out < length text → Joins Short out
-    unfolding aadAnswer aadBuffer
+    pub fits : length text ≤ length out → (n : ℕ) (last : List ℕ) → n ≡ length text → last ≡ written 0 text out →
+        Joins header aad out (Octets n) last
+    fits h n last e f =
+        writes-done (aadRefusal header aad (length out)) (aadText header aad) out
+        (by-room false (le-ltb (length out) (length text) h)) n last (e ∙ ap length (sym is))
+        (f ∙ ap (λ (l : List ℕ). written 0 l out) (sym is))
+
+    pub short : length out < length text → Joins header aad out Short out
     short h =
-        let t = sym (ap (λ (l : List ℕ). leb (length l) (length out)) is ∙ lt-leb (length text) (length out) h) in (
-          ap (λ (b : Bool). cond b (Octets (length (aadText header aad))) Short) t,
-          ap (λ (b : Bool). cond b (written 0 (aadText header aad) out) out) t,
-        )
+        writes-refused (aadRefusal header aad (length out)) (aadText header aad) out 1
+        (sym (by-room true (lt-ltb (length out) (length text) h))) (λ z. omega arith)

@@ -5,7 +5,7 @@ ghost use mathlib.Core.List.{_∷_, _++_};
 ghost use Prim.Native.Nat.{_+_, _≤_};
 ghost use lib.ListN.{length};
 ghost use Rattle.prelude.specs.Buffer.{written};
-ghost use Rattle.aad.specs.Aad.{aadAnswer, aadBuffer};
+ghost use Rattle.aad.specs.Aad.{Joins};
 
 // The octets written, or that the output is too short for them.
 pub enum Joined {
@@ -28,11 +28,10 @@ fn put(header: &[u8], aad: &[u8], out: &mut [u8]) -> usize
 }
 
 // Writes the AAD of an encoded protected header and an encoded aad, either of which may be empty, at the output's start; the
-// rest is as it was, and all of it where there is too little room. The lengths are not added up before it is known that
+// rest is unchanged, and all of it where there is too little room. The lengths are not added up before it is known that
 // the sum fits.
 pub fn join(header: &[u8], aad: &[u8], out: &mut [u8]) -> Joined
-    ensures { λ r. ⌜ r ≡ aadAnswer (now (header .entry)) (now (aad .entry)) (length (now (out .entry))) ⌝ }
-    ensures { λ _. ⌜ now (out .exit) ≡ aadBuffer (now (header .entry)) (now (aad .entry)) (now (out .entry)) ⌝ }
+    ensures { λ r. ⌜ Joins (now (header .entry)) (now (aad .entry)) (now (out .entry)) r (now (out .exit)) ⌝ }
 {
     let n = header.len();
     if out.len() < n {

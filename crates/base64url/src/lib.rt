@@ -9,7 +9,7 @@ ghost use lib.Dec.{leb, eqb};
 ghost use Rattle.prelude.specs.Buffer.{AllBelow, written};
 ghost use Rattle.base64url.specs.Base64url.{character, sixBits, sextets, octets, encoded, decoded, encodedLength};
 ghost use Rattle.base64url.specs.Fault.{countOutside, spareBits, fault, none};
-ghost use Rattle.base64url.specs.Answers.{checkAnswer, decodeAnswer, decodeBuffer, encodeAnswer, encodeBuffer};
+ghost use Rattle.base64url.specs.Answers.{checkAnswer, Decodes, encodeAnswer, encodeBuffer};
 
 // Whether a text is base64url.
 pub enum Checked {
@@ -293,8 +293,7 @@ fn decode_at(text: &[u8], out: &mut [u8], at: usize) -> usize
 
 // Decodes a text into out: document 01's 5, then 1 if out is shorter than the octets. Refused, out is as it was.
 pub fn decode(text: &[u8], out: &mut [u8]) -> Decoded
-    ensures { λ r. ⌜ r ≡ decodeAnswer (now (text .entry)) (length (now (out .entry))) ⌝ }
-    ensures { λ _. ⌜ now (out .exit) ≡ decodeBuffer (now (text .entry)) (now (out .entry)) ⌝ }
+    ensures { λ r. ⌜ Decodes (now (text .entry)) (now (out .entry)) r (now (out .exit)) ⌝ }
 {
     let Checked::Sound = check(text) else {
         return Decoded::Misspelled;

@@ -1,45 +1,80 @@
--- The demands (minutes, item 4). Each proof cites the file that has it. `refusal`, `result`, `headerAfter` and `listAfter`
--- (crates/jwe/specs/Judge.antt) say what reading answers and leaves in the lent header buffer and list; `read`
--- (crates/gateway/src/lib.rt) is proved to answer and leave exactly that, for every input and with no condition: demand 1's
--- first half. What a message has to meet stands in crates/meets/specs/Meets.antt, over the trees of crate grammar and the
--- encoding of crate base64url.
+-- The demands (minutes, item 4). Each proof cites the file that has it.
+--
+-- Demand 1's first half, that any octets, lent lengths and recipient number get an answer, is the contracts themselves: no function of
+-- crates/gateway/src/lib.rt has a condition, and each is proved to answer and leave what its definitions say, for every input.
+-- Those definitions are, for reading, `refusal`, `result`, `headerAfter` and `listAfter` (crates/jwe/specs/Judge.antt); for
+-- decoding, AAD and writing a refusal (`decodeRefusal`, `aadRefusal`, `writeRefusal`), what is written (`decoded`, `aadText`,
+-- `compactText`), and of both the octets written and the output afterwards (crates/prelude/specs/Outputs.antt); for the header
+-- walk `opened`, `handedBy` and `moved` (crates/walk/specs/Walk.antt). What a message has to meet stands in
+-- crates/meets/specs/Meets.antt, over the trees of crate grammar and the encoding of crate base64url.
 use mathlib.Core.Path.{_≡_}
 use mathlib.Core.Logic.{_↔_}
 use mathlib.Core.List.{List, map}
 use Prim.Native.Nat.{ℕ, _≤_, _<_}
-use lib.ListN.{length}
-use Rattle.jwe.specs.Judge.{refusal, refused, outcome, result, headerAfter, listAfter}
+use lib.ListN.{length, getD}
+use denote.Ref.{RefT, now}
+use Rattle.prelude.specs.Limits.{headerRoom, listRoom}
+use Rattle.prelude.specs.Refusals.{OneOf}
+use Rattle.prelude.specs.Outputs.{octetsWritten, ChangesNothing}
+use Rattle.base64url.specs.Base64url.{decoded}
+use Rattle.base64url.specs.Answers.{decodeRefusal, decodeBuffer}
+use Rattle.grammar.specs.Readings.{Reading}
+use Rattle.walk.specs.Walk.{walkRefusal, opened, handedBy, after, rowsOf, rowOr}
+use Rattle.walk.specs.declared.Handed.the-variants.{End}
+use Rattle.walk.proofs.Theorems as Walk
+use Rattle.jwe.specs.Judge.{refusal, refused, placesIn, result, headerAfter, listAfter}
+use Rattle.aad.specs.Aad.{aadText, aadRefusal, aadBuffer}
+use Rattle.jwe_write.specs.Write.{Raw, compactText, writeRefusal}
+use Rattle.jwe_write.specs.Answers.{writeBuffer}
 use Rattle.meets.specs.Meets.{Meets, count}
 use Rattle.meets.proofs.Refused as Refused
 use Rattle.meets.proofs.Accepted as Accepted
 use Rattle.refusals.specs.Table.{Refuses}
 use Rattle.refusals.specs.Numbers.{numbersTable}
-use Rattle.refusals.specs.Writing.{writeTable}
+use Rattle.refusals.specs.Further.{walkTable, decodeTable, aadTable, writeTable}
 use Rattle.refusals.proofs.Refused as Numbers
-use Rattle.refusals.proofs.WriteRefuses as Writing
-use Rattle.jwe_write.specs.Write.{Raw, compactText, writeRefusal}
-use Rattle.round_trips.specs.Trips.{RawOctets, writtenPlaces, writtenOutcome, ShowsAll, takenApart}
+use Rattle.refusals.proofs.FurtherRefuses as Further
+use Rattle.round_trips.specs.Trips.{RawOctets, wrote, ReadsBack, WritesBack}
 use Rattle.round_trips.proofs.RoundTrips as RoundTrips
 use Rattle.means.specs.Means.{HandsOut, ResultMeans}
 use Rattle.means.proofs.HandsOut as HandsOut
 use Rattle.means.proofs.ResultMeans as ResultMeans
 use Rattle.means.proofs.ResultOnce as ResultOnce
+use Rattle.gateway.specs.Numbers.{readNumbers, decodeNumbers, aadNumbers, writeNumbers}
 use Rattle.gateway.specs.Samples.{Sample, answer, samples}
+use Rattle.gateway.proofs.Refusing as Refusing
 use Rattle.gateway.proofs.Samples as Samples
 
--- Demand 1. A refusal is a number from document 01's table; its result is that number with zeros, and both lent buffers are
--- as they were.
+-- Demand 1. A refusal has a number from document 01's table; its result is that number with zeros, and both lent buffers are
+-- unchanged.
 pub refusal-changes-nothing : (message known : List ℕ) (recipient : ℕ) (buffer list : List ℕ) →
     let n = refusal message known recipient (length buffer) (length list) in
     (n ≡ 0 → ⊥) →
-    ((1 ≤ n) × (n ≤ 19))
+    OneOf n readNumbers
     × ((result message known recipient (length buffer) (length list) ≡ refused n)
     × (headerAfter message known recipient buffer list ≡ buffer)
     × (listAfter message known recipient buffer list ≡ list))
 refusal-changes-nothing message known recipient buffer list n = (
-  Refused.refusal-numbered message known recipient (length buffer) (length list) n,
+  Refusing.read-listed message known recipient (length buffer) (length list) n,
   Refused.refusal-changes-nothing message known recipient buffer list n,
 )
+
+-- So have decoding, AAD and writing, with no octets and the output unchanged.
+
+pub decoding-changes-nothing : (text out : List ℕ) →
+    let n = decodeRefusal text (length out) in
+    (n ≡ 0 → ⊥) → ChangesNothing decodeNumbers n (octetsWritten n (decoded text)) out (decodeBuffer text out)
+decoding-changes-nothing = Refusing.decoding-changes-nothing
+
+pub aad-changes-nothing : (header aad out : List ℕ) →
+    let n = aadRefusal header aad (length out) in
+    (n ≡ 0 → ⊥) → ChangesNothing aadNumbers n (octetsWritten n (aadText header aad)) out (aadBuffer header aad out)
+aad-changes-nothing = Refusing.aad-changes-nothing
+
+pub writing-changes-nothing : (c : Raw) (known out : List ℕ) →
+    let n = writeRefusal c known (length out) in
+    (n ≡ 0 → ⊥) → ChangesNothing writeNumbers n (octetsWritten n (compactText c)) out (writeBuffer c known out)
+writing-changes-nothing = Refusing.writing-changes-nothing
 
 -- Demand 2, acceptance. A message is accepted exactly when what is lent is enough and it meets the rules and has the
 -- recipient.
@@ -47,36 +82,50 @@ pub accepted-exactly : (message known : List ℕ) (recipient headerLent listLent
     (refusal message known recipient headerLent listLent ≡ 0) ↔ Meets message known recipient headerLent listLent
 accepted-exactly = Accepted.accepted-exactly
 
--- Demand 2, refusal. A number is given exactly where its rule is the first in document 01's order that is broken
--- (crates/refusals/specs/Numbers.antt): its sentence does not hold, and those before it do. 0: none is broken.
+-- Demand 2, refusal. A number is given exactly where its rule is the first in document 01's order that is broken: its sentence
+-- does not hold, and those before it do (crates/refusals/specs/Numbers.antt). 0: none is broken.
 pub refused-exactly : (message known : List ℕ) (recipient headerLent listLent k : ℕ) →
     (refusal message known recipient headerLent listLent ≡ k)
     ↔ Refuses (numbersTable message known recipient headerLent listLent) k
 refused-exactly = Numbers.refused-exactly
 
--- And of the compact writer (crates/refusals/specs/Writing.antt).
+-- So are the numbers of opening a header walk, decoding, AAD and writing (crates/refusals/specs/Further.antt).
+
+pub walk-refused-exactly : (text : List ℕ) (k : ℕ) → (walkRefusal text ≡ k) ↔ Refuses (walkTable text) k
+walk-refused-exactly = Further.walk-refused-exactly
+
+pub decode-refused-exactly : (text : List ℕ) (room k : ℕ) →
+    (decodeRefusal text room ≡ k) ↔ Refuses (decodeTable text room) k
+decode-refused-exactly = Further.decode-refused-exactly
+
+pub aad-refused-exactly : (header aad : List ℕ) (room k : ℕ) →
+    (aadRefusal header aad room ≡ k) ↔ Refuses (aadTable header aad room) k
+aad-refused-exactly = Further.aad-refused-exactly
+
 pub write-refused-exactly : (c : Raw) (known : List ℕ) (room k : ℕ) →
     (writeRefusal c known room ≡ k) ↔ Refuses (writeTable c known room) k
-write-refused-exactly = Writing.write-refused-exactly
+write-refused-exactly = Further.write-refused-exactly
 
--- Demand 2, round trips (crates/round_trips/specs/Trips.antt). What the compact writer writes of octets, read with the same
--- list and the room that is asked for, is accepted; handed out are the places of the components, the header that was given
--- and its parameters; and each place shows its component encoded, which decodes to what was given.
-pub written-reads-back : (c : Raw) (known : List ℕ) (room headerLent listLent : ℕ) → RawOctets c →
-    writeRefusal c known room ≡ 0 → 4096 ≤ headerLent → 576 ≤ listLent →
-    (refusal (compactText c) known 0 headerLent listLent ≡ 0)
-    × (outcome (compactText c) 0 ≡ writtenOutcome c)
-    × ShowsAll (compactText c) (writtenPlaces c) c
+-- Demand 2, round trips (crates/round_trips/specs/Trips.antt). What the compact writer leaves of octets, read with the same list
+-- and the room that is asked for, reads back to what was given.
+pub written-reads-back : (c : Raw) (known out buffer list : List ℕ) → RawOctets c →
+    writeRefusal c known (length out) ≡ 0 → headerRoom ≤ length buffer → listRoom ≤ length list →
+    ReadsBack c known (wrote c known out) buffer list
 written-reads-back = RoundTrips.written-reads-back
 
--- An accepted compact message, taken apart by the reader's places and decoding and written again with the same list and room
--- for it, gives the same octets.
-pub read-writes-back : (message known : List ℕ) (recipient headerLent listLent room : ℕ) →
-    refusal message known recipient headerLent listLent ≡ 0 → outcome message recipient .form ≡ 0 →
-    length message ≤ room →
-    (writeRefusal (takenApart message recipient) known room ≡ 0)
-    × (compactText (takenApart message recipient) ≡ message)
+-- An accepted compact message, taken apart at the places of its result and written again with the same list and room for it,
+-- gives the same octets.
+pub read-writes-back : (message known : List ℕ) (recipient headerLent listLent : ℕ) →
+    let r = result message known recipient headerLent listLent in
+    getD r 0 0 ≡ 0 → getD r 1 0 ≡ 0 → (out : List ℕ) → length message ≤ length out →
+    WritesBack message known out (placesIn r)
 read-writes-back = RoundTrips.read-writes-back
+
+-- The writer refuses nothing exactly when what it would write meets demand 2 and fits.
+pub writes-exactly : (c : Raw) (known : List ℕ) (room : ℕ) → RawOctets c →
+    (writeRefusal c known room ≡ 0)
+    ↔ (Meets (compactText c) known 0 headerRoom listRoom × (length (compactText c) ≤ room))
+writes-exactly = RoundTrips.writes-exactly
 
 -- Demand 3 (crates/means/specs/Means.antt). For each message that demand 2 accepts with what is lent, and each recipient
 -- number n below its count: one header and one list of rows apply to n by the grammar, whatever was known and lent; they are
@@ -88,17 +137,28 @@ pub handed-out : (message known buffer list : List ℕ) (recipient : ℕ)
     HandsOut known buffer list (m .form) n
 handed-out = HandsOut.hands-out
 
--- The result of such a message for n: its numbers mean what the message meets ..
+-- The numbers of the result mean what the message meets, and no other numbers do.
+
 pub result-means : (message known : List ℕ) (recipient headerLent listLent : ℕ)
     (m : Meets message known recipient headerLent listLent) (n : ℕ) → n < count (m .form) →
     ResultMeans (m .form) n (result message known n headerLent listLent)
 result-means = ResultMeans.result-means
 
--- .. and no other numbers do.
 pub result-once : (message known : List ℕ) (recipient headerLent listLent : ℕ)
     (m : Meets message known recipient headerLent listLent) (n : ℕ) → n < count (m .form) →
     (r : List ℕ) → ResultMeans (m .form) n r → r ≡ result message known n headerLent listLent
 result-once = ResultOnce.result-once
+
+-- The header walk. Call k on a text that is not refused hands out the k-th member of its reading by the grammar, every member
+-- once, in text order, then the end for ever; on a text that is refused, the end at once.
+
+pub walk-hands : (x : RefT (List ℕ)) (r : Reading 12 (now x)) → walkRefusal (now x) ≡ 0 → (k : ℕ) →
+    handedBy (after k (opened x)) ≡ rowOr (rowsOf (now x) r) k
+walk-hands = Walk.walk-hands
+
+pub walk-refused : (x : RefT (List ℕ)) → (walkRefusal (now x) ≡ 0 → ⊥) → (k : ℕ) →
+    handedBy (after k (opened x)) ≡ End
+walk-refused = Walk.walk-refused
 
 -- Every sample of document 01 holds.
 pub samples-hold : map (λ (s : Sample). answer (s .input)) samples ≡ map (λ (s : Sample). s .expected) samples

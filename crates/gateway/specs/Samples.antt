@@ -1,58 +1,71 @@
--- Document 01's samples T1 to T12: what is asked of the definitions, and what they have to answer.
+-- Document 01's samples T1 to T12: what is asked of the definitions that the contracts cite, and what they have to answer; and
+-- beside them a general message whose asked recipient has a key and a mode other than 5.
 use mathlib.Core.List.{List, [], _∷_, _++_}
-use mathlib.Core.Bool.{cond}
-use Prim.Native.Nat.{ℕ}
-use lib.ListN.{length}
-use lib.Dec.{eqb}
+use Prim.Native.Nat.{ℕ, _*_}
+use lib.ListN.{length, take, getD, replicate}
 use Rattle.prelude.specs.Ascii.{ascii}
-use Rattle.base64url.specs.Base64url.{encoded, decoded, encodedLength}
-use Rattle.base64url.specs.Fault.{fault}
-use Rattle.base64url.specs.Answers.{ofFault, decodeRefusal, decodeAnswer}
-use Rattle.rows.specs.Tables.{listed}
-use Rattle.headers.specs.Components.{octetsAt}
-use Rattle.aad.specs.Aad.{aadText}
-use Rattle.jwe.specs.Judge.{refusal, outcome, accepted}
+use Rattle.prelude.specs.Limits.{headerRoom, listRoom}
+use Rattle.prelude.specs.Outputs.{octetsWritten}
+use Rattle.base64url.specs.Base64url.{encoded, decoded}
+use Rattle.base64url.specs.Answers.{decodeRefusal, decodeBuffer}
+use Rattle.grammar.specs.Places.{Place}
+use Rattle.shown.specs.Shown.{componentShown}
+use Rattle.aad.specs.Aad.{aadText, aadRefusal, aadBuffer}
+use Rattle.jwe.specs.Judge.{refused, placesIn, result, listAfter}
 
 pub data Question : Type 0 where
-  length-of : ℕ → Question
+  -- How many characters octets make encoded.
+  characters : List ℕ → Question
   encode : List ℕ → Question
   decode : List ℕ → Question
-  read : List ℕ → Question
+  -- A message, read for a recipient.
+  read : List ℕ → ℕ → Question
+  -- The AAD of a message.
   aad-of : List ℕ → Question
 
--- Read with no known names, recipient 0 and just enough room: the refusal; or the result's numbers, then the list.
-unfoldable pub readAnswer : List ℕ → List ℕ
-readAnswer message =
-    let n = refusal message (0 ∷ []) 0 4096 576 in
-    let x = outcome message 0 in
-    cond (eqb n 0) (accepted message x ++ listed (x .entries)) (n ∷ [])
+-- What a function that writes answers: the number, the octets written, and those octets of the output.
+abbrev wrote : ℕ → List ℕ → List ℕ → List ℕ
+wrote refusal xs output = refusal ∷ octetsWritten refusal xs ∷ take (octetsWritten refusal xs) output
 
--- The AAD of a message, of its encoded protected header and aad as reading for recipient 0 hands them out.
-unfoldable pub messageAad : List ℕ → List ℕ
-messageAad message =
-    let q = outcome message 0 .components in
-    aadText (octetsAt message (q .protected)) (octetsAt message (q .aad))
+-- An output of so many octets, all 0.
+abbrev zeros : ℕ → List ℕ
+zeros n = replicate n 0
 
--- A length; a text; the refusal and then the octets; what reading answers; the AAD.
+-- Read with no known names and just enough room: the result's eighteen numbers, then as much of the list as they say.
+unfoldable pub readAnswer : List ℕ → ℕ → List ℕ
+readAnswer message recipient =
+    let known : List ℕ = 0 ∷ [] in
+    let r = result message known recipient headerRoom listRoom in
+    r ++ take (6 * getD r 17 0) (listAfter message known recipient (zeros headerRoom) (zeros listRoom))
+
+-- The AAD of the encoded protected header and aad as reading for recipient 0 shows them, into 64 octets.
+unfoldable pub aadAnswer : List ℕ → List ℕ
+aadAnswer message =
+    let q = placesIn (result message (0 ∷ []) 0 headerRoom listRoom) in
+    let shown : Place → List ℕ = λ p. componentShown message (p .start) (p .size) in
+    let header = shown (q .protected) in
+    let aad = shown (q .aad) in
+    wrote (aadRefusal header aad 64) (aadText header aad) (aadBuffer header aad (zeros 64))
+
 unfoldable pub answer : Question → List ℕ
-answer (length-of n) = encodedLength n ∷ []
+answer (characters xs) = length (encoded xs) ∷ []
 answer (encode xs) = encoded xs
-answer (decode text) = decodeRefusal (decodeAnswer text (length text)) ∷ ofFault (fault text) (decoded text) []
-answer (read message) = readAnswer message
-answer (aad-of message) = messageAad message
+answer (decode text) =
+    wrote (decodeRefusal text (length text)) (decoded text) (decodeBuffer text (zeros (length text)))
+answer (read message recipient) = readAnswer message recipient
+answer (aad-of message) = aadAnswer message
 
+-- A sample: its T in document 01, 0 where it is not of it; what is asked, and what has to be answered.
 pub record Sample : Type 0 where
+  pub label : ℕ
   pub input : Question
   pub expected : List ℕ
 
-abbrev asks : Question → List ℕ → Sample
-asks question expected = record { input = question; expected = expected }
-
--- T10's message.
-abbrev sharedAlone : List ℕ
-sharedAlone = ascii "{\"unprotected\":{\"alg\":\"dir\",\"enc\":\"A128GCM\"},\"aad\":\"AA\",\"ciphertext\":\"\"}"
+abbrev T : ℕ → Question → List ℕ → Sample
+T label question expected = record { label = label; input = question; expected = expected }
 
 -- T4's header and its text, H of document 01, and M.
+
 abbrev dir : List ℕ
 dir = ascii "{\"alg\":\"dir\",\"enc\":\"A128GCM\"}"
 
@@ -62,41 +75,64 @@ H = ascii "eyJhbGciOiJkaXIiLCJlbmMiOiJBMTI4R0NNIn0"
 abbrev pub M : List ℕ
 M = H ++ ascii "..AA.AQID.Ag"
 
+-- T10's message, and T11's.
+
+abbrev sharedAlone : List ℕ
+sharedAlone = ascii "{\"unprotected\":{\"alg\":\"dir\",\"enc\":\"A128GCM\"},\"aad\":\"AA\",\"ciphertext\":\"\"}"
+
+abbrev emptyIv : List ℕ
+emptyIv = ascii "{\"unprotected\":{\"alg\":\"dir\",\"enc\":\"A128GCM\"},\"aad\":\"AA\",\"ciphertext\":\"\",\"iv\":\"\"}"
+
+-- Two recipients: direct encryption, and key wrapping with a key.
+abbrev general : List ℕ
+general =
+    ascii "{\"protected\":\"eyJlbmMiOiJBMTI4R0NNIn0\",\"unprotected\":{\"kid\":\"a\"},\"recipients\":["
+    ++ (ascii "{\"header\":{\"alg\":\"dir\"}},{\"header\":{\"alg\":\"A128KW\"},\"encrypted_key\":\"AQI\"}],"
+    ++ ascii "\"aad\":\"Aw\",\"iv\":\"BA\",\"ciphertext\":\"BQYH\",\"tag\":\"CA\"}")
+
 unfoldable pub samples : List Sample
 samples =
-    asks (length-of 0) (0 ∷ [])
-    ∷ asks (length-of 1) (2 ∷ [])
-    ∷ asks (length-of 2) (3 ∷ [])
-    ∷ asks (length-of 3) (4 ∷ [])
-    ∷ asks (decode (ascii "AA")) (0 ∷ 0 ∷ [])
-    ∷ asks (decode (ascii "AB")) (5 ∷ [])
-    ∷ asks (decode (ascii "A")) (5 ∷ [])
-    ∷ asks (encode dir) H
-    ∷ asks (decode H) (0 ∷ dir)
-    ∷ asks (length-of 29) (39 ∷ [])
-    ∷ asks (encode (ascii "{\"alg\":\"RSA-OAEP\",\"enc\":\"A256GCM\"}")) (ascii "eyJhbGciOiJSU0EtT0FFUCIsImVuYyI6IkEyNTZHQ00ifQ")
-    ∷ asks (read M)
+    T 1 (characters []) (0 ∷ [])
+    ∷ T 1 (characters (0 ∷ [])) (2 ∷ [])
+    ∷ T 1 (characters (0 ∷ 0 ∷ [])) (3 ∷ [])
+    ∷ T 1 (characters (0 ∷ 0 ∷ 0 ∷ [])) (4 ∷ [])
+    ∷ T 2 (decode (ascii "AA")) (0 ∷ 1 ∷ 0 ∷ [])
+    ∷ T 2 (decode (ascii "AB")) (5 ∷ 0 ∷ [])
+    ∷ T 3 (decode (ascii "A")) (5 ∷ 0 ∷ [])
+    ∷ T 4 (encode dir) H
+    ∷ T 4 (characters dir) (39 ∷ [])
+    ∷ T 4 (decode H) (0 ∷ 29 ∷ dir)
+    ∷ T 5 (encode (ascii "{\"alg\":\"RSA-OAEP\",\"enc\":\"A256GCM\"}"))
+    (ascii "eyJhbGciOiJSU0EtT0FFUCIsImVuYyI6IkEyNTZHQ00ifQ")
+    ∷ T 6 (read M 0)
     (0 ∷ 0 ∷ 1 ∷ 5
     ∷ 0 ∷ 39 ∷ 40 ∷ 0 ∷ 41 ∷ 2 ∷ 0 ∷ 0 ∷ 44 ∷ 4 ∷ 49 ∷ 2
     ∷ 29 ∷ 2
     ∷ 0 ∷ 2 ∷ 3 ∷ 7 ∷ 5 ∷ 2
     ∷ 0 ∷ 14 ∷ 3 ∷ 19 ∷ 9 ∷ 2
     ∷ [])
-    ∷ asks (read (M ++ ascii ".")) (4 ∷ [])
-    ∷ asks (read []) (4 ∷ [])
-    ∷ asks
-    (read (encoded (ascii "{\"alg\":\"dir\",\"\\u0061lg\":\"dir\",\"enc\":\"A128GCM\"}") ++ ascii "..AA.AQID.Ag"))
-    (9 ∷ [])
-    ∷ asks (read sharedAlone)
+    ∷ T 7 (read (M ++ ascii ".") 0) (refused 4)
+    ∷ T 8 (read [] 0) (refused 4)
+    ∷ T 9
+    (read (encoded (ascii "{\"alg\":\"dir\",\"\\u0061lg\":\"dir\",\"enc\":\"A128GCM\"}") ++ ascii "..AA.AQID.Ag") 0)
+    (refused 9)
+    ∷ T 10 (read sharedAlone 0)
     (0 ∷ 1 ∷ 1 ∷ 5
     ∷ 0 ∷ 0 ∷ 0 ∷ 0 ∷ 0 ∷ 0 ∷ 52 ∷ 2 ∷ 70 ∷ 0 ∷ 0 ∷ 0
     ∷ 0 ∷ 2
     ∷ 1 ∷ 17 ∷ 3 ∷ 22 ∷ 5 ∷ 2
     ∷ 1 ∷ 29 ∷ 3 ∷ 34 ∷ 9 ∷ 2
     ∷ [])
-    ∷ asks (aad-of sharedAlone) (ascii ".AA")
-    ∷ asks
-    (read (ascii "{\"unprotected\":{\"alg\":\"dir\",\"enc\":\"A128GCM\"},\"aad\":\"AA\",\"ciphertext\":\"\",\"iv\":\"\"}"))
-    (10 ∷ [])
-    ∷ asks (read (H ++ ascii ".AA.AA.AQID.Ag")) (18 ∷ [])
+    ∷ T 10 (aad-of sharedAlone) (0 ∷ 3 ∷ ascii ".AA")
+    ∷ T 11 (read emptyIv 0) (refused 10)
+    ∷ T 12 (read (H ++ ascii ".AA.AA.AQID.Ag") 0) (refused 18)
+    ∷ T 0 (read general 1)
+    (0 ∷ 2 ∷ 2 ∷ 2
+    ∷ 14 ∷ 23 ∷ 148 ∷ 3 ∷ 172 ∷ 2 ∷ 162 ∷ 2 ∷ 190 ∷ 4 ∷ 203 ∷ 2
+    ∷ 17 ∷ 3
+    ∷ 0 ∷ 2 ∷ 3 ∷ 7 ∷ 9 ∷ 2
+    ∷ 1 ∷ 55 ∷ 3 ∷ 60 ∷ 3 ∷ 2
+    ∷ 2 ∷ 116 ∷ 3 ∷ 121 ∷ 8 ∷ 2
+    ∷ [])
+    ∷ T 0 (aad-of general) (0 ∷ 26 ∷ ascii "eyJlbmMiOiJBMTI4R0NNIn0.Aw")
     ∷ []

@@ -4,20 +4,29 @@ ghost use mathlib.Core.Path.{_≡_};
 ghost use lib.ListN.{length};
 ghost use Rattle.jwe.specs.Judge.{result, headerAfter, listAfter};
 ghost use Rattle.jwe.specs.Answers.{numbers};
-ghost use Rattle.base64url.specs.Answers.{decodeAnswer, decodeBuffer};
+ghost use Rattle.base64url.specs.Answers.{Decodes};
 ghost use Rattle.shown.specs.Shown.{componentShown, valueShown};
-ghost use Rattle.aad.specs.Aad.{aadAnswer, aadBuffer};
+ghost use Rattle.aad.specs.Aad.{Joins};
 ghost use Rattle.jwe_write.specs.Write.{raw};
-ghost use Rattle.jwe_write.specs.Answers.{writeAnswer, writeBuffer};
+ghost use Rattle.jwe_write.specs.Answers.{WritesCompact};
 use aad::Joined;
 use base64url::Decoded;
 use json::member::Place;
 use jwe::Result;
 use jwe_write::Written;
 
+// The header walk (document 01, 'Further requests'): `open_walk` opens it on a text, and each `next_member` hands out one
+// member, then the end. For callers that want no struct, `walk_start` and `walk_step` take the text and an offset.
+pub use walk::Handed;
+pub use walk::HeaderWalk;
+pub use walk::next as next_member;
+pub use walk::open as open_walk;
+pub use walk::open_at as walk_start;
+pub use walk::step as walk_step;
+
 // Reads a message for a recipient. `known` lists the extension names that the caller knows. Accepted, the header buffer begins
-// with the decoded protected header and the list with six numbers a parameter; both go on as they were. Refused, the
-// result is the refusal's number with zeros, and both are as they were.
+// with the decoded protected header and the list with six numbers a parameter; the rest of both is unchanged. Refused, the
+// result is the refusal's number with zeros, and both are unchanged.
 pub fn read(
     message: &[u8],
     known: &[u8],
@@ -54,25 +63,23 @@ pub fn value<'a>(
 }
 
 // Decodes one component: 5 where it is not base64url, then 1 where the output is shorter than the octets. They are at the
-// output's start, and the rest of it is as it was; refused, all of it is.
+// output's start, and the rest of it is unchanged; refused, all of it is.
 pub fn decode(text: &[u8], out: &mut [u8]) -> Decoded
-    ensures { λ r. ⌜ r ≡ decodeAnswer (now (text .entry)) (length (now (out .entry))) ⌝ }
-    ensures { λ _. ⌜ now (out .exit) ≡ decodeBuffer (now (text .entry)) (now (out .entry)) ⌝ }
+    ensures { λ r. ⌜ Decodes (now (text .entry)) (now (out .entry)) r (now (out .exit)) ⌝ }
 {
     base64url::decode(text, out)
 }
 
 // Writes the additional authenticated data of an encoded protected header and an encoded aad, either of which may be empty, at
-// the output's start; the rest of it is as it was, and all of it where there is too little room.
+// the output's start; the rest of it is unchanged, and all of it where there is too little room.
 pub fn aad(header: &[u8], aad: &[u8], out: &mut [u8]) -> Joined
-    ensures { λ r. ⌜ r ≡ aadAnswer (now (header .entry)) (now (aad .entry)) (length (now (out .entry))) ⌝ }
-    ensures { λ _. ⌜ now (out .exit) ≡ aadBuffer (now (header .entry)) (now (aad .entry)) (now (out .entry)) ⌝ }
+    ensures { λ r. ⌜ Joins (now (header .entry)) (now (aad .entry)) (now (out .entry)) r (now (out .exit)) ⌝ }
 {
     aad::join(header, aad, out)
 }
 
 // Writes the compact message of a header's text and the raw other components. `known` lists the extension names that the
-// caller knows. The message is at the output's start, and the rest of it is as it was; refused, all of it is.
+// caller knows. The message is at the output's start, and the rest of it is unchanged; refused, all of it is.
 pub fn write(
     header: &[u8],
     key: &[u8],
@@ -82,8 +89,7 @@ pub fn write(
     known: &[u8],
     out: &mut [u8],
 ) -> Written
-    ensures { λ r. ⌜ r ≡ writeAnswer (raw (now (header .entry)) (now (key .entry)) (now (iv .entry)) (now (ciphertext .entry)) (now (tag .entry))) (now (known .entry)) (length (now (out .entry))) ⌝ }
-    ensures { λ _. ⌜ now (out .exit) ≡ writeBuffer (raw (now (header .entry)) (now (key .entry)) (now (iv .entry)) (now (ciphertext .entry)) (now (tag .entry))) (now (known .entry)) (now (out .entry)) ⌝ }
+    ensures { λ r. ⌜ WritesCompact (raw (now (header .entry)) (now (key .entry)) (now (iv .entry)) (now (ciphertext .entry)) (now (tag .entry))) (now (known .entry)) (now (out .entry)) r (now (out .exit)) ⌝ }
 {
     jwe_write::write(header, key, iv, ciphertext, tag, known, out)
 }

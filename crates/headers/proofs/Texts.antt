@@ -5,12 +5,13 @@ use mathlib.Core.List.{List}
 use Prim.Native.Nat.{ℕ, _≤_}
 use native.Mathlib.Omega.{arith}
 use lib.ListN.{length, take}
-use lib.Dec.{leb}
+use lib.Dec.{ltb}
 use borrow.Author.Tests.{ltb-false}
 use Rattle.prelude.specs.Buffer.{written}
 use Rattle.prelude.proofs.Writing.{written-length, begins}
 use Rattle.base64url.specs.Fault.{Fault, none, at, fault}
-use Rattle.base64url.specs.Answers.{ofFault, decodeAnswer, decodeInto, decodeBuffer}
+use Rattle.base64url.specs.Base64url.{decoded}
+use Rattle.base64url.specs.Answers.{ofFault, decodeOrder, decodeRefusal, decodeNumber, decodeCount, Decodes}
 use Rattle.base64url.specs.declared.Decoded.{Decoded}
 use Rattle.base64url.specs.declared.Decoded.the-variants.{Octets, Misspelled, Short}
 use Rattle.parts.specs.Parts.{part}
@@ -20,11 +21,11 @@ use Rattle.json.specs.Ends.{foundOf}
 use Rattle.json.specs.declared.Found.{Found}
 use Rattle.json.specs.declared.Found.the-variants.{Value, Nothing}
 use Rattle.prelude.specs.Refusals.{first}
+use Rattle.prelude.specs.Outputs.{octetsWritten, outputAfter}
 use Rattle.headers.specs.Components.{octetsAt, misspelled}
 use Rattle.headers.specs.Headers.{headerText, tooLong, isNothing, unread, textOrder}
 use Rattle.headers.specs.Answers.{stageOf, headerBuffer}
 use Rattle.headers.specs.declared.Stage.the-variants.{Passed, Refused}
-use Rattle.headers.proofs.Bounds.{either-way}
 
 -- What decoding a text without fault answers, by how long it decoded is.
 abbrev pub decodedAs : List ℕ → Decoded
@@ -45,37 +46,47 @@ module _ (message : List ℕ) (q : Place) (sound : misspelled message q ≡ fals
   unfolding misspelled
   no-fault = without-fault (fault (octetsAt message q)) sound
 
-  decode-is : decodeAnswer (octetsAt message q) 4096 ≡ decodedAs (headerText message q)
-  unfolding decodeAnswer headerText
-  decode-is =
-      let size = length (headerText message q) in
-      ap (λ (f : Fault). ofFault f (cond (leb size 4096) (Octets size) Short) Misspelled) no-fault
-      ∙ either-way 4096 size (Octets size) Short
-
   module _ (before : List ℕ) (room : length before ≡ 4096) where
-    answer-is : decodeAnswer (octetsAt message q) (length before) ≡ decodedAs (headerText message q)
-    answer-is = ap (decodeAnswer (octetsAt message q)) room ∙ decode-is
-
-    buffer-is : decodeBuffer (octetsAt message q) before ≡ headerBuffer (headerText message q) before
-    unfolding decodeBuffer headerBuffer headerText
-    buffer-is =
-        ap (λ (a : Decoded). decodeInto a (octetsAt message q) before) answer-is
-        ∙ cases (tooLong (headerText message q))
-      where
-        cases : (b : Bool) →
-            decodeInto (cond b Short (Octets (length (headerText message q)))) (octetsAt message q) before
-            ≡ cond b before (written 0 (headerText message q) before)
-        cases true = refl
-        cases false = refl
+    refusal-is : decodeRefusal (octetsAt message q) (length before) ≡ cond (tooLong (headerText message q)) 1 0
+    unfolding decodeRefusal decodeOrder first headerText
+    refusal-is =
+        ap₂ (λ (f : Fault) (n : ℕ). cond (ofFault f false true) 5 (cond (ltb n (length (headerText message q))) 1 0))
+        no-fault room
 
     pub decoding : (text last : List ℕ) (answer : Decoded) → text ≡ part message (q .start) (q .size) →
-        answer ≡ decodeAnswer text (length before) → last ≡ decodeBuffer text before →
-        Decoding (headerText message q) before last answer
-    decoding text last answer t a l = record {
-      answered = a ∙ ap (λ (x : List ℕ). decodeAnswer x (length before)) t ∙ answer-is;
-      left = l ∙ ap (λ (x : List ℕ). decodeBuffer x before) t ∙ buffer-is;
+        Decodes text before answer last → Decoding (headerText message q) before last answer
+    unfolding headerText headerBuffer
+    decoding text last answer t d = record {
+      answered = answers answer (tooLong header) (d .refuses ∙ refuses) (d .counts ∙ writes (λ n xs. octetsWritten n xs));
+      left = d .leaves ∙ writes (λ n xs. outputAfter n xs before) ∙ leaves (tooLong header);
       room = room;
     }
+      where
+        header : List ℕ
+        header = headerText message q
+
+        refuses : decodeRefusal text (length before) ≡ cond (tooLong (headerText message q)) 1 0
+        refuses = ap (λ (x : List ℕ). decodeRefusal x (length before)) t ∙ refusal-is
+
+        writes : {A : Type 0} (f : ℕ → List ℕ → A) →
+            f (decodeRefusal text (length before)) (decoded text)
+            ≡ f (cond (tooLong (headerText message q)) 1 0) (headerText message q)
+        writes f = ap₂ f refuses (ap decoded t)
+
+        answers : (a : Decoded) (b : Bool) → decodeNumber a ≡ cond b 1 0 →
+            decodeCount a ≡ octetsWritten (cond b 1 0) (headerText message q) →
+            a ≡ cond b Short (Octets (length (headerText message q)))
+        answers (Octets n) true e f = absurd (omega arith)
+        answers (Octets n) false e f = ap Octets f
+        answers Misspelled true e f = absurd (omega arith)
+        answers Misspelled false e f = absurd (omega arith)
+        answers Short true e f = refl
+        answers Short false e f = absurd (omega arith)
+
+        leaves : (b : Bool) → outputAfter (cond b 1 0) (headerText message q) before
+            ≡ cond b before (written 0 (headerText message q) before)
+        leaves true = refl
+        leaves false = refl
 
 -- Whether there are octets, by the answer.
 abbrev pub hasOctets : Decoded → Bool

@@ -1,10 +1,9 @@
--- What decoding one component of a message answers, and what the lent output holds afterwards.
+-- One component of a message, decoded: its octets, and the refusal.
 use mathlib.Core.List.{List, [], _∷_}
 use mathlib.Core.Bool.{cond}
 use Prim.Native.Nat.{ℕ, zero, suc}
 use lib.ListN.{length}
-use lib.Dec.{eqb, leb}
-use Rattle.prelude.specs.Buffer.{written}
+use lib.Dec.{eqb, ltb}
 use Rattle.base64url.specs.Base64url.{decoded}
 use Rattle.grammar.specs.Places.{Place}
 use Rattle.prelude.specs.Limits.{headerRoom, listRoom}
@@ -30,16 +29,4 @@ componentOctets message recipient n =
 unfoldable pub componentRefusal : List ℕ → List ℕ → ℕ → ℕ → ℕ → ℕ
 componentRefusal message known recipient n room =
     let refused = refusal message known recipient headerRoom listRoom in
-    cond (eqb refused 0) (cond (leb (length (componentOctets message recipient n)) room) 0 1) refused
-
--- How many octets are written.
-unfoldable pub componentCount : List ℕ → List ℕ → ℕ → ℕ → ℕ → ℕ
-componentCount message known recipient n room =
-    cond (eqb (componentRefusal message known recipient n room) 0) (length (componentOctets message recipient n)) 0
-
--- The octets at the output's start and its rest unchanged; all of it unchanged where it is refused.
-unfoldable pub componentBuffer : List ℕ → List ℕ → ℕ → ℕ → List ℕ → List ℕ
-componentBuffer message known recipient n out =
-    cond (eqb (componentRefusal message known recipient n (length out)) 0)
-    (written 0 (componentOctets message recipient n) out)
-    out
+    cond (eqb refused 0) (cond (ltb room (length (componentOctets message recipient n))) 1 0) refused

@@ -1,10 +1,11 @@
 // A message judged, and one of its components decoded.
 ghost use mathlib.Core.Path.{_≡_};
 ghost use lib.ListN.{length};
+ghost use Rattle.prelude.specs.Outputs.{Writes};
 ghost use Rattle.prelude.specs.Limits.{headerRoom, listRoom};
 ghost use Rattle.jwe.specs.Judge.{refusal};
 ghost use Rattle.jwe.specs.Answers.{codePlace, componentsOf};
-ghost use Rattle.host.specs.Component.{componentPlace, componentRefusal, componentCount, componentBuffer};
+ghost use Rattle.host.specs.Component.{componentPlace, componentOctets, componentRefusal};
 use crate::jwe_decode;
 use json::member::Place;
 use jwe::Components;
@@ -56,9 +57,7 @@ pub extern "C" fn jwe_component(
     out: &mut [u8],
     octets: &mut usize,
 ) -> u32
-    ensures { λ r. ⌜ r ≡ componentRefusal (now (message .entry)) (now (known .entry)) recipient component (length (now (out .entry))) ⌝ }
-    ensures { λ _. ⌜ now (octets .exit) ≡ componentCount (now (message .entry)) (now (known .entry)) recipient component (length (now (out .entry))) ⌝ }
-    ensures { λ _. ⌜ now (out .exit) ≡ componentBuffer (now (message .entry)) (now (known .entry)) recipient component (now (out .entry)) ⌝ }
+    ensures { λ r. ⌜ Writes (componentRefusal (now (message .entry)) (now (known .entry)) recipient component (length (now (out .entry)))) (componentOctets (now (message .entry)) recipient component) (now (out .entry)) r (now (octets .exit)) (now (out .exit)) ⌝ }
 {
     let mut header = [0u8; 4096];
     let mut list = [0u32; 576];

@@ -1,12 +1,12 @@
 // The functions that the gateway's C program links. include/jwe_gateway.h declares them for C. Each answers document 01's
 // refusal, 0 where there is none; where octets are written, *octets is how many, 0 where refused. Refused, every lent buffer
-// is as it was.
-ghost use mathlib.Core.Path.{_≡_};
+// is unchanged.
 ghost use lib.ListN.{length};
-ghost use Rattle.base64url.specs.Answers.{decodeRefusal, decodeCount, decodeAnswer, decodeBuffer};
-ghost use Rattle.aad.specs.Aad.{aadRefusal, aadCount, aadAnswer, aadBuffer};
-ghost use Rattle.jwe_write.specs.Write.{raw};
-ghost use Rattle.jwe_write.specs.Answers.{refusalOf, octetsOf, writeAnswer, writeBuffer};
+ghost use Rattle.prelude.specs.Outputs.{Writes};
+ghost use Rattle.base64url.specs.Base64url.{decoded};
+ghost use Rattle.base64url.specs.Answers.{decodeRefusal};
+ghost use Rattle.aad.specs.Aad.{aadText, aadRefusal};
+ghost use Rattle.jwe_write.specs.Write.{raw, compactText, writeRefusal};
 use aad::Joined;
 use base64url::Decoded;
 use jwe_write::Written;
@@ -17,9 +17,7 @@ mod reading;
 // Decodes one component: 5 for a text that is not base64url, 1 where out is shorter than the octets.
 #[no_mangle]
 pub extern "C" fn jwe_decode(text: &[u8], out: &mut [u8], octets: &mut usize) -> u32
-    ensures { λ r. ⌜ r ≡ decodeRefusal (decodeAnswer (now (text .entry)) (length (now (out .entry)))) ⌝ }
-    ensures { λ _. ⌜ now (octets .exit) ≡ decodeCount (decodeAnswer (now (text .entry)) (length (now (out .entry)))) ⌝ }
-    ensures { λ _. ⌜ now (out .exit) ≡ decodeBuffer (now (text .entry)) (now (out .entry)) ⌝ }
+    ensures { λ r. ⌜ Writes (decodeRefusal (now (text .entry)) (length (now (out .entry)))) (decoded (now (text .entry))) (now (out .entry)) r (now (octets .exit)) (now (out .exit)) ⌝ }
 {
     let answer = gateway::decode(text, out);
     match answer {
@@ -46,9 +44,7 @@ pub extern "C" fn jwe_aad(
     out: &mut [u8],
     octets: &mut usize,
 ) -> u32
-    ensures { λ r. ⌜ r ≡ aadRefusal (aadAnswer (now («encoded_header» .entry)) (now («encoded_aad» .entry)) (length (now (out .entry)))) ⌝ }
-    ensures { λ _. ⌜ now (octets .exit) ≡ aadCount (aadAnswer (now («encoded_header» .entry)) (now («encoded_aad» .entry)) (length (now (out .entry)))) ⌝ }
-    ensures { λ _. ⌜ now (out .exit) ≡ aadBuffer (now («encoded_header» .entry)) (now («encoded_aad» .entry)) (now (out .entry)) ⌝ }
+    ensures { λ r. ⌜ Writes (aadRefusal (now («encoded_header» .entry)) (now («encoded_aad» .entry)) (length (now (out .entry)))) (aadText (now («encoded_header» .entry)) (now («encoded_aad» .entry))) (now (out .entry)) r (now (octets .exit)) (now (out .exit)) ⌝ }
 {
     let answer = gateway::aad(encoded_header, encoded_aad, out);
     match answer {
@@ -75,9 +71,7 @@ pub extern "C" fn jwe_write_compact(
     out: &mut [u8],
     octets: &mut usize,
 ) -> u32
-    ensures { λ r. ⌜ r ≡ refusalOf (writeAnswer (raw (now (header .entry)) (now (key .entry)) (now (iv .entry)) (now (ciphertext .entry)) (now (tag .entry))) (now (known .entry)) (length (now (out .entry)))) ⌝ }
-    ensures { λ _. ⌜ now (octets .exit) ≡ octetsOf (writeAnswer (raw (now (header .entry)) (now (key .entry)) (now (iv .entry)) (now (ciphertext .entry)) (now (tag .entry))) (now (known .entry)) (length (now (out .entry)))) ⌝ }
-    ensures { λ _. ⌜ now (out .exit) ≡ writeBuffer (raw (now (header .entry)) (now (key .entry)) (now (iv .entry)) (now (ciphertext .entry)) (now (tag .entry))) (now (known .entry)) (now (out .entry)) ⌝ }
+    ensures { λ r. ⌜ Writes (writeRefusal (raw (now (header .entry)) (now (key .entry)) (now (iv .entry)) (now (ciphertext .entry)) (now (tag .entry))) (now (known .entry)) (length (now (out .entry)))) (compactText (raw (now (header .entry)) (now (key .entry)) (now (iv .entry)) (now (ciphertext .entry)) (now (tag .entry)))) (now (out .entry)) r (now (octets .exit)) (now (out .exit)) ⌝ }
 {
     let answer = gateway::write(header, key, iv, ciphertext, tag, known, out);
     match answer {

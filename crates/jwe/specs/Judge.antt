@@ -3,7 +3,7 @@
 use mathlib.Core.List.{List, [], _∷_, _++_}
 use mathlib.Core.Bool.{Bool, not, _||_, cond}
 use Prim.Native.Nat.{ℕ, zero, suc}
-use lib.ListN.{length}
+use lib.ListN.{length, getD}
 use lib.Dec.{eqb, ltb}
 use Rattle.prelude.specs.Buffer.{written}
 use Rattle.names.specs.Names.{names, sound}
@@ -95,6 +95,17 @@ accepted message x =
 
 unfoldable pub refused : ℕ → List ℕ
 refused n = n ∷ 0 ∷ 0 ∷ 0 ∷ 0 ∷ 0 ∷ 0 ∷ 0 ∷ 0 ∷ 0 ∷ 0 ∷ 0 ∷ 0 ∷ 0 ∷ 0 ∷ 0 ∷ 0 ∷ 0 ∷ []
+
+-- The six places in a result.
+abbrev pub placesIn : List ℕ → Components
+placesIn r = record {
+  protected = record { start = getD r 4 0; size = getD r 5 0 };
+  key = record { start = getD r 6 0; size = getD r 7 0 };
+  iv = record { start = getD r 8 0; size = getD r 9 0 };
+  aad = record { start = getD r 10 0; size = getD r 11 0 };
+  ciphertext = record { start = getD r 12 0; size = getD r 13 0 };
+  tag = record { start = getD r 14 0; size = getD r 15 0 };
+}
 
 -- The result, and what the lent header buffer and list hold afterwards.
 

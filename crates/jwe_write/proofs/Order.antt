@@ -10,6 +10,7 @@ use borrow.Author.Tests.{eq-eqb, ne-eqb, lt-ltb, le-ltb}
 use Rattle.prelude.specs.Buffer.{written}
 use Rattle.names.specs.Names.{names, sound}
 use Rattle.prelude.specs.Refusals.{Test, _if_, first}
+use Rattle.prelude.proofs.Outputs.{writes-refused, writes-done}
 use Rattle.prelude.proofs.Refusals.{nonzero, nonzero-append, first-fails, first-passes, first-skip}
 use Rattle.prelude.specs.Limits.{longest}
 use Rattle.grammar.specs.Reader.{readText}
@@ -19,8 +20,7 @@ use Rattle.headers.specs.Headers.{unread, textOrder, protectedEntries, objectOr
 use Rattle.headers.proofs.Texts.{noValue, by-reading}
 use Rattle.headers.proofs.Stages.{text-nonzero, object-nonzero, stopped}
 use Rattle.jwe_write.specs.Write.{Raw, compactText, rulesOrder, parametersOrder, writeOrder, writeRefusal}
-use Rattle.jwe_write.specs.Answers.{writeAnswer, writeBuffer}
-use Rattle.jwe_write.specs.declared.Written.{Written}
+use Rattle.jwe_write.specs.Answers.{WritesCompact}
 use Rattle.jwe_write.specs.declared.Written.the-variants.{Octets, Refused}
 use Rattle.jwe_write.proofs.Rules.{rules-nonzero}
 
@@ -116,25 +116,9 @@ module _ (c : Raw) (known : List ℕ) (room : ℕ) where
 -- The answers
 
 module _ (c : Raw) (known out : List ℕ) where
-  -- what is answered, and what the output holds
-  abbrev pub Answers : Written → List ℕ → Type 0
-  Answers r last = (r ≡ writeAnswer c known (length out)) × (last ≡ writeBuffer c known out)
-
-  pub refuses : (n : ℕ) → writeRefusal c known (length out) ≡ n → 0 < n → Answers (Refused n) out
-  unfolding writeAnswer writeBuffer
-  refuses n e h =
-      let no : eqb (writeRefusal c known (length out)) 0 ≡ false = ne-eqb (writeRefusal c known (length out)) 0 (λ z. omega (arith, z, e, h)) in (
-        sym (ap (λ (b : Bool). cond b (Octets (length (compactText c))) (Refused (writeRefusal c known (length out)))) no
-            ∙ ap Refused e),
-        sym (ap (λ (b : Bool). cond b (written 0 (compactText c) out) out) no),
-      )
+  pub refuses : (n : ℕ) → writeRefusal c known (length out) ≡ n → 0 < n → WritesCompact c known out (Refused n) out
+  refuses n e h = writes-refused (writeRefusal c known (length out)) (compactText c) out n (sym e) (λ z. omega (arith, z, h))
 
   pub accepts : writeRefusal c known (length out) ≡ 0 → (n : ℕ) (last : List ℕ) → n ≡ length (compactText c) →
-      last ≡ written 0 (compactText c) out → Answers (Octets n) last
-  unfolding writeAnswer writeBuffer
-  accepts e n last size left =
-      let yes : eqb (writeRefusal c known (length out)) 0 ≡ true = eq-eqb _ 0 e in (
-        ap Octets size
-            ∙ sym (ap (λ (b : Bool). cond b (Octets (length (compactText c))) (Refused (writeRefusal c known (length out)))) yes),
-        left ∙ sym (ap (λ (b : Bool). cond b (written 0 (compactText c) out) out) yes),
-      )
+      last ≡ written 0 (compactText c) out → WritesCompact c known out (Octets n) last
+  accepts = writes-done (writeRefusal c known (length out)) (compactText c) out

@@ -13,7 +13,7 @@ ghost use Rattle.prelude.specs.Refusals.{first};
 ghost use Rattle.headers.specs.Components.{fullStop};
 ghost use Rattle.headers.specs.Headers.{textOrder, protectedEntries};
 ghost use Rattle.jwe_write.specs.Write.{raw, compactText, rulesOrder, parametersOrder};
-ghost use Rattle.jwe_write.specs.Answers.{writeAnswer, writeBuffer};
+ghost use Rattle.jwe_write.specs.Answers.{WritesCompact};
 use headers::Stage;
 use jose::judge::Judged;
 use json::Found;
@@ -132,7 +132,7 @@ fn put_message(
 }
 
 // Writes the compact message of a header's text and the raw other components. `known` lists the extension names that the
-// caller knows. The message is at the output's start, and the rest of it is as it was; refused, all of it is.
+// caller knows. The message is at the output's start, and the rest of it is unchanged; refused, all of it is.
 pub fn write(
     header: &[u8],
     key: &[u8],
@@ -142,8 +142,7 @@ pub fn write(
     known: &[u8],
     out: &mut [u8],
 ) -> Written
-    ensures { λ r. ⌜ r ≡ writeAnswer (raw (now (header .entry)) (now (key .entry)) (now (iv .entry)) (now (ciphertext .entry)) (now (tag .entry))) (now (known .entry)) (length (now (out .entry))) ⌝ }
-    ensures { λ _. ⌜ now (out .exit) ≡ writeBuffer (raw (now (header .entry)) (now (key .entry)) (now (iv .entry)) (now (ciphertext .entry)) (now (tag .entry))) (now (known .entry)) (now (out .entry)) ⌝ }
+    ensures { λ r. ⌜ WritesCompact (raw (now (header .entry)) (now (key .entry)) (now (iv .entry)) (now (ciphertext .entry)) (now (tag .entry))) (now (known .entry)) (now (out .entry)) r (now (out .exit)) ⌝ }
 {
     if !names::sound(known) {
         return Written::Refused(3);

@@ -19,7 +19,7 @@ use Rattle.algorithms.specs.Algorithms.{algName, mode}
 use Rattle.algorithms.specs.declared.Alg.{Alg}
 use Rattle.headers.specs.Components.{absent, Components}
 use Rattle.headers.specs.Components as components
-use Rattle.jwe.specs.Judge.{result, headerAfter, listAfter}
+use Rattle.jwe.specs.Judge.{placesIn, result, headerAfter, listAfter}
 use Rattle.jwe_write.specs.Write.{Raw}
 use Rattle.round_trips.specs.Trips.{writtenPlaces}
 use Rattle.meets.specs.Members.{Member, Some, OneForOne}
@@ -146,17 +146,6 @@ PlacesMean (compact c) n q = q ≡ writtenPlaces (rawOf c)
 PlacesMean {known} {message} (json j) n q = JsonPlaces message (partsOf (placedText (j .reading .text))) n q
 
 -- The result
-
--- The six places in a result.
-abbrev pub placesIn : List ℕ → Components
-placesIn r = record {
-  protected = record { start = getD r 4 0; size = getD r 5 0 };
-  key = record { start = getD r 6 0; size = getD r 7 0 };
-  iv = record { start = getD r 8 0; size = getD r 9 0 };
-  aad = record { start = getD r 10 0; size = getD r 11 0 };
-  ciphertext = record { start = getD r 12 0; size = getD r 13 0 };
-  tag = record { start = getD r 14 0; size = getD r 15 0 };
-}
 
 -- A parameter `alg` that has the name of an algorithm.
 abbrev pub HasAlg : Alg → Member → Type 0

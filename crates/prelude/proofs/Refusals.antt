@@ -1,13 +1,14 @@
 -- The first test that fails: of a test and those behind it, of tests as code makes them, of two lists of tests one
 -- after the other, and where none fails.
 use mathlib.Core.Path.{_≡_, refl, ap, sym, _∙_}
-use mathlib.Core.List.{List, [], _∷_, _++_}
+use mathlib.Core.Logic.{_⊎_, inl, inr}
+use mathlib.Core.List.{List, [], _∷_, _++_, map}
 use mathlib.Core.Bool.{Bool, true, false, not, _&&_, _||_, cond, true≢false}
 use Prim.Native.Nat.{ℕ, zero, suc}
 use lib.Dec.{eqb}
 use borrow.Author.Tests.{eq-eqb, ne-eqb, eqb-true}
 use Rattle.prelude.specs.Any.{any}
-use Rattle.prelude.specs.Refusals.{Test, first}
+use Rattle.prelude.specs.Refusals.{Test, first, OneOf}
 
 -- A test, and those behind it
 
@@ -126,3 +127,16 @@ first-none (t ∷ ts) p e =
         (first ts ≡ 0 → anyFails ts ≡ false) → (b || anyFails ts) ≡ false
     cases true n e rest = absurd (true≢false (sym (eq-eqb (t .number) 0 e) ∙ n))
     cases false n e rest = rest e
+
+-- The number is one of those of the tests
+
+pub first-listed : (ts : List Test) → (first ts ≡ 0 → ⊥) → OneOf (first ts) (map (λ (t : Test). t .number) ts)
+unfolding first
+first-listed [] n = absurd (n refl)
+first-listed (t ∷ ts) n = cases (t .fails) n (first-listed ts)
+  where
+    cases : (b : Bool) → (cond b (t .number) (first ts) ≡ 0 → ⊥) →
+        ((first ts ≡ 0 → ⊥) → OneOf (first ts) (map (λ (u : Test). u .number) ts)) →
+        OneOf (cond b (t .number) (first ts)) (t .number ∷ map (λ (u : Test). u .number) ts)
+    cases true n rest = inl refl
+    cases false n rest = inr (rest n)

@@ -5,7 +5,7 @@ ghost use mathlib.Core.Path.{_≡_};
 ghost use Prim.Native.Nat.{_-_, _^_, min};
 ghost use lib.ListN.{length};
 ghost use Rattle.base64url.specs.Base64url.{encodedLength};
-ghost use Rattle.base64url.specs.Answers.{checkRefusal, checkAnswer, encodeRefusal, encodeNext, encodeAnswer};
+ghost use Rattle.base64url.specs.Answers.{checkNumber, checkAnswer, encodeNumber, encodeNext, encodeAnswer};
 ghost use Rattle.base64url.specs.Answers.{encodeBuffer};
 ghost use Rattle.grammar.specs.Reader.{readText, valueAt};
 ghost use Rattle.json.specs.Ends.{foundOf};
@@ -19,7 +19,7 @@ use json::Position;
 // 0 or 5.
 #[no_mangle]
 pub extern "C" fn probe_check(text: &[u8]) -> u32
-    ensures { λ r. ⌜ r ≡ checkRefusal (checkAnswer (now (text .entry))) ⌝ }
+    ensures { λ r. ⌜ r ≡ checkNumber (checkAnswer (now (text .entry))) ⌝ }
 {
     let answer = base64url::check(text);
     match answer {
@@ -39,7 +39,7 @@ pub extern "C" fn probe_encoded_length(n: usize) -> usize
 // 0 or 1; *end is the position after the text, or 0.
 #[no_mangle]
 pub extern "C" fn probe_encode(octets: &[u8], out: &mut [u8], at: usize, end: &mut usize) -> u32
-    ensures { λ r. ⌜ r ≡ encodeRefusal (encodeAnswer (now (octets .entry)) at (length (now (out .entry)))) ⌝ }
+    ensures { λ r. ⌜ r ≡ encodeNumber (encodeAnswer (now (octets .entry)) at (length (now (out .entry)))) ⌝ }
     ensures { λ _. ⌜ now (end .exit) ≡ encodeNext (encodeAnswer (now (octets .entry)) at (length (now (out .entry)))) ⌝ }
     ensures { λ _. ⌜ now (out .exit) ≡ encodeBuffer (now (octets .entry)) at (now (out .entry)) ⌝ }
 {

@@ -12,5 +12,5 @@ pub mod JsonRefuses
 pub mod Refused
 -- No exchange of numbers meets it.
 pub mod Renumbered
--- The compact writer.
-pub mod WriteRefuses
+-- The header walk, decoding, the AAD and the compact writer.
+pub mod FurtherRefuses

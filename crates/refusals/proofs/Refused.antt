@@ -20,7 +20,7 @@ use Rattle.meets.proofs.Accepted.{list-decided, list-names, accepted-exactly}
 use Rattle.refusals.specs.Table.{fork, Refuses}
 use Rattle.meets.specs.Meets.{OpensCurly}
 use Rattle.refusals.specs.Numbers.{compactTable, jsonTable, numbersTable}
-use Rattle.refusals.proofs.Steps.{step, where-so, where-not, refuses-once}
+use Rattle.refusals.proofs.Steps.{step, where-so, where-not, exactly}
 use Rattle.refusals.proofs.CompactRefuses.{compact-refuses}
 use Rattle.refusals.proofs.JsonRefuses.{json-refuses}
 use Rattle.meets.proofs.FormTold.{form-told}
@@ -58,12 +58,9 @@ module _ (message known : List ℕ) (recipient headerLent listLent : ℕ) where
   -- A number is given exactly where the table says it; 0 is none.
   pub refused-exactly : (k : ℕ) → (refusal message known recipient headerLent listLent ≡ k)
       ↔ Refuses (numbersTable message known recipient headerLent listLent) k
-  refused-exactly k = (
-    (λ e. subst (Refuses (numbersTable message known recipient headerLent listLent)) e refuses),
-    (λ r.
-        refuses-once (numbersTable message known recipient headerLent listLent)
-        (refusal message known recipient headerLent listLent) k refuses r),
-  )
+  refused-exactly =
+      exactly (numbersTable message known recipient headerLent listLent)
+      (refusal message known recipient headerLent listLent) refuses
 
   -- No rule is broken exactly where all is met.
   pub none-broken : Refuses (numbersTable message known recipient headerLent listLent) 0

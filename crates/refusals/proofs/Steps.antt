@@ -1,5 +1,5 @@
 -- A list of tests refuses as a table says, test by test.
-use mathlib.Core.Path.{_≡_, refl, sym, _∙_}
+use mathlib.Core.Path.{_≡_, refl, sym, subst, _∙_}
 use mathlib.Core.Bool.{Bool, true, false, true≢false}
 use mathlib.Core.Logic.{_↔_, inl, inr}
 use mathlib.Core.List.{List, [], _∷_}
@@ -21,6 +21,10 @@ refuses-once (fork P t u) k l (inl a) (inl b) = refuses-once t k l (a .1) (b .1)
 refuses-once (fork P t u) k l (inl a) (inr b) = absurd (b .0 (a .0))
 refuses-once (fork P t u) k l (inr a) (inl b) = absurd (a .0 (b .0))
 refuses-once (fork P t u) k l (inr a) (inr b) = refuses-once u k l (a .1) (b .1)
+
+-- So a number that a table says is the one that it says.
+pub exactly : (t : Table) (n : ℕ) → Refuses t n → (k : ℕ) → (n ≡ k) ↔ Refuses t k
+exactly t n r k = ((λ e. subst (Refuses t) e r), (λ s. refuses-once t n k r s))
 
 module _ {P : Type 0} where
   -- A test with its rule.

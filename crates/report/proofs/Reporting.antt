@@ -1,6 +1,6 @@
 -- The report by what the reader answers: too long, accepted with the numbers of its result and its list, or refused.
 use mathlib.Core.Path.{_≡_, refl, ap, ap₂, sym, subst, _∙_}
-use mathlib.Core.Bool.{Bool, cond}
+use mathlib.Core.Bool.{Bool, true, false, cond}
 use mathlib.Core.List.{List, [], _∷_, _++_}
 use Prim.Native.Nat.{ℕ, _+_, _*_, _≤_, _<_}
 use native.Mathlib.Omega.{arith}
@@ -8,6 +8,8 @@ use lib.ListN.{length, drop, getD}
 use lib.Dec.{eqb, ltb}
 use borrow.Author.Tests.{lt-ltb, le-ltb, eq-eqb, ne-eqb, eqb-true}
 use Rattle.prelude.specs.Buffer.{written}
+use Rattle.prelude.specs.Refusals.{first}
+use Rattle.prelude.proofs.Outputs.{writes-refused, writes-done}
 use Rattle.grammar.proofs.Endings.{either}
 use Rattle.rows.specs.Tables.{listed}
 use Rattle.rows.proofs.Entries.{listed-length}
@@ -18,8 +20,7 @@ use Rattle.jwe.specs.Answers.{numbers}
 use Rattle.jwe.specs.declared.Result.{Result}
 use Rattle.meets.proofs.HandedFits.{handed-fits}
 use Rattle.report.specs.Report.{mostRead, firstLine, componentLines, tooLong, refusedReport, acceptedReport, report}
-use Rattle.report.specs.Answers.{reportRoom, octetsOf, reportAnswer, reportBuffer, listLines, resultReport}
-use Rattle.report.specs.declared.Reported.{Reported}
+use Rattle.report.specs.Answers.{reportRoom, reportOrder, reportRefusal, Reports, listLines, resultReport}
 use Rattle.report.specs.declared.Reported.the-variants.{Octets, Short}
 use Rattle.report.proofs.Listing.{listed-lines}
 
@@ -92,37 +93,34 @@ module _ (message : List ℕ) where
 -- The answers
 
 module _ (message out : List ℕ) where
-  -- what is answered, and what the output holds
-  abbrev pub Reports : Reported → List ℕ → Type 0
-  Reports r last =
-      (r ≡ reportAnswer message (length out)) × ((last ≡ reportBuffer message out) × (octetsOf r ≤ length out))
+  by-room : (b : Bool) → ltb (length out) reportRoom ≡ b → reportRefusal (length out) ≡ cond b 1 0
+  unfolding reportRefusal reportOrder first
+  by-room b e = ap (λ (t : Bool). cond t 1 0) e
 
-  pub too-short : length out < reportRoom → Reports Short out
-  unfolding reportAnswer reportBuffer
-  too-short h =
-      let t = sym (lt-ltb (length out) reportRoom h) in (
-        ap (λ (b : Bool). cond b Short (Octets (length (report message)))) t,
-        (ap (λ (b : Bool). cond b out (written 0 (report message) out)) t, omega arith),
-      )
+  pub too-short : length out < reportRoom → Reports message out Short out
+  too-short h = record {
+    writes =
+        writes-refused (reportRefusal (length out)) (report message) out 1
+        (sym (by-room true (lt-ltb (length out) reportRoom h))) (λ z. omega arith);
+    fits = omega arith;
+  }
 
   module _ (room : reportRoom ≤ length out) where
     -- a text was written at the output's start, within it
     abbrev pub Put : List ℕ → ℕ → List ℕ → Type 0
     Put text n last = (n ≡ length text) × ((last ≡ written 0 text out) × (n ≤ length out))
 
-    reported : (text : List ℕ) → report message ≡ text → (n : ℕ) (last : List ℕ) → Put text n last → Reports (Octets n) last
-    unfolding reportAnswer reportBuffer
-    reported text e n last p =
-        let t = sym (le-ltb (length out) reportRoom room) in (
-          ap Octets (p .0 ∙ ap length (sym e)) ∙ ap (λ (b : Bool). cond b Short (Octets (length (report message)))) t,
-          (
-            p .1 .0 ∙ ap (λ (l : List ℕ). written 0 l out) (sym e)
-                ∙ ap (λ (b : Bool). cond b out (written 0 (report message) out)) t,
-            p .1 .1,
-          ),
-        )
+    reported : (text : List ℕ) → report message ≡ text → (n : ℕ) (last : List ℕ) → Put text n last →
+        Reports message out (Octets n) last
+    reported text e n last p = record {
+      writes =
+          writes-done (reportRefusal (length out)) (report message) out
+          (by-room false (le-ltb (length out) reportRoom room)) n last (p .0 ∙ ap length (sym e))
+          (p .1 .0 ∙ ap (λ (l : List ℕ). written 0 l out) (sym e));
+      fits = p .1 .1;
+    }
 
-    pub reports-long : mostRead < length message → (n : ℕ) (last : List ℕ) → Put tooLong n last → Reports (Octets n) last
+    pub reports-long : mostRead < length message → (n : ℕ) (last : List ℕ) → Put tooLong n last → Reports message out (Octets n) last
     unfolding report
     reports-long h =
         reported tooLong
@@ -141,11 +139,11 @@ module _ (message out : List ℕ) where
           (le-ltb mostRead (length message) read) e
 
       pub reports-accepted : number message ≡ 0 → (text : List ℕ) → text ≡ acceptedReport message (outcome message 0) →
-          (n : ℕ) (last : List ℕ) → Put text n last → Reports (Octets n) last
+          (n : ℕ) (last : List ℕ) → Put text n last → Reports message out (Octets n) last
       reports-accepted z text e = reported text (by-number _ (eq-eqb (number message) 0 z) ∙ sym e)
 
       pub reports-refused : (k : ℕ) → k ≡ number message → (k ≡ 0 → ⊥) → (n : ℕ) (last : List ℕ) →
-          Put (refusedReport k) n last → Reports (Octets n) last
+          Put (refusedReport k) n last → Reports message out (Octets n) last
       reports-refused k e z =
           reported (refusedReport k)
           (by-number _ (ne-eqb (number message) 0 (λ q. z (e ∙ q))) ∙ ap refusedReport (sym e))

@@ -1,10 +1,10 @@
 -- What the code answers and what the lent output holds afterwards; and the lines by the numbers that the reader hands out.
-use mathlib.Core.List.{List, [], _++_}
-use mathlib.Core.Bool.{cond}
-use Prim.Native.Nat.{ℕ, zero, suc}
+use mathlib.Core.List.{List, [], _∷_, _++_}
+use Prim.Native.Nat.{ℕ, zero, suc, _≤_}
 use lib.ListN.{length, take, drop}
 use lib.Dec.{ltb}
-use Rattle.prelude.specs.Buffer.{written}
+use Rattle.prelude.specs.Refusals.{Test, _if_, first}
+use Rattle.prelude.specs.Outputs.{Writes}
 use Rattle.rows.specs.Tables.{firstOf}
 use Rattle.jwe.specs.Answers.{componentsOf}
 use Rattle.jwe.specs.declared.Result.{Result}
@@ -16,17 +16,29 @@ use Rattle.report.specs.declared.Reported.the-variants.{Octets, Short}
 abbrev pub reportRoom : ℕ
 reportRoom = 8192
 
--- The octets written, by the answer.
-abbrev pub octetsOf : Reported → ℕ
-octetsOf (Octets n) = n
-octetsOf Short = 0
+-- Only 1 can refuse: too little is lent.
 
-unfoldable pub reportAnswer : List ℕ → ℕ → Reported
-reportAnswer message lent = cond (ltb lent reportRoom) Short (Octets (length (report message)))
+unfoldable pub reportOrder : ℕ → List Test
+reportOrder lent = 1 if ltb lent reportRoom ∷ []
 
--- The report at the output's start and its rest unchanged; all of it unchanged where too little is lent.
-unfoldable pub reportBuffer : List ℕ → List ℕ → List ℕ
-reportBuffer message out = cond (ltb (length out) reportRoom) out (written 0 (report message) out)
+unfoldable pub reportRefusal : ℕ → ℕ
+reportRefusal lent = first (reportOrder lent)
+
+-- Document 01's number for each answer, and the octets written.
+
+abbrev pub reportNumber : Reported → ℕ
+reportNumber (Octets n) = 0
+reportNumber Short = 1
+
+abbrev pub reportCount : Reported → ℕ
+reportCount (Octets n) = n
+reportCount Short = 0
+
+-- The answer and the output afterwards, of a message and the output before; the octets fit.
+pub record Reports (message before : List ℕ) (answer : Reported) (after : List ℕ) : Type 0 where
+  pub writes :
+      Writes (reportRefusal (length before)) (report message) before (reportNumber answer) (reportCount answer) after
+  pub fits : reportCount answer ≤ length before
 
 -- The lines of the first parameters of a list of six numbers each.
 unfoldable pub listLines : ℕ → List ℕ → List ℕ

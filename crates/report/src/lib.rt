@@ -5,7 +5,7 @@ ghost use lib.ListN.{length};
 ghost use Rattle.prelude.specs.Buffer.{AllBelow, written};
 ghost use Rattle.jwe.specs.Answers.{numbers};
 ghost use Rattle.report.specs.Report.{tooLong, refusedReport};
-ghost use Rattle.report.specs.Answers.{reportRoom, octetsOf, reportAnswer, reportBuffer, resultReport};
+ghost use Rattle.report.specs.Answers.{reportRoom, Reports, resultReport};
 use jwe::Result;
 
 mod lines;
@@ -52,11 +52,9 @@ fn put_accepted(r: Result, list: &[u32], out: &mut [u8]) -> usize
 }
 
 // Reads a message of at most 61,440 octets with no known names, for recipient 0, and writes the report on it at the
-// output's start. The rest of the output is as it was; all of it is where fewer than 8,192 octets are lent.
+// output's start. The rest of the output is unchanged; all of it is where fewer than 8,192 octets are lent.
 pub fn report(message: &[u8], out: &mut [u8]) -> Reported
-    ensures { λ r. ⌜ r ≡ reportAnswer (now (message .entry)) (length (now (out .entry))) ⌝ }
-    ensures { λ _. ⌜ now (out .exit) ≡ reportBuffer (now (message .entry)) (now (out .entry)) ⌝ }
-    ensures { λ r. ⌜ octetsOf r ≤ length (now (out .entry)) ⌝ }
+    ensures { λ r. ⌜ Reports (now (message .entry)) (now (out .entry)) r (now (out .exit)) ⌝ }
 {
     if out.len() < 8192 {
         return Reported::Short;

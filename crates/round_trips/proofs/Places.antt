@@ -1,14 +1,12 @@
--- Where the components of a written message stand: the reader's places are those of the definition, they fit, and each
--- shows its component.
+-- Where the components of a written message stand: the reader's places are those of the definition, and each has its
+-- component's encoding.
 use mathlib.Core.Path.{_≡_, refl, ap, ap₂, sym, _∙_}
 use mathlib.Core.Bool.{false}
 use mathlib.Core.List.{List, [], _∷_, _++_, append-assoc}
 use Prim.Native.Nat.{ℕ, _+_, _≤_}
 use native.Mathlib.Omega.{arith}
 use lib.ListN.{length, length-append}
-use Rattle.prelude.specs.Buffer.{AllBelow}
-use Rattle.base64url.specs.Base64url.{encoded, decoded}
-use Rattle.base64url.proofs.Laws.{decode-encode}
+use Rattle.base64url.specs.Base64url.{encoded}
 use Rattle.parts.specs.Parts.{seek, holds}
 use Rattle.parts.proofs.Laws.{seek-after}
 use Rattle.grammar.specs.Places.{Place}
@@ -17,7 +15,8 @@ use Rattle.jwe.specs.Compact.{stops, compactComponents}
 use Rattle.jwe_write.specs.Write.{Raw, compactText}
 use Rattle.meets.proofs.FiveParts.{FiveParts, parts-placed}
 use Rattle.meets.proofs.SpelledDecided.{Spelled, spelled-parts}
-use Rattle.round_trips.specs.Trips.{RawOctets, writtenPlaces, Shows, ShowsAll}
+use Rattle.round_trips.specs.Trips.{RawOctets, writtenPlaces}
+use Rattle.round_trips.proofs.ComingBack.{Stands}
 
 -- Octets a without a full stop stand at a position of the text s, then a full stop and b: it is found behind a, and b
 -- stands behind it.
@@ -143,32 +142,15 @@ module _ (c : Raw) (o : RawOctets c) where
       (place-same (q .ciphertext) (p .ciphertext) (omega arith) (omega arith))
       (place-same (q .tag) (p .tag) (omega arith) (omega arith))
 
-  -- A place that fits and has a component's encoding shows it.
-  shows : (q : Place) (xs : List ℕ) → AllBelow 256 xs → q .start + q .size ≤ length message →
-      octetsAt message q ≡ encoded xs → Shows message q xs
-  shows q xs h fits e = record { fits = fits; spelled = e; octets = ap decoded e ∙ decode-encode xs h }
-
-  pub written-shows : ShowsAll message (writtenPlaces c) c
-  unfolding writtenPlaces
-  written-shows =
-      let s = sums in
-      let q = writtenPlaces c in
+  -- At each place stands its component, encoded.
+  pub written-stands : Stands message (writtenPlaces c) c
+  written-stands =
       let p = parts-placed message parts in
       let same = sym places-are in
       record {
-        header =
-            shows (q .protected) (c .header) (o .header) (omega arith)
-            (ap (λ (x : Components). octetsAt message (x .protected)) same ∙ p .header);
-        key =
-            shows (q .key) (c .key) (o .key) (omega arith)
-            (ap (λ (x : Components). octetsAt message (x .key)) same ∙ p .key);
-        iv =
-            shows (q .iv) (c .iv) (o .iv) (omega arith)
-            (ap (λ (x : Components). octetsAt message (x .iv)) same ∙ p .iv);
-        ciphertext =
-            shows (q .ciphertext) (c .ciphertext) (o .ciphertext) (omega arith)
-            (ap (λ (x : Components). octetsAt message (x .ciphertext)) same ∙ p .ciphertext);
-        tag =
-            shows (q .tag) (c .tag) (o .tag) (omega arith)
-            (ap (λ (x : Components). octetsAt message (x .tag)) same ∙ p .tag);
+        header = ap (λ (x : Components). octetsAt message (x .protected)) same ∙ p .header;
+        key = ap (λ (x : Components). octetsAt message (x .key)) same ∙ p .key;
+        iv = ap (λ (x : Components). octetsAt message (x .iv)) same ∙ p .iv;
+        ciphertext = ap (λ (x : Components). octetsAt message (x .ciphertext)) same ∙ p .ciphertext;
+        tag = ap (λ (x : Components). octetsAt message (x .tag)) same ∙ p .tag;
       }

@@ -1,82 +1,165 @@
--- The two round trips (demand 2). `writeRefusal` and `compactText` (crates/jwe_write/specs/Write.antt) say when the
--- compact writer refuses and what it writes, `refusal` and `outcome` (crates/jwe/specs/Judge.antt) when the reader
--- refuses and what it hands out. Each proof cites the file that has it.
-use mathlib.Core.Path.{_≡_, ap, _∙_}
-use mathlib.Core.Bool.{Bool, cond}
+-- The two round trips (demand 2), by what the contracts of `write`, `read`, `component` and `decode` cite, and when the writer
+-- refuses nothing.
+use mathlib.Core.Path.{_≡_, refl, ap, sym, subst, _∙_}
+use mathlib.Core.Bool.{Bool, true, false, cond}
+use mathlib.Core.Logic.{_↔_}
 use mathlib.Core.List.{List}
 use Prim.Native.Nat.{ℕ, _≤_}
-use lib.ListN.{length}
-use borrow.Author.Tests.{eq-eqb}
+use lib.ListN.{length, getD}
+use lib.Dec.{eqb}
+use native.Mathlib.Omega.{arith}
+use borrow.Author.Tests.{eq-eqb, eqb-true}
 use Rattle.prelude.specs.Buffer.{written}
+use Rattle.prelude.specs.Limits.{headerRoom, listRoom}
+use Rattle.prelude.proofs.Writing.{begins}
+use Rattle.grammar.specs.Reader.{opensObject}
 use Rattle.rows.specs.Tables.{listed}
+use Rattle.headers.specs.Components.{Components}
 use Rattle.headers.specs.Headers.{protectedEntries}
-use Rattle.jwe.specs.Judge.{Outcome, refusal, refused, outcome, accepted, result, headerAfter, listAfter}
+use Rattle.jwe.specs.Compact.{compactComponents}
+use Rattle.jwe.specs.Judge.{Outcome, refusal, refused, compactOutcome, jsonOutcome, outcome, accepted, placesIn, result}
+use Rattle.jwe.specs.Judge.{headerAfter, listAfter}
 use Rattle.jwe_write.specs.Write.{Raw, compactText, writeRefusal}
-use Rattle.jwe_write.specs.Answers.{writeAnswer, writeBuffer}
-use Rattle.jwe_write.specs.declared.Written.the-variants.{Octets, Refused}
-use Rattle.round_trips.specs.Trips.{RawOctets, writtenPlaces, writtenOutcome, ShowsAll, takenApart}
-use Rattle.round_trips.proofs.Places as Places
+use Rattle.meets.specs.Meets.{Meets}
+use Rattle.meets.proofs.Accepted.{accepted-exactly}
+use Rattle.meets.proofs.HeaderOctets.{encoded-opens-none}
+use Rattle.round_trips.specs.Trips.{RawOctets, writtenPlaces, writtenOutcome, AllComeBack, wrote, ReadsBack}
+use Rattle.round_trips.specs.Trips.{takenApart, WritesBack}
+use Rattle.round_trips.proofs.ComingBack.{all-come-back}
+use Rattle.round_trips.proofs.Passing.{write-decided}
+use Rattle.round_trips.proofs.Places.{spelled, places-are, written-stands}
 use Rattle.round_trips.proofs.WrittenReads as WrittenReads
-use Rattle.round_trips.proofs.ReadWrites as ReadWrites
+use Rattle.round_trips.proofs.ReadWrites.{compact-form, places-read, raw, raw-octets, stands, taken, same-text}
+use Rattle.round_trips.proofs.ReadWrites.{written-again}
 
--- What the writer writes, read with the same list of names and the room that the reader asks for, is accepted; what is
--- handed out is the compact form, one recipient, the places of the components, and the header that was given with its
--- parameters; and each place fits and shows its component encoded, which decodes to what was given.
-pub written-reads-back : (c : Raw) (known : List ℕ) (room headerLent listLent : ℕ) → RawOctets c →
-    writeRefusal c known room ≡ 0 → 4096 ≤ headerLent → 576 ≤ listLent →
-    (refusal (compactText c) known 0 headerLent listLent ≡ 0)
-    × (outcome (compactText c) 0 ≡ writtenOutcome c)
-    × ShowsAll (compactText c) (writtenPlaces c) c
-written-reads-back c known room headerLent listLent o e h l = (
-  WrittenReads.accepted c o known room e headerLent listLent h l,
-  WrittenReads.handed c o known room e,
-  Places.written-shows c o,
+-- What is written reads back
+
+-- What the writer left is the message.
+wrote-is : (c : Raw) (known out : List ℕ) → writeRefusal c known (length out) ≡ 0 → wrote c known out ≡ compactText c
+wrote-is c known out e =
+    let z = eq-eqb (writeRefusal c known (length out)) 0 e in
+    begins _ (compactText c) _ out (sym (ap (λ (b : Bool). cond b (length (compactText c)) 0) z))
+    (ap (λ (b : Bool). cond b (written 0 (compactText c) out) out) z)
+
+module _ (c : Raw) (known out buffer list : List ℕ) (o : RawOctets c) (e : writeRefusal c known (length out) ≡ 0)
+    (h : headerRoom ≤ length buffer) (l : listRoom ≤ length list) where
+  abbrev message : List ℕ
+  message = compactText c
+
+  passes : eqb (refusal message known 0 (length buffer) (length list)) 0 ≡ true
+  passes = eq-eqb _ 0 (WrittenReads.accepted c o known (length out) e (length buffer) (length list) h l)
+
+  same : outcome message 0 ≡ writtenOutcome c
+  same = WrittenReads.handed c o known (length out) e
+
+  result-is : result message known 0 (length buffer) (length list) ≡ accepted message (writtenOutcome c)
+  unfolding result
+  result-is =
+      ap (λ (b : Bool). cond b (accepted message (outcome message 0))
+      (refused (refusal message known 0 (length buffer) (length list)))) passes
+      ∙ ap (accepted message) same
+
+  reads-back : ReadsBack c known message buffer list
+  unfolding headerAfter listAfter accepted writtenOutcome
+  reads-back = record {
+    accepted = ap (λ (r : List ℕ). getD r 0 0) result-is;
+    compact = ap (λ (r : List ℕ). getD r 1 0) result-is;
+    headerLeft =
+        ap (λ (b : Bool). cond b (written 0 (outcome message 0 .header) buffer) buffer) passes
+        ∙ ap (λ (x : Outcome). written 0 (x .header) buffer) same;
+    listLeft =
+        ap (λ (b : Bool). cond b (written 0 (listed (outcome message 0 .entries)) list) list) passes
+        ∙ ap (λ (x : Outcome). written 0 (listed (x .entries)) list) same;
+    components =
+        subst (λ (q : Components). AllComeBack message q c) (sym (ap placesIn result-is))
+        (all-come-back message (writtenPlaces c) c o (written-stands c o));
+  }
+
+  pub written-reads-back : ReadsBack c known (wrote c known out) buffer list
+  written-reads-back =
+      subst (λ (m : List ℕ). ReadsBack c known m buffer list) (sym (wrote-is c known out e)) reads-back
+
+-- What is read writes back
+
+module _ (message known : List ℕ) (recipient headerLent listLent : ℕ) where
+  abbrev number : ℕ
+  number = refusal message known recipient headerLent listLent
+
+  abbrev answer : List ℕ
+  answer = result message known recipient headerLent listLent
+
+  pub number-first : getD answer 0 0 ≡ number
+  unfolding result accepted refused
+  number-first = cases (eqb number 0) refl
+    where
+      cases : (b : Bool) → eqb number 0 ≡ b →
+          getD (cond b (accepted message (outcome message recipient)) (refused number)) 0 0 ≡ number
+      cases true t = sym (eqb-true number 0 t)
+      cases false t = refl
+
+  module _ (zero : getD answer 0 0 ≡ 0) where
+    passed : number ≡ 0
+    passed = sym number-first ∙ zero
+
+    answer-is : answer ≡ accepted message (outcome message recipient)
+    unfolding result
+    answer-is =
+        ap (λ (b : Bool). cond b (accepted message (outcome message recipient)) (refused number)) (eq-eqb number 0 passed)
+
+    module _ (form : getD answer 1 0 ≡ 0) where
+      compact : opensObject message ≡ false
+      unfolding accepted
+      compact = compact-form message recipient (sym (ap (λ (r : List ℕ). getD r 1 0) answer-is) ∙ form)
+
+      places-are-read : placesIn answer ≡ compactComponents message
+      unfolding accepted
+      places-are-read = ap placesIn answer-is ∙ places-read message recipient compact
+
+      writes-back : (out : List ℕ) → length message ≤ length out →
+          WritesBack message known out (compactComponents message)
+      writes-back out fits =
+          let (s, e) = written-again message known recipient headerLent listLent (length out) passed compact fits in
+          let t = taken message s in
+          let text = ap compactText t ∙ same-text message s in
+          let refuses : writeRefusal (takenApart message (compactComponents message)) known (length out) ≡ 0 =
+          ap (λ (c : Raw). writeRefusal c known (length out)) t ∙ e in
+          let z = eq-eqb _ 0 refuses in
+          let c = takenApart message (compactComponents message) in
+          record {
+            components =
+                subst (λ (x : Raw). AllComeBack message (compactComponents message) x) (sym t)
+                (all-come-back message (compactComponents message) (raw message s) (raw-octets message s) (stands message s));
+            accepted = refuses;
+            count = ap (λ (b : Bool). cond b (length (compactText c)) 0) z ∙ ap length text;
+            left =
+                ap (λ (b : Bool). cond b (written 0 (compactText c) out) out) z
+                ∙ ap (λ (m : List ℕ). written 0 m out) text;
+          }
+
+      pub read-writes-back : (out : List ℕ) → length message ≤ length out → WritesBack message known out (placesIn answer)
+      read-writes-back out fits =
+          subst (λ (q : Components). WritesBack message known out q) (sym places-are-read) (writes-back out fits)
+
+-- When the writer refuses nothing
+
+opens-none : (c : Raw) → RawOctets c → opensObject (compactText c) ≡ false
+unfolding compactText
+opens-none c o = encoded-opens-none (c .header) _ (o .header)
+
+pub writes-exactly : (c : Raw) (known : List ℕ) (room : ℕ) → RawOctets c →
+    (writeRefusal c known room ≡ 0)
+    ↔ (Meets (compactText c) known 0 headerRoom listRoom × (length (compactText c) ≤ room))
+writes-exactly c known room o = (
+  (λ e. (
+    accepted-exactly (compactText c) known 0 headerRoom listRoom .0
+        (WrittenReads.accepted c o known room e headerRoom listRoom (omega arith) (omega arith)),
+    write-decided c known room .0 e .fits,
+  )),
+  (λ w.
+      let m = compactText c in
+      let none = opens-none c o in
+      let read = accepted-exactly m known 0 headerRoom listRoom .1 (w .0) in
+      let (s, e) = written-again m known 0 headerRoom listRoom room read none (w .1) in
+      let t : raw m s ≡ c = sym (taken m s) ∙ taken m (spelled c o) in
+      ap (λ (x : Raw). writeRefusal x known room) (sym t) ∙ e),
 )
-
--- An accepted compact message, taken apart by the reader's places and decoding and written with the same list of names
--- and room for it: the writer does not refuse, and writes the same octets.
-pub read-writes-back : (message known : List ℕ) (recipient headerLent listLent room : ℕ) →
-    refusal message known recipient headerLent listLent ≡ 0 → outcome message recipient .form ≡ 0 →
-    length message ≤ room →
-    (writeRefusal (takenApart message recipient) known room ≡ 0)
-    × (compactText (takenApart message recipient) ≡ message)
-read-writes-back = ReadWrites.written-again
-
--- The same of what is lent: the reader's result, and what it leaves in the header buffer and the list ..
-pub written-read : (c : Raw) (known : List ℕ) (room : ℕ) (buffer list : List ℕ) → RawOctets c →
-    writeRefusal c known room ≡ 0 → 4096 ≤ length buffer → 576 ≤ length list →
-    (result (compactText c) known 0 (length buffer) (length list) ≡ accepted (compactText c) (writtenOutcome c))
-    × (headerAfter (compactText c) known 0 buffer list ≡ written 0 (c .header) buffer)
-    × (listAfter (compactText c) known 0 buffer list ≡ written 0 (listed (protectedEntries (c .header))) list)
-unfolding result headerAfter listAfter writtenOutcome
-written-read c known room buffer list o e h l =
-    let message = compactText c in
-    let t = written-reads-back c known room (length buffer) (length list) o e h l in
-    let n = refusal message known 0 (length buffer) (length list) in
-    let z = eq-eqb n 0 (t .0) in
-    let x = outcome message 0 in
-    let same = t .1 in (
-      ap (λ (b : Bool). cond b (accepted message x) (refused n)) z ∙ ap (accepted message) same,
-      ap (λ (b : Bool). cond b (written 0 (x .header) buffer) buffer) z
-          ∙ ap (λ (y : Outcome). written 0 (y .header) buffer) same,
-      ap (λ (b : Bool). cond b (written 0 (listed (x .entries)) list) list) z
-          ∙ ap (λ (y : Outcome). written 0 (listed (y .entries)) list) same,
-    )
-
--- .. and the writer's answer and what it leaves in the output.
-pub read-written : (message known : List ℕ) (recipient headerLent listLent : ℕ) (out : List ℕ) →
-    refusal message known recipient headerLent listLent ≡ 0 → outcome message recipient .form ≡ 0 →
-    length message ≤ length out →
-    (writeAnswer (takenApart message recipient) known (length out) ≡ Octets (length message))
-    × (writeBuffer (takenApart message recipient) known out ≡ written 0 message out)
-unfolding writeAnswer writeBuffer
-read-written message known recipient headerLent listLent out e form fits =
-    let c = takenApart message recipient in
-    let t = read-writes-back message known recipient headerLent listLent (length out) e form fits in
-    let n = writeRefusal c known (length out) in
-    let z = eq-eqb n 0 (t .0) in (
-      ap (λ (b : Bool). cond b (Octets (length (compactText c))) (Refused n)) z
-          ∙ ap (λ (s : List ℕ). Octets (length s)) (t .1),
-      ap (λ (b : Bool). cond b (written 0 (compactText c) out) out) z
-          ∙ ap (λ (s : List ℕ). written 0 s out) (t .1),
-    )

@@ -3,14 +3,19 @@
 use mathlib.Core.Path.{_≡_}
 use mathlib.Core.List.{List}
 use Prim.Native.Nat.{ℕ, _+_, _≤_}
-use lib.ListN.{length}
-use Rattle.prelude.specs.Buffer.{AllBelow}
+use lib.ListN.{length, take, getD}
+use Rattle.prelude.specs.Buffer.{AllBelow, written}
+use Rattle.prelude.specs.Outputs.{octetsWritten}
 use Rattle.base64url.specs.Base64url.{encoded, decoded}
+use Rattle.base64url.specs.Answers.{decodeRefusal, decodeBuffer}
 use Rattle.grammar.specs.Places.{Place}
-use Rattle.headers.specs.Components.{octetsAt, absent, Components}
+use Rattle.rows.specs.Tables.{listed}
+use Rattle.headers.specs.Components.{absent, Components}
 use Rattle.headers.specs.Headers.{protectedEntries}
-use Rattle.jwe.specs.Judge.{Outcome, outcome}
-use Rattle.jwe_write.specs.Write.{Raw}
+use Rattle.jwe.specs.Judge.{Outcome, placesIn, result, headerAfter, listAfter}
+use Rattle.shown.specs.Shown.{componentShown}
+use Rattle.jwe_write.specs.Write.{Raw, compactText, writeRefusal}
+use Rattle.jwe_write.specs.Answers.{writeBuffer}
 
 -- What the writer is given is octets.
 pub record RawOctets (c : Raw) : Type 0 where
@@ -45,28 +50,54 @@ writtenOutcome c = record {
   entries = protectedEntries (c .header);
 }
 
--- A place of a message shows some octets, encoded: they are what it decodes to.
-pub record Shows (message : List ℕ) (q : Place) (xs : List ℕ) : Type 0 where
-  pub fits : q .start + q .size ≤ length message
-  pub spelled : octetsAt message q ≡ encoded xs
-  pub octets : decoded (octetsAt message q) ≡ xs
+-- A component that is shown at a place of the message and decoded, as `component` and `decode` do it: where the output has room
+-- for the octets, decoding does not refuse, and they are at the output's start, its rest unchanged.
+pub record ComesBack (message : List ℕ) (q : Place) (xs : List ℕ) : Type 0 where
+  pub accepted : (room : ℕ) → length xs ≤ room → decodeRefusal (componentShown message (q .start) (q .size)) room ≡ 0
+  pub octets : (out : List ℕ) → length xs ≤ length out →
+      decodeBuffer (componentShown message (q .start) (q .size)) out ≡ written 0 xs out
 
--- Each place of a message shows its component.
-pub record ShowsAll (message : List ℕ) (q : Components) (c : Raw) : Type 0 where
-  pub header : Shows message (q .protected) (c .header)
-  pub key : Shows message (q .key) (c .key)
-  pub iv : Shows message (q .iv) (c .iv)
-  pub ciphertext : Shows message (q .ciphertext) (c .ciphertext)
-  pub tag : Shows message (q .tag) (c .tag)
+-- The five components at their places in a message come back.
+pub record AllComeBack (message : List ℕ) (q : Components) (c : Raw) : Type 0 where
+  pub header : ComesBack message (q .protected) (c .header)
+  pub key : ComesBack message (q .key) (c .key)
+  pub iv : ComesBack message (q .iv) (c .iv)
+  pub ciphertext : ComesBack message (q .ciphertext) (c .ciphertext)
+  pub tag : ComesBack message (q .tag) (c .tag)
 
--- An accepted compact message, taken apart by the reader's places and decoding.
-unfoldable pub takenApart : List ℕ → ℕ → Raw
-takenApart message recipient =
-    let q = outcome message recipient .components in
+-- What the writer left at the start of the output: the message.
+abbrev pub wrote : Raw → List ℕ → List ℕ → List ℕ
+wrote c known out =
+    take (octetsWritten (writeRefusal c known (length out)) (compactText c)) (writeBuffer c known out)
+
+-- A message that was written reads back: it is accepted as compact for recipient 0, the header buffer begins with the header that
+-- was given and the list with its parameters, the rest of both unchanged, and the components come back at the places
+-- that the result has.
+pub record ReadsBack (c : Raw) (known message buffer list : List ℕ) : Type 0 where
+  pub accepted : getD (result message known 0 (length buffer) (length list)) 0 0 ≡ 0
+  pub compact : getD (result message known 0 (length buffer) (length list)) 1 0 ≡ 0
+  pub headerLeft : headerAfter message known 0 buffer list ≡ written 0 (c .header) buffer
+  pub listLeft : listAfter message known 0 buffer list ≡ written 0 (listed (protectedEntries (c .header))) list
+  pub components : AllComeBack message (placesIn (result message known 0 (length buffer) (length list))) c
+
+-- A compact message, taken apart by places: what is shown at each, decoded.
+unfoldable pub takenApart : List ℕ → Components → Raw
+takenApart message q =
+    let octets : Place → List ℕ = λ p. decoded (componentShown message (p .start) (p .size)) in
     record {
-      header = decoded (octetsAt message (q .protected));
-      key = decoded (octetsAt message (q .key));
-      iv = decoded (octetsAt message (q .iv));
-      ciphertext = decoded (octetsAt message (q .ciphertext));
-      tag = decoded (octetsAt message (q .tag));
+      header = octets (q .protected);
+      key = octets (q .key);
+      iv = octets (q .iv);
+      ciphertext = octets (q .ciphertext);
+      tag = octets (q .tag);
     }
+
+-- A message that was read writes back: decoding refuses none of its components, and written with that list they are the message, at the
+-- start of the output, its rest unchanged.
+pub record WritesBack (message known out : List ℕ) (q : Components) : Type 0 where
+  pub components : AllComeBack message q (takenApart message q)
+  pub accepted : writeRefusal (takenApart message q) known (length out) ≡ 0
+  pub count :
+      octetsWritten (writeRefusal (takenApart message q) known (length out)) (compactText (takenApart message q))
+      ≡ length message
+  pub left : writeBuffer (takenApart message q) known out ≡ written 0 message out

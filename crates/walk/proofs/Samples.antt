@@ -11,24 +11,17 @@ use Rattle.grammar.specs.Spellings.{undo, undoFrom, adds, next, equal, has, ali
 use Rattle.grammar.specs.Reader.{passOver, skip, turn, scanString, stringAt, digitsAt, intAt, perhapsAt, fractionAt}
 use Rattle.grammar.specs.Reader.{exponentAt, numberAt, wordAt, beforeAt, entryAt, entriesAt, rowsAt, nestedAt, rowsIn}
 use Rattle.grammar.specs.Reader.{valueWith, valueAt, membersAt, readText}
-use Rattle.json.specs.Members.{nextFrom, fiveOf}
+use Rattle.json.specs.Members.{nextFrom}
 use Rattle.prelude.specs.Any.{any, anyPair}
 use Rattle.rows.specs.Rows.{entriesIn, repeated}
 use Rattle.jose.specs.Registered.{registered}
 use Rattle.prelude.specs.Refusals.{first}
 use Rattle.headers.specs.Headers.{unread, outermost, protectedEntries, objectOrder}
-use Rattle.walk.specs.declared.Handed.{Handed}
-use Rattle.walk.specs.declared.Handed.the-variants as handed
-use Rattle.walk.specs.Walk.{walkOrder, firstOffset, openAt, stepAt}
+use Rattle.walk.specs.Walk.{walkOrder, firstOffset, openAt, stepAt, handedNumbers}
 use Rattle.walk.proofs.Calls.{call}
 
--- The second to sixth numbers of a list entry; none at the end.
-abbrev numbers : Handed → List ℕ
-numbers (handed.Member row) = fiveOf row
-numbers handed.End = []
-
 abbrev walked : List ℕ → List ℕ → List (List ℕ)
-walked s ks = map (λ (k : ℕ). numbers (call s (openAt s) k)) ks
+walked s ks = map (λ (k : ℕ). handedNumbers (call s (openAt s) k)) ks
 
 pub sample-walk : walked (ascii "{\"alg\":\"dir\",\"enc\":\"A128GCM\"}") (0 ∷ 1 ∷ 2 ∷ 3 ∷ [])
     ≡ (2 ∷ 3 ∷ 7 ∷ 5 ∷ 2 ∷ []) ∷ (14 ∷ 3 ∷ 19 ∷ 9 ∷ 2 ∷ []) ∷ [] ∷ [] ∷ []

@@ -20,13 +20,9 @@ use Rattle.prelude.specs.Refusals.{first}
 use Rattle.prelude.specs.Limits.{longest}
 use Rattle.headers.specs.Headers.{isNothing, unread, outermost, protectedEntries, objectOrder}
 use Rattle.walk.specs.declared.Handed.the-variants as handed
-use Rattle.walk.specs.Walk.{walkOrder, firstOffset, opened, handedBy, after, rowOr}
+use Rattle.walk.specs.Walk.{walkOrder, firstOffset, opened, handedBy, after, rowsOf, rowOr}
 use Rattle.walk.proofs.Opens.{offset-refused, offset-empty, offset-first}
 use Rattle.walk.proofs.Calls.{call, call-is, call-over, calls-first, count-is, collected-rows, no-rows, row-there, row-past}
-
--- The rows of a reading: the members of its object, by the grammar.
-abbrev pub rowsOf : (s : List ℕ) → Reading 12 s → List Member
-rowsOf s r = members (partsOf (placedText (r .text)))
 
 -- The reader's rows are those.
 

@@ -9,7 +9,8 @@ use denote.Ref.{RefT}
 use Rattle.grammar.specs.Grammar.{curly}
 use Rattle.grammar.specs.Places as places
 use Rattle.grammar.specs.Reader.{skipSpace, Entry, entryAt, valueAt}
-use Rattle.json.specs.Members.{firstIn, nextFrom, rowOf}
+use Rattle.grammar.specs.Readings.{Reading}
+use Rattle.json.specs.Members.{firstIn, nextFrom, rowOf, fiveOf}
 use Rattle.prelude.specs.Refusals.{Test, _if_, first}
 use Rattle.jose.specs.HeaderRules.{levels}
 use Rattle.prelude.specs.Limits.{longest}
@@ -24,6 +25,9 @@ use Rattle.walk.specs.declared.HeaderWalk.{HeaderWalk}
 unfoldable pub walkOrder : List ℕ → List Test
 walkOrder s = 2 if ltb longest (length s) ∷ 7 if unread s ∷ objectOrder s (protectedEntries s)
 
+abbrev pub walkRefusal : List ℕ → ℕ
+walkRefusal s = first (walkOrder s)
+
 -- The first member's offset in a text; the text's length where it is refused, by its first refusal, or has no member.
 unfoldable pub firstOffset : List ℕ → ℕ → ℕ
 firstOffset s refusal =
@@ -32,11 +36,11 @@ firstOffset s refusal =
     (length s)
 
 abbrev pub openAt : List ℕ → ℕ
-openAt s = firstOffset s (first (walkOrder s))
+openAt s = firstOffset s (walkRefusal s)
 
 -- What opening finds.
 abbrev pub openingOf : List ℕ → Opening
-openingOf s = record { refusal = first (walkOrder s); at = openAt s }
+openingOf s = record { refusal = walkRefusal s; at = openAt s }
 
 -- What a step finds, by the entry that begins at its offset: its row and the next offset; else the end.
 abbrev pub steppedOf : List ℕ → Option Entry → Stepped
@@ -48,7 +52,7 @@ stepAt s at = steppedOf s (entryAt (valueAt levels s) curly s at)
 
 -- The walk that opening a text gives.
 abbrev pub opened : RefT (List ℕ) → HeaderWalk
-opened x = record { text = x; at = openAt (x .now); refusal = first (walkOrder (x .now)) }
+opened x = record { text = x; at = openAt (x .now); refusal = walkRefusal (x .now) }
 
 -- What a call on a walk hands out, and the walk after it: its text is kept.
 abbrev pub handedBy : HeaderWalk → Handed
@@ -61,6 +65,15 @@ moved w = record { text = w .text; at = stepAt (w .text .now) (w .at) .at; refus
 unfoldable pub after : ℕ → HeaderWalk → HeaderWalk
 after zero w = w
 after (suc k) w = after k (moved w)
+
+-- What is handed out, as numbers: the second to sixth of a list entry; none at the end.
+abbrev pub handedNumbers : Handed → List ℕ
+handedNumbers (handed.Member row) = fiveOf row
+handedNumbers handed.End = []
+
+-- The rows of a reading: the members of its object, by the grammar.
+abbrev pub rowsOf : (s : List ℕ) → Reading levels s → List places.Member
+rowsOf s r = places.members (places.partsOf (places.placedText (r .text)))
 
 -- Of rows in a list, row k, the first being row 0; the end for every k that is no row's.
 unfoldable pub rowOr : List places.Member → ℕ → Handed

@@ -1,6 +1,6 @@
 -- `jwe_aad` hands out what `aad` promises, case by case.
-use Rattle.aad.specs.Aad.{aadRefusal, aadCount}
-use Rattle.host.proofs.Cases.{by-case}
+use Rattle.aad.specs.Aad.{aadNumber, aadCount}
+use Rattle.prelude.proofs.Outputs.{writes-case}
 use borrow.Author.Needs.{needs}
 use Rattle.host.proofs.jwe_aad.Statement.{statement}
 use Rattle.host.proofs.jwe_aad.Tie as tie
@@ -20,7 +20,7 @@ same-length c = search needs
 returns : tie.Need-returns
 returns c =
     let call = c .before .before .before .before .before .aad in
-    by-case aadRefusal aadCount (call .ensures .0) (call .ensures .1) (c .before .answer .given .1)
+    writes-case aadNumber aadCount (call .ensures) (c .before .answer .given .1)
 
 same-length-2 : tie.Need-same-length-2
 same-length-2 c = search needs
@@ -28,7 +28,7 @@ same-length-2 c = search needs
 returns-2 : tie.Need-returns-2
 returns-2 c =
     let call = c .before .before .before .before .aad in
-    by-case aadRefusal aadCount (call .ensures .0) (call .ensures .1) (c .enum-told .given .1)
+    writes-case aadNumber aadCount (call .ensures) (c .enum-told .given .1)
 
 pub jwe-aad-spec : {M : Type 1} → statement M
 jwe-aad-spec =

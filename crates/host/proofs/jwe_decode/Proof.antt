@@ -1,6 +1,6 @@
 -- `jwe_decode` hands out what `decode` promises, case by case.
-use Rattle.base64url.specs.Answers.{decodeRefusal, decodeCount}
-use Rattle.host.proofs.Cases.{by-case}
+use Rattle.base64url.specs.Answers.{decodeNumber, decodeCount}
+use Rattle.prelude.proofs.Outputs.{writes-case}
 use borrow.Author.Needs.{needs}
 use Rattle.host.proofs.jwe_decode.Statement.{statement}
 use Rattle.host.proofs.jwe_decode.Tie as tie
@@ -23,7 +23,7 @@ same-length c = search needs
 returns : tie.Need-returns
 returns c =
     let call = c .before .before .before .before .before .decode in
-    by-case decodeRefusal decodeCount (call .ensures .0) (call .ensures .1) (c .before .answer .given .1)
+    writes-case decodeNumber decodeCount (call .ensures) (c .before .answer .given .1)
 
 same-length-2 : tie.Need-same-length-2
 same-length-2 c = search needs
@@ -31,7 +31,7 @@ same-length-2 c = search needs
 returns-2 : tie.Need-returns-2
 returns-2 c =
     let call = c .before .before .before .before .decode in
-    by-case decodeRefusal decodeCount (call .ensures .0) (call .ensures .1) (c .enum-told .given .1)
+    writes-case decodeNumber decodeCount (call .ensures) (c .enum-told .given .1)
 
 same-length-3 : tie.Need-same-length-3
 same-length-3 c = search needs
@@ -39,7 +39,7 @@ same-length-3 c = search needs
 returns-3 : tie.Need-returns-3
 returns-3 c =
     let call = c .before .before .before .before .decode in
-    by-case decodeRefusal decodeCount (call .ensures .0) (call .ensures .1) (c .enum-told2 .given .1)
+    writes-case decodeNumber decodeCount (call .ensures) (c .enum-told2 .given .1)
 
 pub jwe-decode-spec : {M : Type 1} → statement M
 jwe-decode-spec =

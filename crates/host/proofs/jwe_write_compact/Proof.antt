@@ -1,6 +1,6 @@
 -- `jwe_write_compact` hands out what `write` promises, case by case.
-use Rattle.jwe_write.specs.Answers.{refusalOf, octetsOf}
-use Rattle.host.proofs.Cases.{by-case}
+use Rattle.jwe_write.specs.Answers.{writeNumber, writeCount}
+use Rattle.prelude.proofs.Outputs.{writes-case}
 use borrow.Author.Needs.{needs}
 use Rattle.host.proofs.jwe_write_compact.Statement.{statement}
 use Rattle.host.proofs.jwe_write_compact.Tie as tie
@@ -20,7 +20,7 @@ same-length c = search needs
 returns : tie.Need-returns
 returns c =
     let call = c .before .before .before .before .before .write in
-    by-case refusalOf octetsOf (call .ensures .0) (call .ensures .1) (c .before .answer .given .1)
+    writes-case writeNumber writeCount (call .ensures) (c .before .answer .given .1)
 
 same-length-2 : tie.Need-same-length-2
 same-length-2 c = search needs
@@ -28,7 +28,7 @@ same-length-2 c = search needs
 returns-2 : tie.Need-returns-2
 returns-2 c =
     let call = c .before .before .before .before .before .write in
-    by-case refusalOf octetsOf (call .ensures .0) (call .ensures .1) (c .before .answer2 .given .1)
+    writes-case writeNumber writeCount (call .ensures) (c .before .answer2 .given .1)
 
 pub jwe-write-compact-spec : {M : Type 1} → statement M
 jwe-write-compact-spec =

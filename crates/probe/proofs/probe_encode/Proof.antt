@@ -3,7 +3,7 @@ use Prim.Native.Nat.{ℕ}
 use mathlib.Core.Path.{_≡_, ap, sym, _∙_}
 use mathlib.Core.List.{List}
 use lib.ListN.{length}
-use Rattle.base64url.specs.Answers.{encodeRefusal, encodeNext, encodeAnswer, encodeBuffer}
+use Rattle.base64url.specs.Answers.{encodeNumber, encodeNext, encodeAnswer, encodeBuffer}
 use Rattle.base64url.specs.declared.Encoded.{Encoded}
 use borrow.Author.Needs.{needs}
 use Rattle.probe.proofs.probe_encode.Statement.{statement}
@@ -12,11 +12,11 @@ use Rattle.probe.proofs.probe_encode.Tie as tie
 -- a case of the answer, by what `encode` promises of it
 handed : (xs : List ℕ) (at : ℕ) (out last : List ℕ) (answer is : Encoded) → answer ≡ encodeAnswer xs at (length out)
     → last ≡ encodeBuffer xs at out → answer ≡ is
-    → (encodeRefusal is ≡ encodeRefusal (encodeAnswer xs at (length out)))
+    → (encodeNumber is ≡ encodeNumber (encodeAnswer xs at (length out)))
     × ((encodeNext is ≡ encodeNext (encodeAnswer xs at (length out))) × (last ≡ encodeBuffer xs at out))
 handed xs at out last answer is promised left told =
     let case = sym told ∙ promised in
-    (ap encodeRefusal case, (ap encodeNext case, left))
+    (ap encodeNumber case, (ap encodeNext case, left))
 
 encode-requires : tie.Need-encode-requires
 encode-requires c κs = search needs

@@ -57,8 +57,7 @@ returns-2 c =
     ∙ ap (λ (q : Place). part message (q .start) (q .len)) (chosen .place-of .ensures)
     ∙ ap (λ (q : headers.Components). octetsAt message (componentPlace q n)) are in
     let call = c .before .before .jwe-decode in
-    decoded-so message known (given .recipient) n z (given .out .now) _ (call .result) _ _ shown (call .ensures .0)
-    (call .ensures .1 .0) (call .ensures .1 .1)
+    decoded-so message known (given .recipient) n z (given .out .now) _ (call .result) _ _ shown (call .ensures)
 
 pub jwe-component-spec : {M : Type 1} → statement M
 jwe-component-spec =

@@ -1,0 +1,80 @@
+-- A refusal has one of the numbers that its function can give, and changes nothing (demand 1).
+use mathlib.Core.Path.{_≡_, refl, subst}
+use mathlib.Core.Bool.{Bool, true, false, _||_}
+use mathlib.Core.Logic.{inl, inr}
+use mathlib.Core.List.{List, [], _∷_}
+use Prim.Native.Nat.{ℕ, _≤_}
+use native.Mathlib.Omega.{arith}
+use lib.ListN.{length}
+use lib.Dec.{T, eqb}
+use borrow.Author.Tests.{eqb-true, ne-eqb}
+use Rattle.prelude.specs.Refusals.{OneOf}
+use Rattle.prelude.specs.Outputs.{octetsWritten, ChangesNothing}
+use Rattle.prelude.proofs.Numbers.{below}
+use Rattle.prelude.proofs.Refusals.{first-listed}
+use Rattle.prelude.proofs.Outputs.{changes-nothing}
+use Rattle.base64url.specs.Base64url.{decoded}
+use Rattle.base64url.specs.Answers.{decodeOrder, decodeRefusal, decodeBuffer}
+use Rattle.headers.specs.Headers.{textOrder, objectOrder}
+use Rattle.jwe.specs.Judge.{refusal}
+use Rattle.aad.specs.Aad.{aadText, aadOrder, aadRefusal, aadBuffer}
+use Rattle.jwe_write.specs.Write.{Raw, compactText, rulesOrder, writeOrder, writeRefusal}
+use Rattle.jwe_write.specs.Answers.{writeBuffer}
+use Rattle.meets.proofs.Refused.{refusal-numbered}
+use Rattle.gateway.specs.Numbers.{readNumbers, decodeNumbers, aadNumbers, writeNumbers}
+
+-- Reading
+
+among : ℕ → List ℕ → Bool
+among n [] = false
+among n (m ∷ ms) = eqb n m || among n ms
+
+one-of : (n : ℕ) (ns : List ℕ) → T (among n ns) → OneOf n ns
+unfolding among
+one-of n [] t = absurd t
+one-of n (m ∷ ms) t = cases (eqb n m) refl (one-of n ms) t
+  where
+    cases : (b : Bool) → eqb n m ≡ b → (T (among n ms) → OneOf n ms) → T (b || among n ms) → OneOf n (m ∷ ms)
+    cases true e rest t = inl (eqb-true n m e)
+    cases false e rest t = inr (rest t)
+
+-- A number from 1 to 19 is one of the table, by a test over all.
+numbered : (n : ℕ) → (n ≡ 0 → ⊥) → n ≤ 19 → OneOf n readNumbers
+unfolding among
+numbered n some low =
+    one-of n readNumbers
+    (subst (λ (b : Bool). T (b || among n readNumbers)) (ne-eqb n 0 some)
+    (below (λ (k : ℕ). eqb k 0 || among k readNumbers) 20 tt n (omega arith)))
+
+pub read-listed : (message known : List ℕ) (recipient headerLent listLent : ℕ) →
+    (refusal message known recipient headerLent listLent ≡ 0 → ⊥) →
+    OneOf (refusal message known recipient headerLent listLent) readNumbers
+read-listed message known recipient headerLent listLent n =
+    numbered (refusal message known recipient headerLent listLent) n
+    (refusal-numbered message known recipient headerLent listLent n .1)
+
+-- Decoding, AAD and writing: the numbers of their orders
+
+pub decoding-changes-nothing : (text out : List ℕ) → (decodeRefusal text (length out) ≡ 0 → ⊥) →
+    ChangesNothing decodeNumbers (decodeRefusal text (length out))
+    (octetsWritten (decodeRefusal text (length out)) (decoded text)) out (decodeBuffer text out)
+unfolding decodeRefusal decodeOrder
+decoding-changes-nothing text out n =
+    changes-nothing (decodeRefusal text (length out)) (decoded text) out decodeNumbers
+    (first-listed (decodeOrder text (length out)) n) n
+
+pub aad-changes-nothing : (header aad out : List ℕ) → (aadRefusal header aad (length out) ≡ 0 → ⊥) →
+    ChangesNothing aadNumbers (aadRefusal header aad (length out))
+    (octetsWritten (aadRefusal header aad (length out)) (aadText header aad)) out (aadBuffer header aad out)
+unfolding aadRefusal aadOrder
+aad-changes-nothing header aad out n =
+    changes-nothing (aadRefusal header aad (length out)) (aadText header aad) out aadNumbers
+    (first-listed (aadOrder header aad (length out)) n) n
+
+pub writing-changes-nothing : (c : Raw) (known out : List ℕ) → (writeRefusal c known (length out) ≡ 0 → ⊥) →
+    ChangesNothing writeNumbers (writeRefusal c known (length out))
+    (octetsWritten (writeRefusal c known (length out)) (compactText c)) out (writeBuffer c known out)
+unfolding writeRefusal writeOrder textOrder objectOrder rulesOrder
+writing-changes-nothing c known out n =
+    changes-nothing (writeRefusal c known (length out)) (compactText c) out writeNumbers
+    (first-listed (writeOrder c known (length out)) n) n
