@@ -2,18 +2,11 @@
 use Prim.Native.Nat.{ℕ}
 use Rattle.json.specs.declared.Found.{Found}
 use Rattle.json.specs.declared.Found.the-variants.{Value, Nothing}
-use Rattle.json.specs.declared.member.Collected.{Collected}
-use Rattle.json.specs.declared.member.Collected.the-variants.{Rows, More}
 
 -- Judging. Document 01's number: 7 where a text is no JSON object within the levels.
 abbrev pub judgeRefusal : Found → ℕ
 judgeRefusal (Value p kind) = 0
 judgeRefusal Nothing = 7
-
--- Collecting. Document 01's number: 8 where there are over 32 members.
-abbrev pub collectRefusal : Collected → ℕ
-collectRefusal (Rows count) = 0
-collectRefusal More = 8
 
 -- The kind of a value, 0 to 6, or 7 where none was found.
 abbrev pub valueKind : Found → ℕ

@@ -5,18 +5,17 @@ use mathlib.Core.List.{List, [], _∷_, _++_, flatMap, append-nil}
 use Prim.Native.Nat.{ℕ, suc, _+_}
 use lib.ListN.{length, length-append}
 use Rattle.grammar.specs.Places.{Member, Placed, item, placedText, kindOf, startOf, partsOf, members}
-use Rattle.grammar.specs.Reader.{membersAt, elementsAt}
+use Rattle.grammar.specs.Reader.{elementsAt}
 use Rattle.grammar.specs.Places.{elements}
 use Rattle.grammar.specs.Readings.{Reading, Shown, Everywhere}
-use Rattle.grammar.proofs.Theorems.{read-complete, read-shows}
 use Rattle.rows.specs.Rows.{Entry, entriesIn}
 use Rattle.rows.specs.Tables.{listed, six}
 use Rattle.headers.specs.Headers.{headerText, outermost, protectedEntries}
+pub use Rattle.headers.proofs.Outermost.{shown-members, outermost-rows}
 use Rattle.jwe.specs.Compact.{compactComponents}
 use Rattle.jwe.specs.Judge.{compactOutcome}
 use Rattle.meets.specs.Meets.{Compact}
 use Rattle.meets.specs.Handed.{Rows, entry, entries, count, ProtectedRows, Applies, compact}
-use Rattle.meets.proofs.Standing.{placed-kind}
 use Rattle.meets.proofs.SpelledDecided.{Spelled, spelled-header}
 
 -- The list of entries
@@ -67,25 +66,12 @@ module _ (names : List (List ℕ)) (header message : List ℕ) (x : Rows) where
       (length-append ss os
       ∙ ap₂ _+_ (entries-count names message 1 (x .shared)) (entries-count names message 2 (x .own)))
 
--- What the reader shows of a placed value.
-
-pub shown-members : (s : List ℕ) (v : Placed) → Everywhere (Shown 12 s) v → kindOf v ≡ 0 →
-    membersAt 12 s (startOf v) ≡ members (partsOf v)
-unfolding Everywhere Shown
-shown-members s (item k q ps) h e = h .0 .1 e
+-- What the reader shows of a placed array.
 
 pub shown-elements : (s : List ℕ) (v : Placed) → Everywhere (Shown 12 s) v → kindOf v ≡ 1 →
     elementsAt 12 s (startOf v) ≡ elements (partsOf v)
 unfolding Everywhere Shown
 shown-elements s (item k q ps) h e = h .0 .2 e
-
--- The outermost members of a text are those of its reading.
-pub outermost-rows : (s : List ℕ) (r : Reading 12 s) → outermost s ≡ members (partsOf (placedText (r .text)))
-unfolding outermost placedText
-outermost-rows s r =
-    let v = placedText (r .text) in
-    ap (membersAt 12 s) (sym (read-complete 12 s r .1))
-    ∙ shown-members s v (read-shows 12 s r) (placed-kind (r .text .value) _ ∙ r .object)
 
 pub protected-rows : (header : List ℕ) → Reading 12 header → ProtectedRows header (outermost header)
 protected-rows header r = record { reading = r; rows = outermost-rows header r }

@@ -10,6 +10,7 @@ use lib.ListN.{length, take, length-append, length-drop}
 use lib.Seq.{take-append-seam}
 use Rattle.parts.specs.Parts.{part}
 use Rattle.parts.proofs.Laws.{part-fits}
+pub use Rattle.headers.proofs.Outermost.{placed-kind}
 use Rattle.grammar.specs.Grammar.{quote, octets, Sign, Str, leavesChars, leavesStr, Literal, literal-true, literal-false}
 use Rattle.grammar.specs.Grammar.{literal-null, Bracket, curly, square, Value, nested, empty, string, number, literal}
 use Rattle.grammar.specs.Grammar.{Entries, leavesValue}
@@ -50,14 +51,6 @@ pub record ElementStands (s : List ℕ) (v : Value) (x : places.Element) : Type 
   pub stands : Stands s v (x .start) (x .size)
 
 -- A placed value's kind, start and size.
-
-pub placed-kind : (v : Value) (n : ℕ) → kindOf (placed n v) ≡ kind v
-unfolding placed kind
-placed-kind (nested b x es y) n = refl
-placed-kind (empty b x y) n = refl
-placed-kind (string x) n = refl
-placed-kind (number x) n = refl
-placed-kind (literal x) n = refl
 
 pub placed-start : (v : Value) (n : ℕ) → place n v .start ≡ startOf (placed n v)
 unfolding placed

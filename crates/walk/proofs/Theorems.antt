@@ -8,43 +8,21 @@ use lib.ListN.{length}
 use lib.Dec.{eqb, ltb}
 use borrow.Author.Tests.{eqb-true, eqb-false}
 use denote.Ref.{RefT, now}
-use Rattle.grammar.specs.Grammar.{Value, nested, empty, string, number, literal}
-use Rattle.grammar.specs.Places.{Placed, item, Member, placed, placedText, kind, kindOf, startOf, partsOf, members}
-use Rattle.grammar.specs.Reader.{Answer, nothing, found, readText, membersAt}
-use Rattle.grammar.specs.Readings.{Reading, Shown, Everywhere}
-use Rattle.grammar.proofs.Theorems.{read-sound, read-complete, read-shows}
+use Rattle.grammar.specs.Places.{Member}
+use Rattle.grammar.specs.Reader.{Answer, nothing, found, readText}
+use Rattle.grammar.specs.Readings.{Reading}
+use Rattle.grammar.proofs.Theorems.{read-sound}
 use Rattle.json.specs.Members.{rowOf}
 use Rattle.rows.specs.Rows.{Entry}
 use Rattle.jose.specs.Registered.{registered}
 use Rattle.prelude.specs.Refusals.{first}
 use Rattle.prelude.specs.Limits.{longest}
 use Rattle.headers.specs.Headers.{isNothing, unread, outermost, protectedEntries, objectOrder}
+use Rattle.headers.proofs.Outermost.{outermost-rows}
 use Rattle.walk.specs.declared.Handed.the-variants as handed
 use Rattle.walk.specs.Walk.{walkOrder, firstOffset, opened, handedBy, after, rowsOf, rowOr}
 use Rattle.walk.proofs.Opens.{offset-refused, offset-empty, offset-first}
 use Rattle.walk.proofs.Calls.{call, call-is, call-over, calls-first, count-is, collected-rows, no-rows, row-there, row-past}
-
--- The reader's rows are those.
-
-placed-kind : (v : Value) (n : ℕ) → kindOf (placed n v) ≡ kind v
-unfolding placed kind
-placed-kind (nested b x es y) n = refl
-placed-kind (empty b x y) n = refl
-placed-kind (string x) n = refl
-placed-kind (number x) n = refl
-placed-kind (literal x) n = refl
-
-shown-members : (s : List ℕ) (v : Placed) → Everywhere (Shown 12 s) v → kindOf v ≡ 0 →
-    membersAt 12 s (startOf v) ≡ members (partsOf v)
-unfolding Everywhere Shown
-shown-members s (item k q ps) h e = h .0 .1 e
-
-outermost-rows : (s : List ℕ) (r : Reading 12 s) → outermost s ≡ rowsOf s r
-unfolding outermost placedText
-outermost-rows s r =
-    let v = placedText (r .text) in
-    ap (membersAt 12 s) (sym (read-complete 12 s r .1))
-    ∙ shown-members s v (read-shows 12 s r) (placed-kind (r .text .value) _ ∙ r .object)
 
 -- A text that is not refused has a reading.
 pub accepted-reads : (s : List ℕ) → first (walkOrder s) ≡ 0 → Reading 12 s
