@@ -11,8 +11,7 @@ use Rattle.grammar.specs.Places as places
 use Rattle.grammar.specs.Reader.{skipSpace, Entry, entryAt, valueAt}
 use Rattle.json.specs.Members.{firstIn, nextFrom, rowOf}
 use Rattle.prelude.specs.Refusals.{Test, _if_, first}
-use Rattle.jose.specs.HeaderRules.{levels}
-use Rattle.prelude.specs.Limits.{longest}
+use Rattle.prelude.specs.Limits.{levels, longest}
 use Rattle.headers.specs.Headers.{unread, protectedEntries, objectOrder}
 use Rattle.walk.specs.declared.Opening.{Opening}
 use Rattle.walk.specs.declared.Handed.{Handed}
