@@ -103,6 +103,46 @@ keyAdded EcdhEsA192Kw = Octets 8
 keyAdded EcdhEsA256Kw = Octets 8
 keyAdded Dir = NoKey
 
+-- Octets of the parameter `iv` of the key's wrapping by GCM (RFC 7518, section 4.7.1.1); 0 where there is no such parameter.
+abbrev pub keyIv : Alg → ℕ
+keyIv Rsa15 = 0
+keyIv RsaOaep = 0
+keyIv RsaOaep256 = 0
+keyIv A128Kw = 0
+keyIv A192Kw = 0
+keyIv A256Kw = 0
+keyIv A128GcmKw = 12
+keyIv A192GcmKw = 12
+keyIv A256GcmKw = 12
+keyIv Pbes2A128Kw = 0
+keyIv Pbes2A192Kw = 0
+keyIv Pbes2A256Kw = 0
+keyIv EcdhEs = 0
+keyIv EcdhEsA128Kw = 0
+keyIv EcdhEsA192Kw = 0
+keyIv EcdhEsA256Kw = 0
+keyIv Dir = 0
+
+-- Octets of its parameter `tag` (section 4.7.1.2), likewise.
+abbrev pub keyTag : Alg → ℕ
+keyTag Rsa15 = 0
+keyTag RsaOaep = 0
+keyTag RsaOaep256 = 0
+keyTag A128Kw = 0
+keyTag A192Kw = 0
+keyTag A256Kw = 0
+keyTag A128GcmKw = 16
+keyTag A192GcmKw = 16
+keyTag A256GcmKw = 16
+keyTag Pbes2A128Kw = 0
+keyTag Pbes2A192Kw = 0
+keyTag Pbes2A256Kw = 0
+keyTag EcdhEs = 0
+keyTag EcdhEsA128Kw = 0
+keyTag EcdhEsA192Kw = 0
+keyTag EcdhEsA256Kw = 0
+keyTag Dir = 0
+
 -- Content encryption: `enc`
 
 unfoldable pub encs : List Enc

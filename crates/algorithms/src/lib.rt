@@ -1,7 +1,7 @@
 // The algorithms, each with its mode and its sizes (RFC 7518).
 ghost use mathlib.Core.Path.{_≡_};
 ghost use Rattle.names.specs.Names.{numberIn};
-ghost use Rattle.algorithms.specs.Algorithms.{mode, keyAdded, keySize, ivSize, tagSize, algs, algNames, encs, encNames};
+ghost use Rattle.algorithms.specs.Algorithms.{mode, keyAdded, keyIv, keyTag, keySize, ivSize, tagSize, algs, algNames, encs, encNames};
 ghost use Rattle.algorithms.specs.Algorithms.{nth, namedAlg, namedEnc};
 
 // The values of `alg`, `enc` and the compression parameter as lists of names, contents first, as `names` reads them. Where
@@ -122,11 +122,6 @@ impl Alg {
         Alg::Dir,
     ];
 
-    // The octets of the parameters `iv` and `tag` that wrapping by GCM has.
-    pub const KEY_IV: u32 = 12;
-
-    pub const KEY_TAG: u32 = 16;
-
     // The n-th of document 01's table, counted from 1.
     pub fn numbered(n: u32) -> NamedAlg
         ensures { λ r. ⌜ r ≡ namedAlg (nth algs n) ⌝ }
@@ -176,6 +171,34 @@ impl Alg {
             Alg::Pbes2A128Kw | Alg::Pbes2A192Kw | Alg::Pbes2A256Kw => Added::Octets(8),
             Alg::EcdhEsA128Kw | Alg::EcdhEsA192Kw | Alg::EcdhEsA256Kw => Added::Octets(8),
             Alg::EcdhEs | Alg::Dir => Added::NoKey,
+        }
+    }
+
+    // Octets of the parameter `iv`, which only wrapping by GCM has; 0 where there is none.
+    pub fn key_iv(self) -> u32
+        ensures { λ r. ⌜ r ≡ keyIv self ⌝ }
+    {
+        match self {
+            Alg::A128GcmKw | Alg::A192GcmKw | Alg::A256GcmKw => 12,
+            Alg::Rsa15 | Alg::RsaOaep | Alg::RsaOaep256 => 0,
+            Alg::A128Kw | Alg::A192Kw | Alg::A256Kw => 0,
+            Alg::Pbes2A128Kw | Alg::Pbes2A192Kw | Alg::Pbes2A256Kw => 0,
+            Alg::EcdhEsA128Kw | Alg::EcdhEsA192Kw | Alg::EcdhEsA256Kw => 0,
+            Alg::EcdhEs | Alg::Dir => 0,
+        }
+    }
+
+    // Octets of the parameter `tag`, which only wrapping by GCM has; 0 where there is none.
+    pub fn key_tag(self) -> u32
+        ensures { λ r. ⌜ r ≡ keyTag self ⌝ }
+    {
+        match self {
+            Alg::A128GcmKw | Alg::A192GcmKw | Alg::A256GcmKw => 16,
+            Alg::Rsa15 | Alg::RsaOaep | Alg::RsaOaep256 => 0,
+            Alg::A128Kw | Alg::A192Kw | Alg::A256Kw => 0,
+            Alg::Pbes2A128Kw | Alg::Pbes2A192Kw | Alg::Pbes2A256Kw => 0,
+            Alg::EcdhEsA128Kw | Alg::EcdhEsA192Kw | Alg::EcdhEsA256Kw => 0,
+            Alg::EcdhEs | Alg::Dir => 0,
         }
     }
 }

@@ -2,10 +2,11 @@
 // samples of the papers stand in proofs/.
 ghost use mathlib.Core.Path.{_≡_};
 ghost use lib.ListN.{length};
+ghost use denote.Ref.{ptr};
 ghost use Rattle.jwe.specs.Judge.{result, headerAfter, listAfter};
 ghost use Rattle.jwe.specs.Answers.{numbers};
 ghost use Rattle.base64url.specs.Answers.{Decodes};
-ghost use Rattle.shown.specs.Shown.{componentShown, valueShown};
+ghost use Rattle.shown.specs.Shown.{componentShown, componentAt, valueShown, valueAt};
 ghost use Rattle.aad.specs.Aad.{Joins};
 ghost use Rattle.jwe_write.specs.Write.{raw};
 ghost use Rattle.jwe_write.specs.Answers.{WritesCompact};
@@ -43,7 +44,8 @@ pub fn read(
 
 // A component of the result as that part of the message; the empty part where the place does not fit.
 pub fn component(message: &[u8], place: Place) -> &[u8]
-    ensures { λ r. ⌜ now r ≡ componentShown (now (message .entry)) (place .start) (place .len) ⌝ }
+    ensures octets { λ r. ⌜ now r ≡ componentShown (now (message .entry)) (place .start) (place .len) ⌝ }
+    ensures place { λ r. ⌜ ptr r ≡ componentAt (message .entry) (place .start) (place .len) ⌝ }
 {
     shown::component(message, place.start, place.len)
 }
@@ -57,7 +59,8 @@ pub fn value<'a>(
     start: usize,
     len: usize,
 ) -> &'a [u8]
-    ensures { λ r. ⌜ now r ≡ valueShown (now (message .entry)) (now (header .entry)) origin start len ⌝ }
+    ensures octets { λ r. ⌜ now r ≡ valueShown (now (message .entry)) (now (header .entry)) origin start len ⌝ }
+    ensures place { λ r. ⌜ ptr r ≡ valueAt (message .entry) (header .entry) origin start len ⌝ }
 {
     shown::value(message, header, origin, start, len)
 }

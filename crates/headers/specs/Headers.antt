@@ -10,8 +10,7 @@ use Rattle.grammar.specs.Reader.{Answer, nothing, found, skipSpace, membersAt, 
 use Rattle.rows.specs.Rows.{Entry, entriesIn, repeated}
 use Rattle.jose.specs.Registered.{registered}
 use Rattle.prelude.specs.Refusals.{Test, _if_}
-use Rattle.jose.specs.HeaderRules.{levels}
-use Rattle.prelude.specs.Limits.{headerRoom, mostMembers}
+use Rattle.prelude.specs.Limits.{levels, headerRoom, mostMembers}
 use Rattle.headers.specs.Components.{octetsAt}
 
 -- The decoded protected header, whose encoded text is at a place of the message.

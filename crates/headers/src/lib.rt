@@ -8,7 +8,8 @@ ghost use Rattle.grammar.specs.Grammar.{curly};
 ghost use Rattle.grammar.specs.Reader.{membersAt};
 ghost use Rattle.json.specs.Known.{Given, KnownIn};
 ghost use Rattle.rows.specs.Rows.{entriesIn};
-ghost use Rattle.rows.specs.Tables.{collectedTable};
+ghost use Rattle.rows.specs.Tables.{collectedTable, headerTable, width};
+ghost use Rattle.prelude.specs.Limits.{headerRoom, levels, longest};
 ghost use Rattle.prelude.specs.Refusals.{first};
 ghost use Rattle.headers.specs.Components.{misspelled};
 ghost use Rattle.headers.specs.Headers.{headerText, textOrder, protectedEntries, objectOrder};
@@ -48,12 +49,12 @@ pub fn object(
     from: usize,
     judged: bool,
 ) -> Stage
-    requires { ⌜ length (now s) ≤ 16777216 ⌝ }
+    requires { ⌜ length (now s) ≤ longest ⌝ }
     requires { ⌜ filled (now list) ≡ true ⌝ }
-    requires { ⌜ from * 8 + 256 ≤ length (now table) ⌝ }
-    requires { ⌜ Given judged (KnownIn curly 12 (now s) at) ⌝ }
-    ensures { λ r. ⌜ r ≡ stageOf (first (objectOrder (now (s .entry)) (entriesIn (names (now (list .entry))) (now (s .entry)) origin (membersAt 12 (now (s .entry)) at)))) (length (membersAt 12 (now (s .entry)) at)) ⌝ }
-    ensures { λ _. ⌜ now (table .exit) ≡ collectedTable from (entriesIn (names (now (list .entry))) (now (s .entry)) origin (membersAt 12 (now (s .entry)) at)) (now (table .entry)) ⌝ }
+    requires { ⌜ from * width + headerTable ≤ length (now table) ⌝ }
+    requires { ⌜ Given judged (KnownIn curly levels (now s) at) ⌝ }
+    ensures { λ r. ⌜ r ≡ stageOf (first (objectOrder (now (s .entry)) (entriesIn (names (now (list .entry))) (now (s .entry)) origin (membersAt levels (now (s .entry)) at)))) (length (membersAt levels (now (s .entry)) at)) ⌝ }
+    ensures { λ _. ⌜ now (table .exit) ≡ collectedTable from (entriesIn (names (now (list .entry))) (now (s .entry)) origin (membersAt levels (now (s .entry)) at)) (now (table .entry)) ⌝ }
 {
     let collected = rows::collect::collect(s, at, origin, list, table, from, judged);
     let Collected::Rows(count) = collected else {
@@ -68,8 +69,8 @@ pub fn object(
 
 // 8 and 9 on the decoded protected header: its parameters as entries at the start of the table, and how many they are.
 pub fn protected_entries(header: &[u8], table: &mut [u32]) -> Stage
-    requires { ⌜ length (now header) ≤ 16777216 ⌝ }
-    requires { ⌜ 256 ≤ length (now table) ⌝ }
+    requires { ⌜ length (now header) ≤ longest ⌝ }
+    requires { ⌜ headerTable ≤ length (now table) ⌝ }
     ensures { λ r. ⌜ r ≡ stageOf (first (objectOrder (now (header .entry)) (protectedEntries (now (header .entry))))) (length (protectedEntries (now (header .entry)))) ⌝ }
     ensures { λ _. ⌜ now (table .exit) ≡ collectedTable 0 (protectedEntries (now (header .entry))) (now (table .entry)) ⌝ }
 {
@@ -82,7 +83,7 @@ pub fn protected_entries(header: &[u8], table: &mut [u32]) -> Stage
 // buffer, and how long it is.
 pub fn header(message: &[u8], place: Place, buffer: &mut [u8]) -> Stage
     requires { ⌜ misspelled (now message) (placeOf place) ≡ false ⌝ }
-    requires { ⌜ length (now buffer) ≡ 4096 ⌝ }
+    requires { ⌜ length (now buffer) ≡ headerRoom ⌝ }
     ensures { λ r. ⌜ r ≡ stageOf (first (textOrder (headerText (now (message .entry)) (placeOf place)))) (length (headerText (now (message .entry)) (placeOf place))) ⌝ }
     ensures { λ _. ⌜ now (buffer .exit) ≡ headerBuffer (headerText (now (message .entry)) (placeOf place)) (now (buffer .entry)) ⌝ }
 {

@@ -14,7 +14,8 @@ use Rattle.grammar.specs.Spellings.{alike}
 use Rattle.rows.specs.Rows.{Entry, textOf}
 use Rattle.rows.specs.Tables.{firstOf}
 use Rattle.jose.specs.Registered.{crit}
-use Rattle.jose.specs.HeaderRules.{levels, nameSays, wrongCrit, critical}
+use Rattle.jose.specs.HeaderRules.{nameSays, wrongCrit, critical}
+use Rattle.prelude.specs.Limits.{levels}
 
 -- The text that an origin counts in.
 

@@ -12,7 +12,7 @@ use Rattle.json.specs.declared.Position.{Position}
 use Rattle.json.specs.declared.member.Row.{Row}
 use Rattle.json.specs.declared.member.Member.the-variants.{Here, End}
 use Rattle.prelude.specs.Any.{any, anyPair}
-use Rattle.jose.specs.HeaderRules.{levels}
+use Rattle.prelude.specs.Limits.{levels}
 use Rattle.jose.specs.Elements.{elementOf, elementsFrom}
 use Rattle.jose.proofs.Elements.{elements-spent, elements-none, elements-more}
 

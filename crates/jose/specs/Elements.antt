@@ -5,7 +5,7 @@ use Rattle.grammar.specs.Grammar.{square}
 use Rattle.grammar.specs.Places.{Element}
 use Rattle.grammar.specs.Reader.{elementsOf, rowsAt, valueAt}
 use Rattle.json.specs.declared.member.Row.{Row}
-use Rattle.jose.specs.HeaderRules.{levels}
+use Rattle.prelude.specs.Limits.{levels}
 
 -- The element that the code reads as a row.
 abbrev pub elementOf : Row → Element

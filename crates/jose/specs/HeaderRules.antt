@@ -14,10 +14,7 @@ use Rattle.rows.specs.Rows.{Entry, textOf, nameIn, valueIn, numbered, present, 
 use Rattle.algorithms.specs.Algorithms.{algs, algNames, encNames, zipNames, nth, modeOf}
 use Rattle.jose.specs.Registered.{registered, alg, enc, zip, crit, string, anyKind, kindAsked}
 use Rattle.prelude.specs.Refusals.{Test, _if_}
-
--- How deep JSON may be nested (document 01, 'Sizes').
-abbrev pub levels : ℕ
-levels = 12
+pub use Rattle.prelude.specs.Limits.{levels}
 
 -- 13: `alg` or `enc` is absent.
 unfoldable pub incomplete : List Entry → Bool

@@ -6,9 +6,10 @@ ghost use Prim.Native.Nat.{_+_, _-_, _*_, _≤_};
 ghost use lib.ListN.{length, drop};
 ghost use Rattle.grammar.specs.Reader.{elementsAt};
 ghost use Rattle.names.specs.Names.{names, filled};
+ghost use Rattle.prelude.specs.Limits.{levels};
 ghost use Rattle.prelude.specs.Any.{any, anyPair};
-ghost use Rattle.rows.specs.Tables.{firstOf, entriesOf};
-ghost use Rattle.jose.specs.HeaderRules.{levels, spelledElement, unknown, sameElement, nameSays, misplaced};
+ghost use Rattle.rows.specs.Tables.{firstOf, entriesOf, width};
+ghost use Rattle.jose.specs.HeaderRules.{spelledElement, unknown, sameElement, nameSays, misplaced};
 ghost use Rattle.jose.specs.HeaderRules.{isEmpty, wrongCrit, critical};
 ghost use Rattle.jose.specs.Elements.{elementOf, elementsFrom};
 use json::Position;
@@ -128,8 +129,8 @@ fn twice(s: &[u8], at: usize) -> bool
 // Whether an entry's name says what a spelling does. The two texts may be lent for different times, so the part is not
 // taken by `rows::ask::name`.
 fn says(header: &[u8], message: &[u8], table: &[u32], i: usize, w: &[u8]) -> bool
-    requires { ⌜ i * 8 + 8 ≤ length (now table) ⌝ }
-    ensures { λ r. ⌜ r ≡ nameSays (now (header .entry)) (now (message .entry)) (now (w .entry)) (firstOf (drop (i * 8) (now (table .entry)))) ⌝ }
+    requires { ⌜ i * width + width ≤ length (now table) ⌝ }
+    ensures { λ r. ⌜ r ≡ nameSays (now (header .entry)) (now (message .entry)) (now (w .entry)) (firstOf (drop (i * width) (now (table .entry)))) ⌝ }
 {
     let at = i * 8;
     let start = table[at + 1] as usize;
@@ -142,7 +143,7 @@ fn says(header: &[u8], message: &[u8], table: &[u32], i: usize, w: &[u8]) -> boo
 
 // Whether some entry's name does.
 fn named(header: &[u8], message: &[u8], table: &[u32], count: usize, w: &[u8]) -> bool
-    requires { ⌜ count * 8 ≤ length (now table) ⌝ }
+    requires { ⌜ count * width ≤ length (now table) ⌝ }
     ensures { λ r. ⌜ r ≡ any (nameSays (now (header .entry)) (now (message .entry)) (now (w .entry))) (entriesOf count (now (table .entry))) ⌝ }
 {
     let mut i: usize = 0;
@@ -157,7 +158,7 @@ fn named(header: &[u8], message: &[u8], table: &[u32], count: usize, w: &[u8]) -
 
 // Whether an element is a registered name, or no name of the recipient's headers.
 fn misplaced(header: &[u8], message: &[u8], table: &[u32], count: usize, s: &[u8], row: Row) -> bool
-    requires { ⌜ count * 8 ≤ length (now table) ⌝ }
+    requires { ⌜ count * width ≤ length (now table) ⌝ }
     ensures { λ r. ⌜ r ≡ misplaced (now (header .entry)) (now (message .entry)) (entriesOf count (now (table .entry))) (now (s .entry)) (elementOf row) ⌝ }
 {
     let w = spelled(s, row);
@@ -177,7 +178,7 @@ fn some_misplaced(
     s: &[u8],
     at: usize,
 ) -> bool
-    requires { ⌜ count * 8 ≤ length (now table) ⌝ }
+    requires { ⌜ count * width ≤ length (now table) ⌝ }
     ensures { λ r. ⌜ r ≡ any (misplaced (now (header .entry)) (now (message .entry)) (entriesOf count (now (table .entry))) (now (s .entry))) (elementsAt levels (now (s .entry)) at) ⌝ }
 {
     let mut p = Position { at }.inside(s);
@@ -206,7 +207,7 @@ fn wrong(
     s: &[u8],
     at: usize,
 ) -> bool
-    requires { ⌜ count * 8 ≤ length (now table) ⌝ }
+    requires { ⌜ count * width ≤ length (now table) ⌝ }
     requires { ⌜ filled (now known) ≡ true ⌝ }
     ensures { λ r. ⌜ r ≡ wrongCrit (names (now (known .entry))) (now (header .entry)) (now (message .entry)) (entriesOf count (now (table .entry))) (now (s .entry)) (elementsAt levels (now (s .entry)) at) ⌝ }
 {
@@ -231,10 +232,10 @@ fn critical(
     count: usize,
     i: usize,
 ) -> bool
-    requires { ⌜ count * 8 ≤ length (now table) ⌝ }
+    requires { ⌜ count * width ≤ length (now table) ⌝ }
     requires { ⌜ filled (now known) ≡ true ⌝ }
-    requires { ⌜ i * 8 + 8 ≤ length (now table) ⌝ }
-    ensures { λ r. ⌜ r ≡ critical (names (now (known .entry))) (now (header .entry)) (now (message .entry)) (entriesOf count (now (table .entry))) (firstOf (drop (i * 8) (now (table .entry)))) ⌝ }
+    requires { ⌜ i * width + width ≤ length (now table) ⌝ }
+    ensures { λ r. ⌜ r ≡ critical (names (now (known .entry))) (now (header .entry)) (now (message .entry)) (entriesOf count (now (table .entry))) (firstOf (drop (i * width) (now (table .entry)))) ⌝ }
 {
     let from = i * 8;
     if table[from + 6] != 13 {
@@ -249,7 +250,7 @@ fn critical(
 
 // 17: whether one of the first entries is.
 pub fn wrong_crit(header: &[u8], message: &[u8], known: &[u8], table: &[u32], count: usize) -> bool
-    requires { ⌜ count * 8 ≤ length (now table) ⌝ }
+    requires { ⌜ count * width ≤ length (now table) ⌝ }
     requires { ⌜ filled (now known) ≡ true ⌝ }
     ensures { λ r. ⌜ r ≡ any (critical (names (now (known .entry))) (now (header .entry)) (now (message .entry)) (entriesOf count (now (table .entry)))) (entriesOf count (now (table .entry))) ⌝ }
 {

@@ -5,7 +5,7 @@ ghost use Prim.Native.Nat.{_*_, _≤_};
 ghost use lib.ListN.{length};
 ghost use Rattle.names.specs.Names.{names, filled};
 ghost use Rattle.rows.specs.Prints.{Printed};
-ghost use Rattle.rows.specs.Tables.{entriesOf};
+ghost use Rattle.rows.specs.Tables.{entriesOf, width};
 ghost use Rattle.prelude.specs.Refusals.{first};
 ghost use Rattle.jose.specs.HeaderRules.{wrongKey, recipientOrder, modeIn};
 ghost use Rattle.jose.specs.Judged.{judgedOf};
@@ -39,7 +39,7 @@ pub fn judge(
     no_key: bool,
 ) -> Judged
     requires { ⌜ filled (now known) ≡ true ⌝ }
-    requires { ⌜ count * 8 ≤ length (now table) ⌝ }
+    requires { ⌜ count * width ≤ length (now table) ⌝ }
     requires { ⌜ Printed (now header) (now message) (entriesOf count (now table)) ⌝ }
     ensures { λ r. ⌜ r ≡ judgedOf (first (recipientOrder (names (now (known .entry))) (now (header .entry)) (now (message .entry)) (entriesOf count (now (table .entry))) «no_key»)) (modeIn (now (header .entry)) (now (message .entry)) (entriesOf count (now (table .entry)))) ⌝ }
 {

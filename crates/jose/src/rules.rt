@@ -6,7 +6,7 @@ ghost use lib.ListN.{length, drop};
 ghost use Rattle.names.specs.Names.{names, filled, numberIn};
 ghost use Rattle.prelude.specs.Any.{any};
 ghost use Rattle.rows.specs.Rows.{valueIn};
-ghost use Rattle.rows.specs.Tables.{firstOf, entriesOf};
+ghost use Rattle.rows.specs.Tables.{firstOf, entriesOf, width};
 ghost use Rattle.algorithms.specs.Algorithms.{algs, algNames, nth, modeOf};
 ghost use Rattle.jose.specs.Registered.{kindAsked};
 ghost use Rattle.jose.specs.HeaderRules.{incomplete, wrongKind, unlisted, unprotected, modeIn};
@@ -30,7 +30,7 @@ const ANY_KIND: u32 = 7;
 
 // 13: whether `alg` or `enc` is absent.
 pub fn incomplete(table: &[u32], count: usize) -> bool
-    requires { ⌜ count * 8 ≤ length (now table) ⌝ }
+    requires { ⌜ count * width ≤ length (now table) ⌝ }
     ensures { λ r. ⌜ r ≡ incomplete (entriesOf count (now (table .entry))) ⌝ }
 {
     if !rows::ask::present(table, count, ALG) {
@@ -62,8 +62,8 @@ fn kind_asked(n: u32) -> u32
 }
 
 fn wrong_kind_at(table: &[u32], i: usize) -> bool
-    requires { ⌜ i * 8 + 8 ≤ length (now table) ⌝ }
-    ensures { λ r. ⌜ r ≡ wrongKind (firstOf (drop (i * 8) (now (table .entry)))) ⌝ }
+    requires { ⌜ i * width + width ≤ length (now table) ⌝ }
+    ensures { λ r. ⌜ r ≡ wrongKind (firstOf (drop (i * width) (now (table .entry)))) ⌝ }
 {
     let at = i * 8;
     let asked = kind_asked(table[at + 6]);
@@ -75,7 +75,7 @@ fn wrong_kind_at(table: &[u32], i: usize) -> bool
 
 // 14: whether a parameter is of another kind than its name asks for.
 pub fn wrong_kind(table: &[u32], count: usize) -> bool
-    requires { ⌜ count * 8 ≤ length (now table) ⌝ }
+    requires { ⌜ count * width ≤ length (now table) ⌝ }
     ensures { λ r. ⌜ r ≡ any wrongKind (entriesOf count (now (table .entry))) ⌝ }
 {
     let mut i: usize = 0;
@@ -92,8 +92,8 @@ pub fn wrong_kind(table: &[u32], count: usize) -> bool
 // lent for different lifetimes.
 fn number_in(list: &[u8], header: &[u8], message: &[u8], table: &[u32], i: usize) -> u32
     requires { ⌜ filled (now list) ≡ true ⌝ }
-    requires { ⌜ i * 8 + 8 ≤ length (now table) ⌝ }
-    ensures { λ r. ⌜ r ≡ numberIn (names (now (list .entry))) (valueIn (now (header .entry)) (now (message .entry)) (firstOf (drop (i * 8) (now (table .entry))))) ⌝ }
+    requires { ⌜ i * width + width ≤ length (now table) ⌝ }
+    ensures { λ r. ⌜ r ≡ numberIn (names (now (list .entry))) (valueIn (now (header .entry)) (now (message .entry)) (firstOf (drop (i * width) (now (table .entry))))) ⌝ }
 {
     if table[i * 8] == 0 {
         return names::find(list, rows::ask::value(header, header, table, i));
@@ -102,8 +102,8 @@ fn number_in(list: &[u8], header: &[u8], message: &[u8], table: &[u32], i: usize
 }
 
 fn unlisted_at(header: &[u8], message: &[u8], table: &[u32], i: usize) -> bool
-    requires { ⌜ i * 8 + 8 ≤ length (now table) ⌝ }
-    ensures { λ r. ⌜ r ≡ unlisted (now (header .entry)) (now (message .entry)) (firstOf (drop (i * 8) (now (table .entry)))) ⌝ }
+    requires { ⌜ i * width + width ≤ length (now table) ⌝ }
+    ensures { λ r. ⌜ r ≡ unlisted (now (header .entry)) (now (message .entry)) (firstOf (drop (i * width) (now (table .entry)))) ⌝ }
 {
     let number = table[i * 8 + 6];
     if number == ALG {
@@ -123,7 +123,7 @@ fn unlisted_at(header: &[u8], message: &[u8], table: &[u32], i: usize) -> bool
 
 // 15: whether the value of `alg`, `enc` or the compression parameter is not listed.
 pub fn unlisted(header: &[u8], message: &[u8], table: &[u32], count: usize) -> bool
-    requires { ⌜ count * 8 ≤ length (now table) ⌝ }
+    requires { ⌜ count * width ≤ length (now table) ⌝ }
     ensures { λ r. ⌜ r ≡ any (unlisted (now (header .entry)) (now (message .entry))) (entriesOf count (now (table .entry))) ⌝ }
 {
     let mut i: usize = 0;
@@ -137,8 +137,8 @@ pub fn unlisted(header: &[u8], message: &[u8], table: &[u32], count: usize) -> b
 }
 
 fn unprotected_at(table: &[u32], i: usize) -> bool
-    requires { ⌜ i * 8 + 8 ≤ length (now table) ⌝ }
-    ensures { λ r. ⌜ r ≡ unprotected (firstOf (drop (i * 8) (now (table .entry)))) ⌝ }
+    requires { ⌜ i * width + width ≤ length (now table) ⌝ }
+    ensures { λ r. ⌜ r ≡ unprotected (firstOf (drop (i * width) (now (table .entry)))) ⌝ }
 {
     let origin = table[i * 8];
     let number = table[i * 8 + 6];
@@ -153,7 +153,7 @@ fn unprotected_at(table: &[u32], i: usize) -> bool
 
 // 16: whether compression or `crit` stands outside protection.
 pub fn unprotected(table: &[u32], count: usize) -> bool
-    requires { ⌜ count * 8 ≤ length (now table) ⌝ }
+    requires { ⌜ count * width ≤ length (now table) ⌝ }
     ensures { λ r. ⌜ r ≡ any unprotected (entriesOf count (now (table .entry))) ⌝ }
 {
     let mut i: usize = 0;
@@ -167,8 +167,8 @@ pub fn unprotected(table: &[u32], count: usize) -> bool
 }
 
 fn mode_at(header: &[u8], message: &[u8], table: &[u32], i: usize) -> u32
-    requires { ⌜ i * 8 + 8 ≤ length (now table) ⌝ }
-    ensures { λ r. ⌜ r ≡ modeOf (nth algs (numberIn algNames (valueIn (now (header .entry)) (now (message .entry)) (firstOf (drop (i * 8) (now (table .entry))))))) ⌝ }
+    requires { ⌜ i * width + width ≤ length (now table) ⌝ }
+    ensures { λ r. ⌜ r ≡ modeOf (nth algs (numberIn algNames (valueIn (now (header .entry)) (now (message .entry)) (firstOf (drop (i * width) (now (table .entry))))))) ⌝ }
 {
     let list = algorithms::ALGS;
     let NamedAlg::Alg(alg) = Alg::numbered(number_in(&list, header, message, table, i)) else {
@@ -179,7 +179,7 @@ fn mode_at(header: &[u8], message: &[u8], table: &[u32], i: usize) -> u32
 
 // The mode of the algorithm that the first `alg` names; 0 where none is named or listed.
 pub fn mode(header: &[u8], message: &[u8], table: &[u32], count: usize) -> u32
-    requires { ⌜ count * 8 ≤ length (now table) ⌝ }
+    requires { ⌜ count * width ≤ length (now table) ⌝ }
     ensures { λ r. ⌜ r ≡ modeIn (now (header .entry)) (now (message .entry)) (entriesOf count (now (table .entry))) ⌝ }
 {
     let mut i: usize = 0;

@@ -1,10 +1,11 @@
 -- The code's answers for members and elements.
-use Prim.Native.Nat.{ℕ}
+use Prim.Native.Nat.{ℕ, _*_}
 use mathlib.Core.Bool.{Bool, cond}
 use mathlib.Core.List.{List, [], _∷_, _++_}
 use mathlib.Core.Option.{Option, none, some}
 use lib.ListN.{length}
 use lib.Dec.{eqb, leb}
+use Rattle.prelude.specs.Limits.{mostMembers}
 use Rattle.grammar.specs.Grammar.{comma}
 use Rattle.grammar.specs.Places as places
 use Rattle.grammar.specs.Reader.{octetAt, step, skipSpace, Entry}
@@ -39,6 +40,13 @@ memberOf s (some x) = Here (rowOf (x .row)) (record { at = nextFrom s (x .after)
 
 -- A table of members, laid flat
 
+-- How many numbers a row has, and the room of a table for the members of an object.
+abbrev pub memberWidth : ℕ
+memberWidth = 5
+
+abbrev pub memberRoom : ℕ
+memberRoom = mostMembers * memberWidth
+
 -- The five numbers of a row: the name's start and length, the value's start and length, the kind.
 abbrev pub numbers : places.Member → List ℕ
 numbers m = m .nameStart ∷ m .nameSize ∷ m .valueStart ∷ m .valueSize ∷ m .kind ∷ []
@@ -52,4 +60,4 @@ flat (m ∷ rest) = numbers m ++ flat rest
 
 -- How many there are, or that there are more than the 32 of which a table has room.
 unfoldable pub collectedOf : List places.Member → Collected
-collectedOf rows = cond (leb (length rows) 32) (Rows (length rows)) More
+collectedOf rows = cond (leb (length rows) mostMembers) (Rows (length rows)) More

@@ -4,9 +4,10 @@ ghost use mathlib.Core.Path.{_≡_};
 ghost use Prim.Native.Nat.{_+_, _-_, _≤_};
 ghost use lib.ListN.{length, take};
 ghost use Rattle.prelude.specs.Buffer.{written};
+ghost use Rattle.prelude.specs.Limits.{mostMembers};
 ghost use Rattle.grammar.specs.Grammar.{curly, square};
 ghost use Rattle.grammar.specs.Reader.{entryAt, valueAt, membersAt};
-ghost use Rattle.json.specs.Members.{firstIn, memberOf, nextFrom, fiveOf, flat, collectedOf};
+ghost use Rattle.json.specs.Members.{firstIn, memberOf, nextFrom, fiveOf, flat, collectedOf, memberRoom, memberWidth};
 ghost use Rattle.json.specs.Known.{Given, Known, KnownEntry, KnownIn};
 use crate::Ends;
 use crate::Found;
@@ -46,7 +47,7 @@ fn minus(a: usize, b: usize) -> usize
 
 // The five numbers of a row, written from a position on.
 fn put_row(row: Row, table: &mut [usize], at: usize)
-    requires { ⌜ at + 5 ≤ length (now table) ⌝ }
+    requires { ⌜ at + memberWidth ≤ length (now table) ⌝ }
     ensures { λ _. ⌜ now (table .exit) ≡ written at (fiveOf row) (now (table .entry)) ⌝ }
 {
     let name = row.name;
@@ -131,10 +132,10 @@ impl Position {
 
     // The members of the object that begins here: the first 32 of them go into the table, five numbers each.
     pub fn collect(self, s: &[u8], levels: u32, judged: bool, table: &mut [usize]) -> Collected
-        requires { ⌜ 160 ≤ length (now table) ⌝ }
+        requires { ⌜ memberRoom ≤ length (now table) ⌝ }
         requires { ⌜ Given judged (KnownIn curly levels (now s) (self .at)) ⌝ }
         ensures { λ r. ⌜ r ≡ collectedOf (membersAt levels (now (s .entry)) (self .at)) ⌝ }
-        ensures { λ _. ⌜ now (table .exit) ≡ written 0 (flat (take 32 (membersAt levels (now (s .entry)) (self .at)))) (now (table .entry)) ⌝ }
+        ensures { λ _. ⌜ now (table .exit) ≡ written 0 (flat (take mostMembers (membersAt levels (now (s .entry)) (self .at)))) (now (table .entry)) ⌝ }
     {
         let mut p = self.step(s).skip_space(s);
         let mut count: usize = 0;

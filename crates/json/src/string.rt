@@ -1,6 +1,6 @@
 // Strings (RFC 8259 section 7), with the rule on halves of surrogate pairs. Runs of plain octets are passed over in blocks.
 ghost use mathlib.Core.Path.{_≡_};
-ghost use Prim.Native.Nat.{_+_, _≤_, _<_};
+ghost use Prim.Native.Nat.{_+_, _^_, _≤_, _<_};
 ghost use mathlib.Core.Bool.{true, false, not};
 ghost use lib.ListN.{length, drop};
 ghost use lib.Dec.{eqb};
@@ -125,7 +125,7 @@ fn count_stops(block: &[u8]) -> u8
 impl Position {
     // One hexadecimal digit more, behind those that say x.
     fn hex(self, s: &[u8], x: u32) -> Hex
-        requires { ⌜ x < 4096 ⌝ }
+        requires { ⌜ x < 16 ^ 3 ⌝ }
         ensures { λ r. ⌜ r ≡ hexAt (now (s .entry)) (self .at) x ⌝ }
         ensures { λ r. ⌜ Small x r ⌝ }
     {

@@ -24,7 +24,8 @@ use Rattle.names.specs.Names.{numberIn}
 use Rattle.rows.specs.Rows.{Entry, entryOf, entriesIn, valueIn, numbered, present, valueOf}
 use Rattle.jose.specs.Registered.{registered, alg}
 use Rattle.algorithms.specs.Algorithms.{algs, algNames, mode, nth, modeOf}
-use Rattle.jose.specs.HeaderRules.{levels, modeIn}
+use Rattle.jose.specs.HeaderRules.{modeIn}
+use Rattle.prelude.specs.Limits.{levels}
 use Rattle.algorithms.specs.declared.Alg.{Alg}
 use Rattle.algorithms.specs.declared.Alg.the-variants.{Rsa15, RsaOaep, RsaOaep256, A128Kw, A192Kw, A256Kw}
 use Rattle.algorithms.specs.declared.Alg.the-variants.{A128GcmKw, A192GcmKw, A256GcmKw, Pbes2A128Kw}

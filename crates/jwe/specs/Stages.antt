@@ -6,11 +6,12 @@ use Prim.Native.Nat.{ℕ, zero, suc, _*_, _≤_, _<_}
 use lib.ListN.{length, drop, getD}
 use lib.Dec.{eqb, leb}
 use Rattle.prelude.specs.Buffer.{written}
+use Rattle.prelude.specs.Limits.{levels, mostMembers, mostRecipients}
 use Rattle.grammar.specs.Grammar.{curly}
 use Rattle.grammar.specs.Bounds.{Every}
 use Rattle.json.specs.Known.{KnownIn}
 use Rattle.rows.specs.Rows.{Entry, present}
-use Rattle.rows.specs.Tables.{flat, entriesOf}
+use Rattle.rows.specs.Tables.{flat, entriesOf, headerTable}
 use Rattle.prelude.specs.Refusals.{Test, _if_, first}
 use Rattle.jose.specs.HeaderRules.{recipientOrder}
 use Rattle.headers.specs.Headers.{headerText, textOrder, outermost, protectedEntries, objectOrder}
@@ -18,6 +19,7 @@ use Rattle.headers.specs.declared.Stage.{Stage}
 use Rattle.headers.specs.declared.Stage.the-variants.{Passed, Refused}
 use Rattle.shape.specs.Shape.{protected, recipients, component, Recipient}
 use Rattle.shape.specs.Recipients.{componentsIn}
+use Rattle.shape.specs.Answers.{recipientWidth}
 use Rattle.jwe.specs.General.{ownEntries, parameters, isHollow, protectedOrder, headersOrder, recipientsOrder}
 use Rattle.jwe.specs.Judge.{Outcome, accepted, asked}
 use Rattle.jwe.specs.Answers.{numbers}
@@ -35,14 +37,18 @@ recipientAt t = record { header = getD t 0 0; key = record { start = getD t 1 0;
 -- The first n.
 unfoldable pub recipientsOf : ℕ → List ℕ → List Recipient
 recipientsOf zero t = []
-recipientsOf (suc n) t = recipientAt t ∷ recipientsOf n (drop 3 t)
+recipientsOf (suc n) t = recipientAt t ∷ recipientsOf n (drop recipientWidth t)
+
+-- The room of a table for the own headers of all recipients.
+abbrev pub ownTable : ℕ
+ownTable = mostRecipients * headerTable
 
 -- Their own headers, collected into a table 32 entries apart, with how many each has; k is below the number of
 -- recipients.
 abbrev pub OwnAt : List ℕ → List ℕ → List ℕ → List ℕ → ℕ → Type 0
 OwnAt message of own counts k =
-    (getD counts k 0 ≤ 32)
-    × (entriesOf (getD counts k 0) (drop (k * 256) own) ≡ ownEntries message (recipientAt (drop (k * 3) of)))
+    (getD counts k 0 ≤ mostMembers)
+    × (entriesOf (getD counts k 0) (drop (k * headerTable) own) ≡ ownEntries message (recipientAt (drop (k * recipientWidth) of)))
 
 abbrev pub Owned : ℕ → List ℕ → List ℕ → List ℕ → List ℕ → Type 0
 Owned number message of own counts = (k : ℕ) → k < number → OwnAt message of own counts k
@@ -55,7 +61,7 @@ LeavesOwn number message of own counts (Refused n) = Unit {0}
 -- What is known of the headers of a message that has been judged: where one stands, what opens in it reads.
 
 abbrev pub HeaderKnown : List ℕ → ℕ → Type 0
-HeaderKnown message start = (start ≡ 0 → ⊥) → KnownIn curly 12 message start
+HeaderKnown message start = (start ≡ 0 → ⊥) → KnownIn curly levels message start
 
 abbrev pub HeadersKnown : List ℕ → List Recipient → Type 0
 HeadersKnown message rs = Every (λ r. HeaderKnown message (r .header)) rs

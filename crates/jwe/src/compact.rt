@@ -4,7 +4,9 @@ ghost use mathlib.Core.Bool.{true, false};
 ghost use Prim.Native.Nat.{_+_, _≤_};
 ghost use lib.ListN.{length};
 ghost use Rattle.names.specs.Names.{names, filled};
+ghost use Rattle.prelude.specs.Limits.{headerRoom, longest};
 ghost use Rattle.prelude.specs.Any.{any};
+ghost use Rattle.rows.specs.Tables.{recipientTable};
 ghost use Rattle.headers.specs.Components.{misspelled, places};
 ghost use Rattle.jwe.specs.Compact.{between, fourStops, compactComponents, compactOrder};
 ghost use Rattle.jwe.specs.Judge.{compactOutcome};
@@ -36,7 +38,7 @@ fn between(a: usize, b: usize) -> Place
 
 // The components of a message.
 pub fn split(message: &[u8]) -> FullStops
-    requires { ⌜ length (now message) ≤ 16777216 ⌝ }
+    requires { ⌜ length (now message) ≤ longest ⌝ }
     ensures { λ r. ⌜ r ≡ splitOf (now (message .entry)) ⌝ }
 {
     let n = message.len();
@@ -99,8 +101,8 @@ fn judge_header(
     requires { ⌜ q ≡ codeComponents (compactComponents (now message)) ⌝ }
     requires { ⌜ any (misspelled (now message)) (places (componentsOf q)) ≡ false ⌝ }
     requires { ⌜ filled (now known) ≡ true ⌝ }
-    requires { ⌜ length (now text) ≡ 4096 ⌝ }
-    requires { ⌜ length (now table) ≡ 768 ⌝ }
+    requires { ⌜ length (now text) ≡ headerRoom ⌝ }
+    requires { ⌜ length (now table) ≡ recipientTable ⌝ }
     ensures { λ r. ⌜ Judges (now (message .entry)) (compactOrder (now (message .entry)) (names (now (known .entry))) recipient) (compactOutcome (now (message .entry))) r (now (text .entry)) (now (text .exit)) (now (table .entry)) (now (table .exit)) ⌝ }
 {
     let decoded = headers::header(message, q.protected, text);
@@ -138,10 +140,10 @@ pub fn judge(
     text: &mut [u8],
     table: &mut [u32],
 ) -> Judged
-    requires { ⌜ length (now message) ≤ 16777216 ⌝ }
+    requires { ⌜ length (now message) ≤ longest ⌝ }
     requires { ⌜ filled (now known) ≡ true ⌝ }
-    requires { ⌜ length (now text) ≡ 4096 ⌝ }
-    requires { ⌜ length (now table) ≡ 768 ⌝ }
+    requires { ⌜ length (now text) ≡ headerRoom ⌝ }
+    requires { ⌜ length (now table) ≡ recipientTable ⌝ }
     ensures { λ r. ⌜ Judges (now (message .entry)) (compactOrder (now (message .entry)) (names (now (known .entry))) recipient) (compactOutcome (now (message .entry))) r (now (text .entry)) (now (text .exit)) (now (table .entry)) (now (table .exit)) ⌝ }
 {
     let found = split(message);

@@ -9,24 +9,26 @@ ghost use Prim.Native.Nat.{_+_, _*_, _≤_, _<_};
 ghost use lib.ListN.{length, drop, getD};
 ghost use lib.Dec.{eqb};
 ghost use Rattle.prelude.specs.Buffer.{written};
+ghost use Rattle.prelude.specs.Limits.{headerRoom, longest, mostMembers, mostRecipients};
 ghost use Rattle.names.specs.Names.{names, filled};
 ghost use Rattle.prelude.specs.Any.{any};
 ghost use Rattle.rows.specs.Rows.{present, valueOf};
 ghost use Rattle.rows.specs.Prints.{Printed};
-ghost use Rattle.rows.specs.Tables.{flat, entriesOf, collectedTable};
+ghost use Rattle.rows.specs.Tables.{flat, entriesOf, collectedTable, headerTable, recipientTable, width};
 ghost use Rattle.prelude.specs.Refusals.{first};
 ghost use Rattle.jose.specs.HeaderRules.{recipientOrder, modeIn};
 ghost use Rattle.jose.specs.Judged.{judgedOf};
 ghost use Rattle.headers.specs.Components.{misspelled};
 ghost use Rattle.headers.specs.Headers.{headerText, protectedEntries, headerEntries, objectOrder};
 ghost use Rattle.headers.specs.Answers.{placeOf, stageOf, headerBuffer};
-ghost use Rattle.shape.specs.Shape.{component};
+ghost use Rattle.shape.specs.Shape.{component, protected, recipients, unprotected};
 ghost use Rattle.shape.specs.Recipients.{componentsIn};
+ghost use Rattle.shape.specs.Answers.{recipientWidth};
 ghost use Rattle.jwe.specs.General.{allPlaces, jsonOrder};
 ghost use Rattle.jwe.specs.Judge.{jsonOutcome};
 ghost use Rattle.jwe.specs.Answers.{componentsOf, Judges};
 ghost use Rattle.jwe.specs.Stages.{recipientAt, recipientsOf, Owned, LeavesOwn, textTests, protectedTests, ownTests, ruleTests};
-ghost use Rattle.jwe.specs.Stages.{HeaderKnown, HeadersKnown, headedOrder, shapedOrder, headedOutcome, shapedOutcome, Heads, refusedOf};
+ghost use Rattle.jwe.specs.Stages.{HeaderKnown, HeadersKnown, headedOrder, shapedOrder, headedOutcome, shapedOutcome, Heads, refusedOf, ownTable};
 use crate::Components;
 use crate::Result;
 use crate::judged::Judged;
@@ -37,7 +39,7 @@ use json::member::Place;
 
 // The place of a component of the top level without its quotation marks; 0, 0 where it is absent.
 fn component(top: &[u32], count: usize, n: u32) -> Place
-    requires { ⌜ count * 8 ≤ length (now top) ⌝ }
+    requires { ⌜ count * width ≤ length (now top) ⌝ }
     ensures { λ r. ⌜ placeOf r ≡ component n (entriesOf count (now (top .entry))) ⌝ }
 {
     let value = rows::ask::value_of(top, count, n);
@@ -58,8 +60,8 @@ fn component(top: &[u32], count: usize, n: u32) -> Place
 
 // The place of a recipient's key.
 fn key(of: &[usize], i: usize) -> Place
-    requires { ⌜ i * 3 + 3 ≤ length (now of) ⌝ }
-    ensures { λ r. ⌜ placeOf r ≡ recipientAt (drop (i * 3) (now (of .entry))) .key ⌝ }
+    requires { ⌜ i * recipientWidth + recipientWidth ≤ length (now of) ⌝ }
+    ensures { λ r. ⌜ placeOf r ≡ recipientAt (drop (i * recipientWidth) (now (of .entry))) .key ⌝ }
 {
     let at = i * 3;
     Place {
@@ -70,7 +72,7 @@ fn key(of: &[usize], i: usize) -> Place
 
 // 5 on the recipients' keys.
 fn keys_misspelled(message: &[u8], of: &[usize], number: usize) -> bool
-    requires { ⌜ number * 3 ≤ length (now of) ⌝ }
+    requires { ⌜ number * recipientWidth ≤ length (now of) ⌝ }
     ensures { λ r. ⌜ r ≡ any (misspelled (now (message .entry))) (map (λ q. q .key) (recipientsOf number (now (of .entry)))) ⌝ }
 {
     let mut i: usize = 0;
@@ -85,8 +87,8 @@ fn keys_misspelled(message: &[u8], of: &[usize], number: usize) -> bool
 
 // 5 on all components.
 fn misspelled(message: &[u8], top: &[u32], count: usize, of: &[usize], number: usize) -> bool
-    requires { ⌜ count * 8 ≤ length (now top) ⌝ }
-    requires { ⌜ number * 3 ≤ length (now of) ⌝ }
+    requires { ⌜ count * width ≤ length (now top) ⌝ }
+    requires { ⌜ number * recipientWidth ≤ length (now of) ⌝ }
     ensures { λ r. ⌜ r ≡ any (misspelled (now (message .entry))) (allPlaces (entriesOf count (now (top .entry))) (recipientsOf number (now (of .entry)))) ⌝ }
 {
     if headers::misspelled(message, component(top, count, 1)) {
@@ -109,11 +111,11 @@ fn misspelled(message: &[u8], top: &[u32], count: usize, of: &[usize], number: u
 
 // 6 and 7 on the protected header: it is decoded into the buffer, and how long it is, 0 where there is none.
 fn decoded(message: &[u8], top: &[u32], count: usize, text: &mut [u8]) -> Stage
-    requires { ⌜ count * 8 ≤ length (now top) ⌝ }
-    requires { ⌜ misspelled (now message) (component 1 (entriesOf count (now top))) ≡ false ⌝ }
-    requires { ⌜ length (now text) ≡ 4096 ⌝ }
-    ensures { λ r. ⌜ r ≡ stageOf (first (textTests (present 1 (entriesOf count (now (top .entry)))) (headerText (now (message .entry)) (component 1 (entriesOf count (now (top .entry))))))) (length (headerText (now (message .entry)) (component 1 (entriesOf count (now (top .entry)))))) ⌝ }
-    ensures { λ _. ⌜ now (text .exit) ≡ headerBuffer (headerText (now (message .entry)) (component 1 (entriesOf count (now (top .entry))))) (now (text .entry)) ⌝ }
+    requires { ⌜ count * width ≤ length (now top) ⌝ }
+    requires { ⌜ misspelled (now message) (component protected (entriesOf count (now top))) ≡ false ⌝ }
+    requires { ⌜ length (now text) ≡ headerRoom ⌝ }
+    ensures { λ r. ⌜ r ≡ stageOf (first (textTests (present protected (entriesOf count (now (top .entry)))) (headerText (now (message .entry)) (component protected (entriesOf count (now (top .entry))))))) (length (headerText (now (message .entry)) (component protected (entriesOf count (now (top .entry)))))) ⌝ }
+    ensures { λ _. ⌜ now (text .exit) ≡ headerBuffer (headerText (now (message .entry)) (component protected (entriesOf count (now (top .entry))))) (now (text .entry)) ⌝ }
 {
     if !rows::ask::present(top, count, 1) {
         return Stage::Passed(0);
@@ -125,8 +127,8 @@ fn decoded(message: &[u8], top: &[u32], count: usize, text: &mut [u8]) -> Stage
 // Where it
 // has none, 8 and 9 pass, so that 10 is asked after them.
 fn protected(header: &[u8], there: bool, table: &mut [u32]) -> Stage
-    requires { ⌜ length (now header) ≤ 16777216 ⌝ }
-    requires { ⌜ 256 ≤ length (now table) ⌝ }
+    requires { ⌜ length (now header) ≤ longest ⌝ }
+    requires { ⌜ headerTable ≤ length (now table) ⌝ }
     ensures { λ r. ⌜ r ≡ stageOf (first (protectedTests there (now (header .entry)))) (length (protectedEntries (now (header .entry)))) ⌝ }
     ensures { λ _. ⌜ now (table .exit) ≡ collectedTable 0 (protectedEntries (now (header .entry))) (now (table .entry)) ⌝ }
 {
@@ -148,8 +150,8 @@ fn protected(header: &[u8], there: bool, table: &mut [u32]) -> Stage
 // the entry
 // `from` on.
 fn unprotected(message: &[u8], start: usize, origin: u32, table: &mut [u32], from: usize) -> Stage
-    requires { ⌜ length (now message) ≤ 16777216 ⌝ }
-    requires { ⌜ from * 8 + 256 ≤ length (now table) ⌝ }
+    requires { ⌜ length (now message) ≤ longest ⌝ }
+    requires { ⌜ from * width + headerTable ≤ length (now table) ⌝ }
     requires { ⌜ HeaderKnown (now message) start ⌝ }
     ensures { λ r. ⌜ r ≡ stageOf (first (objectOrder (now (message .entry)) (headerEntries (now (message .entry)) origin start))) (length (headerEntries (now (message .entry)) origin start)) ⌝ }
     ensures { λ _. ⌜ now (table .exit) ≡ collectedTable from (headerEntries (now (message .entry)) origin start) (now (table .entry)) ⌝ }
@@ -170,11 +172,11 @@ fn own_headers(
     own: &mut [u32],
     counts: &mut [usize],
 ) -> Stage
-    requires { ⌜ length (now message) ≤ 16777216 ⌝ }
-    requires { ⌜ number ≤ 8 ⌝ }
-    requires { ⌜ number * 3 ≤ length (now of) ⌝ }
-    requires { ⌜ length (now own) ≡ 2048 ⌝ }
-    requires { ⌜ length (now counts) ≡ 8 ⌝ }
+    requires { ⌜ length (now message) ≤ longest ⌝ }
+    requires { ⌜ number ≤ mostRecipients ⌝ }
+    requires { ⌜ number * recipientWidth ≤ length (now of) ⌝ }
+    requires { ⌜ length (now own) ≡ ownTable ⌝ }
+    requires { ⌜ length (now counts) ≡ mostRecipients ⌝ }
     requires { ⌜ HeadersKnown (now message) (recipientsOf number (now of)) ⌝ }
     ensures { λ r. ⌜ r ≡ stageOf (first (ownTests (now (message .entry)) (recipientsOf number (now (of .entry))))) number ⌝ }
     ensures { λ r. ⌜ LeavesOwn number (now (message .entry)) (now (of .entry)) (now (own .exit)) (now (counts .exit)) r ⌝ }
@@ -193,13 +195,13 @@ fn own_headers(
 
 // The parameters of a recipient: its own are copied behind those that are all recipients'. How many they are.
 fn gather(own: &[u32], counts: &[usize], i: usize, table: &mut [u32], front: usize) -> usize
-    requires { ⌜ i < 8 ⌝ }
-    requires { ⌜ length (now own) ≡ 2048 ⌝ }
-    requires { ⌜ length (now counts) ≡ 8 ⌝ }
-    requires { ⌜ getD (now counts) i 0 ≤ 32 ⌝ }
-    requires { ⌜ front * 8 + 256 ≤ length (now table) ⌝ }
+    requires { ⌜ i < mostRecipients ⌝ }
+    requires { ⌜ length (now own) ≡ ownTable ⌝ }
+    requires { ⌜ length (now counts) ≡ mostRecipients ⌝ }
+    requires { ⌜ getD (now counts) i 0 ≤ mostMembers ⌝ }
+    requires { ⌜ front * width + headerTable ≤ length (now table) ⌝ }
     ensures { λ r. ⌜ r ≡ front + getD (now (counts .entry)) i 0 ⌝ }
-    ensures { λ _. ⌜ now (table .exit) ≡ written (front * 8) (flat (entriesOf (getD (now (counts .entry)) i 0) (drop (i * 256) (now (own .entry))))) (now (table .entry)) ⌝ }
+    ensures { λ _. ⌜ now (table .exit) ≡ written (front * width) (flat (entriesOf (getD (now (counts .entry)) i 0) (drop (i * headerTable) (now (own .entry))))) (now (table .entry)) ⌝ }
 {
     let count = counts[i];
     let start = i * 256;
@@ -221,12 +223,12 @@ fn rules(
     front: usize,
 ) -> Stage
     requires { ⌜ filled (now known) ≡ true ⌝ }
-    requires { ⌜ number ≤ 8 ⌝ }
-    requires { ⌜ number * 3 ≤ length (now of) ⌝ }
-    requires { ⌜ length (now own) ≡ 2048 ⌝ }
-    requires { ⌜ length (now counts) ≡ 8 ⌝ }
+    requires { ⌜ number ≤ mostRecipients ⌝ }
+    requires { ⌜ number * recipientWidth ≤ length (now of) ⌝ }
+    requires { ⌜ length (now own) ≡ ownTable ⌝ }
+    requires { ⌜ length (now counts) ≡ mostRecipients ⌝ }
     requires { ⌜ Owned number (now message) (now of) (now own) (now counts) ⌝ }
-    requires { ⌜ front * 8 + 256 ≤ length (now table) ⌝ }
+    requires { ⌜ front * width + headerTable ≤ length (now table) ⌝ }
     requires { ⌜ Printed (now header) (now message) (entriesOf front (now table)) ⌝ }
     ensures { λ r. ⌜ r ≡ stageOf (first (ruleTests (names (now (known .entry))) (now (header .entry)) (now (message .entry)) (entriesOf front (now (table .entry))) (recipientsOf number (now (of .entry))))) number ⌝ }
     ensures { λ _. ⌜ entriesOf front (now (table .exit)) ≡ entriesOf front (now (table .entry)) ⌝ }
@@ -255,8 +257,8 @@ fn refused(judged: jose::judge::Judged) -> Stage
 
 // 1 flattened, 2 general.
 fn form(top: &[u32], count: usize) -> u32
-    requires { ⌜ count * 8 ≤ length (now top) ⌝ }
-    ensures { λ r. ⌜ r ≡ cond (present 5 (entriesOf count (now (top .entry)))) 2 1 ⌝ }
+    requires { ⌜ count * width ≤ length (now top) ⌝ }
+    ensures { λ r. ⌜ r ≡ cond (present recipients (entriesOf count (now (top .entry)))) 2 1 ⌝ }
 {
     if rows::ask::present(top, count, 5) {
         2
@@ -267,9 +269,9 @@ fn form(top: &[u32], count: usize) -> u32
 
 // The components that apply to a recipient.
 fn components(top: &[u32], count: usize, of: &[usize], i: usize) -> Components
-    requires { ⌜ count * 8 ≤ length (now top) ⌝ }
-    requires { ⌜ i * 3 + 3 ≤ length (now of) ⌝ }
-    ensures { λ r. ⌜ componentsOf r ≡ componentsIn (entriesOf count (now (top .entry))) (recipientAt (drop (i * 3) (now (of .entry)))) ⌝ }
+    requires { ⌜ count * width ≤ length (now top) ⌝ }
+    requires { ⌜ i * recipientWidth + recipientWidth ≤ length (now of) ⌝ }
+    ensures { λ r. ⌜ componentsOf r ≡ componentsIn (entriesOf count (now (top .entry))) (recipientAt (drop (i * recipientWidth) (now (of .entry)))) ⌝ }
 {
     Components {
         protected: component(top, count, 1),
@@ -297,15 +299,15 @@ fn headed(
     front: usize,
     table: &mut [u32],
 ) -> Judged
-    requires { ⌜ length (now message) ≤ 16777216 ⌝ }
+    requires { ⌜ length (now message) ≤ longest ⌝ }
     requires { ⌜ filled (now known) ≡ true ⌝ }
-    requires { ⌜ count * 8 ≤ length (now top) ⌝ }
-    requires { ⌜ number ≤ 8 ⌝ }
-    requires { ⌜ number * 3 ≤ length (now of) ⌝ }
-    requires { ⌜ length (now work) ≡ 768 ⌝ }
-    requires { ⌜ front ≤ 64 ⌝ }
+    requires { ⌜ count * width ≤ length (now top) ⌝ }
+    requires { ⌜ number ≤ mostRecipients ⌝ }
+    requires { ⌜ number * recipientWidth ≤ length (now of) ⌝ }
+    requires { ⌜ length (now work) ≡ recipientTable ⌝ }
+    requires { ⌜ front ≤ 2 * mostMembers ⌝ }
     requires { ⌜ Printed (now header) (now message) (entriesOf front (now work)) ⌝ }
-    requires { ⌜ length (now table) ≡ 768 ⌝ }
+    requires { ⌜ length (now table) ≡ recipientTable ⌝ }
     requires { ⌜ HeadersKnown (now message) (recipientsOf number (now of)) ⌝ }
     ensures { λ r. ⌜ Heads (now (message .entry)) (headedOrder (names (now (known .entry))) (now (header .entry)) (now (message .entry)) (entriesOf front (now (work .entry))) (recipientsOf number (now (of .entry))) recipient) (headedOutcome (now (header .entry)) (now (message .entry)) (entriesOf count (now (top .entry))) (entriesOf front (now (work .entry))) (recipientsOf number (now (of .entry))) recipient) r (now (table .entry)) (now (table .exit)) ⌝ }
 {
@@ -359,15 +361,15 @@ fn shaped(
     text: &mut [u8],
     table: &mut [u32],
 ) -> Judged
-    requires { ⌜ length (now message) ≤ 16777216 ⌝ }
+    requires { ⌜ length (now message) ≤ longest ⌝ }
     requires { ⌜ filled (now known) ≡ true ⌝ }
-    requires { ⌜ count * 8 ≤ length (now top) ⌝ }
-    requires { ⌜ number ≤ 8 ⌝ }
-    requires { ⌜ number * 3 ≤ length (now of) ⌝ }
-    requires { ⌜ misspelled (now message) (component 1 (entriesOf count (now top))) ≡ false ⌝ }
-    requires { ⌜ length (now text) ≡ 4096 ⌝ }
-    requires { ⌜ length (now table) ≡ 768 ⌝ }
-    requires { ⌜ HeaderKnown (now message) (valueOf 2 (entriesOf count (now top)) .start) ⌝ }
+    requires { ⌜ count * width ≤ length (now top) ⌝ }
+    requires { ⌜ number ≤ mostRecipients ⌝ }
+    requires { ⌜ number * recipientWidth ≤ length (now of) ⌝ }
+    requires { ⌜ misspelled (now message) (component protected (entriesOf count (now top))) ≡ false ⌝ }
+    requires { ⌜ length (now text) ≡ headerRoom ⌝ }
+    requires { ⌜ length (now table) ≡ recipientTable ⌝ }
+    requires { ⌜ HeaderKnown (now message) (valueOf unprotected (entriesOf count (now top)) .start) ⌝ }
     requires { ⌜ HeadersKnown (now message) (recipientsOf number (now of)) ⌝ }
     ensures { λ r. ⌜ Judges (now (message .entry)) (shapedOrder (names (now (known .entry))) (now (message .entry)) (entriesOf count (now (top .entry))) (recipientsOf number (now (of .entry))) recipient) (shapedOutcome (now (message .entry)) (entriesOf count (now (top .entry))) (recipientsOf number (now (of .entry))) recipient) r (now (text .entry)) (now (text .exit)) (now (table .entry)) (now (table .exit)) ⌝ }
 {
@@ -408,10 +410,10 @@ pub fn judge(
     text: &mut [u8],
     table: &mut [u32],
 ) -> Judged
-    requires { ⌜ length (now message) ≤ 16777216 ⌝ }
+    requires { ⌜ length (now message) ≤ longest ⌝ }
     requires { ⌜ filled (now known) ≡ true ⌝ }
-    requires { ⌜ length (now text) ≡ 4096 ⌝ }
-    requires { ⌜ length (now table) ≡ 768 ⌝ }
+    requires { ⌜ length (now text) ≡ headerRoom ⌝ }
+    requires { ⌜ length (now table) ≡ recipientTable ⌝ }
     ensures { λ r. ⌜ Judges (now (message .entry)) (jsonOrder (now (message .entry)) (names (now (known .entry))) recipient) (jsonOutcome (now (message .entry)) recipient) r (now (text .entry)) (now (text .exit)) (now (table .entry)) (now (table .exit)) ⌝ }
 {
     let mut top = [0u32; 256];

@@ -3,8 +3,10 @@ ghost use mathlib.Core.Path.{_≡_};
 ghost use mathlib.Core.Bool.{true, cond};
 ghost use Prim.Native.Nat.{_≤_};
 ghost use lib.ListN.{length};
+ghost use Rattle.prelude.specs.Limits.{headerRoom, longest};
 ghost use Rattle.names.specs.Names.{names, filled};
 ghost use Rattle.grammar.specs.Reader.{opensObject};
+ghost use Rattle.rows.specs.Tables.{recipientTable};
 ghost use Rattle.jwe.specs.Compact.{compactOrder};
 ghost use Rattle.jwe.specs.General.{jsonOrder};
 ghost use Rattle.jwe.specs.Judge.{outcome, result, refused, headerAfter, listAfter};
@@ -72,10 +74,10 @@ fn refusal(judged: Judged) -> Result
 
 // A message judged in document 01's order, from 4 on: a JSON message where it opens an object, a compact one elsewhere.
 fn judge(message: &[u8], known: &[u8], recipient: u32, text: &mut [u8], table: &mut [u32]) -> Judged
-    requires { ⌜ length (now message) ≤ 16777216 ⌝ }
+    requires { ⌜ length (now message) ≤ longest ⌝ }
     requires { ⌜ filled (now known) ≡ true ⌝ }
-    requires { ⌜ length (now text) ≡ 4096 ⌝ }
-    requires { ⌜ length (now table) ≡ 768 ⌝ }
+    requires { ⌜ length (now text) ≡ headerRoom ⌝ }
+    requires { ⌜ length (now table) ≡ recipientTable ⌝ }
     ensures { λ r. ⌜ Judges (now (message .entry)) (cond (opensObject (now (message .entry))) (jsonOrder (now (message .entry)) (names (now (known .entry))) recipient) (compactOrder (now (message .entry)) (names (now (known .entry))) recipient)) (outcome (now (message .entry)) recipient) r (now (text .entry)) (now (text .exit)) (now (table .entry)) (now (table .exit)) ⌝ }
 {
     if json::opens_object(message) {

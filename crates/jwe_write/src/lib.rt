@@ -6,9 +6,10 @@ ghost use mathlib.Core.List.{_∷_};
 ghost use Prim.Native.Nat.{_+_, _*_, _≤_, min};
 ghost use lib.ListN.{length};
 ghost use Rattle.prelude.specs.Buffer.{written};
+ghost use Rattle.prelude.specs.Limits.{headerRoom};
 ghost use Rattle.base64url.specs.Base64url.{encoded};
 ghost use Rattle.names.specs.Names.{names, filled};
-ghost use Rattle.rows.specs.Tables.{entriesOf};
+ghost use Rattle.rows.specs.Tables.{entriesOf, width};
 ghost use Rattle.prelude.specs.Refusals.{first};
 ghost use Rattle.headers.specs.Components.{fullStop};
 ghost use Rattle.headers.specs.Headers.{textOrder, protectedEntries};
@@ -43,7 +44,7 @@ fn text_refusal(header: &[u8]) -> u32
 // 13 to 18 on its parameters, which a table holds.
 fn rules_refusal(header: &[u8], known: &[u8], table: &[u32], count: usize, no_key: bool) -> u32
     requires { ⌜ filled (now known) ≡ true ⌝ }
-    requires { ⌜ count * 8 ≤ length (now table) ⌝ }
+    requires { ⌜ count * width ≤ length (now table) ⌝ }
     requires { ⌜ entriesOf count (now table) ≡ protectedEntries (now header) ⌝ }
     ensures { λ r. ⌜ r ≡ first (rulesOrder (names (now (known .entry))) (now (header .entry)) (protectedEntries (now (header .entry))) «no_key») ⌝ }
 {
@@ -56,7 +57,7 @@ fn rules_refusal(header: &[u8], known: &[u8], table: &[u32], count: usize, no_ke
 
 // 8, 9 and 13 to 18 on it.
 fn parameters_refusal(header: &[u8], known: &[u8], no_key: bool) -> u32
-    requires { ⌜ length (now header) ≤ 4096 ⌝ }
+    requires { ⌜ length (now header) ≤ headerRoom ⌝ }
     requires { ⌜ filled (now known) ≡ true ⌝ }
     ensures { λ r. ⌜ r ≡ first (parametersOrder (names (now (known .entry))) (now (header .entry)) «no_key») ⌝ }
 {

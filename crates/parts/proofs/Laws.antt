@@ -11,7 +11,8 @@ use lib.Dec.{leb, ltb, eqb}
 use borrow.Author.Tests.{le-leb, lt-leb, eq-eqb, ne-eqb, ltb-true, ltb-false}
 use Rattle.prelude.specs.Buffer.{AllBelow}
 use Rattle.prelude.proofs.Lists.{below-part, drop-next}
-use Rattle.parts.specs.Parts.{part, seekIn, seek, holds}
+use denote.Ref.{RefT, ptr, now}
+use Rattle.parts.specs.Parts.{part, partAt, seekIn, seek, holds}
 use Rattle.parts.proofs.Seeking as seeking
 
 -- Parts
@@ -35,6 +36,21 @@ module _ (s : List ℕ) (start size : ℕ) where
       cases : (b : Bool) → AllBelow limit (cond b (take size (drop start s)) [])
       cases true = below-part limit s start size h
       cases false = tt
+
+-- Where a part points
+
+module _ (s : RefT (List ℕ)) (start size : ℕ) where
+  pub part-at-fits : start + size ≤ length (now s) → partAt s start size ≡ (ptr s .0, ptr s .1 + start)
+  unfolding partAt
+  part-at-fits h =
+      ap (λ (b : Bool). (ptr s .0, ptr s .1 + cond b start 0)) (le-leb (start + size) (length (now s)) h)
+
+  pub part-at-empty : length (now s) < start + size → partAt s start size ≡ ptr s
+  unfolding partAt
+  part-at-empty h =
+      let none : ptr s .1 + 0 ≡ ptr s .1 = omega arith in
+      ap (λ (b : Bool). (ptr s .0, ptr s .1 + cond b start 0)) (lt-leb (start + size) (length (now s)) h)
+      ∙ ap (λ (n : ℕ). (ptr s .0, n)) none
 
 -- what stands between a front and a rest is the part at its place
 pub part-between : (p a b : List ℕ) → part (p ++ (a ++ b)) (length p) (length a) ≡ a

@@ -2,11 +2,13 @@
 ghost use mathlib.Core.Path.{_≡_};
 ghost use Prim.Native.Nat.{_≤_, max};
 ghost use lib.ListN.{length};
-ghost use Rattle.parts.specs.Parts.{part, seek, holds, count};
+ghost use denote.Ref.{ptr};
+ghost use Rattle.parts.specs.Parts.{part, partAt, seek, holds, count};
 
-// The part of a text at a place: document 01's empty part where the place does not fit.
+// The part of a text at a place: document 01's empty part where the place does not fit, at the text's start.
 pub fn part(s: &[u8], start: usize, len: usize) -> &[u8]
-    ensures { λ r. ⌜ now r ≡ part (now (s .entry)) start len ⌝ }
+    ensures octets { λ r. ⌜ now r ≡ part (now (s .entry)) start len ⌝ }
+    ensures place { λ r. ⌜ ptr r ≡ partAt (s .entry) start len ⌝ }
 {
     let n = s.len();
     if n < start {

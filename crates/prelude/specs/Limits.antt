@@ -13,9 +13,14 @@ headerRoom = 4096
 abbrev pub listRoom : ℕ
 listRoom = 576
 
+-- Levels of JSON nesting, the outermost object being level 1.
+abbrev pub levels : ℕ
+levels = 12
+
 -- Members of an object whose names are compared.
 abbrev pub mostMembers : ℕ
 mostMembers = 32
 
+-- Recipients of a message.
 abbrev pub mostRecipients : ℕ
 mostRecipients = 8

@@ -5,12 +5,23 @@ use Prim.Native.Nat.{ℕ, zero, suc, _+_, _*_}
 use lib.ListN.{length, drop, getD}
 use lib.Dec.{leb}
 use Rattle.prelude.specs.Buffer.{written}
+use Rattle.prelude.specs.Limits.{mostMembers}
 use Rattle.grammar.specs.Places.{Member}
 use Rattle.rows.specs.Rows.{Entry}
 
--- How many numbers an entry has in a table.
+-- How many numbers an entry has in a table, and in the list that is handed out.
 abbrev pub width : ℕ
 width = 8
+
+abbrev pub listWidth : ℕ
+listWidth = 6
+
+-- The room of a table for one header, and for a recipient's three.
+abbrev pub headerTable : ℕ
+headerTable = mostMembers * width
+
+abbrev pub recipientTable : ℕ
+recipientTable = 3 * headerTable
 
 -- The numbers of the list that is handed out: origin, name start and length, value start and length, kind.
 abbrev pub six : Entry → List ℕ
@@ -55,6 +66,6 @@ unfoldable pub entriesOf : ℕ → List ℕ → List Entry
 entriesOf zero t = []
 entriesOf (suc n) t = firstOf t ∷ entriesOf n (drop width t)
 
--- A table into which the entries of an object were collected from an entry on; as it was where there are more than 32.
+-- A table into which the entries of an object were collected from an entry on; unchanged where there are more than 32.
 unfoldable pub collectedTable : ℕ → List Entry → List ℕ → List ℕ
-collectedTable from es table = cond (leb (length es) 32) (written (from * width) (flat es) table) table
+collectedTable from es table = cond (leb (length es) mostMembers) (written (from * width) (flat es) table) table

@@ -3,14 +3,14 @@ ghost use mathlib.Core.Path.{_≡_};
 ghost use Prim.Native.Nat.{_+_, _-_, _*_, _≤_, _<_};
 ghost use lib.ListN.{length, drop, getD};
 ghost use Rattle.rows.specs.Rows.{nameIn, valueIn, present, valueOf};
-ghost use Rattle.rows.specs.Tables.{firstOf, entriesOf};
+ghost use Rattle.rows.specs.Tables.{firstOf, entriesOf, width};
 use json::member::Place;
 
 // The k-th of an entry's eight numbers.
 pub fn field(table: &[u32], i: usize, k: usize) -> usize
-    requires { ⌜ i * 8 + 8 ≤ length (now table) ⌝ }
-    requires { ⌜ k < 8 ⌝ }
-    ensures { λ r. ⌜ r ≡ getD (drop (i * 8) (now (table .entry))) k 0 ⌝ }
+    requires { ⌜ i * width + width ≤ length (now table) ⌝ }
+    requires { ⌜ k < width ⌝ }
+    ensures { λ r. ⌜ r ≡ getD (drop (i * width) (now (table .entry))) k 0 ⌝ }
     ensures { λ r. ⌜ r < 4294967296 ⌝ }
 {
     table[i * 8 + k] as usize
@@ -18,8 +18,8 @@ pub fn field(table: &[u32], i: usize, k: usize) -> usize
 
 // The name of an entry as it is spelled: a part of the decoded header or of the message, as its origin says.
 pub fn name<'a>(header: &'a [u8], message: &'a [u8], table: &[u32], i: usize) -> &'a [u8]
-    requires { ⌜ i * 8 + 8 ≤ length (now table) ⌝ }
-    ensures { λ r. ⌜ now r ≡ nameIn (now (header .entry)) (now (message .entry)) (firstOf (drop (i * 8) (now (table .entry)))) ⌝ }
+    requires { ⌜ i * width + width ≤ length (now table) ⌝ }
+    ensures { λ r. ⌜ now r ≡ nameIn (now (header .entry)) (now (message .entry)) (firstOf (drop (i * width) (now (table .entry)))) ⌝ }
 {
     let start = field(table, i, 1);
     let len = field(table, i, 2);
@@ -38,8 +38,8 @@ fn minus(a: usize, b: usize) -> usize
 
 // Its value, a string, without quotation marks, likewise.
 pub fn value<'a>(header: &'a [u8], message: &'a [u8], table: &[u32], i: usize) -> &'a [u8]
-    requires { ⌜ i * 8 + 8 ≤ length (now table) ⌝ }
-    ensures { λ r. ⌜ now r ≡ valueIn (now (header .entry)) (now (message .entry)) (firstOf (drop (i * 8) (now (table .entry)))) ⌝ }
+    requires { ⌜ i * width + width ≤ length (now table) ⌝ }
+    ensures { λ r. ⌜ now r ≡ valueIn (now (header .entry)) (now (message .entry)) (firstOf (drop (i * width) (now (table .entry)))) ⌝ }
 {
     let begin = field(table, i, 3) + 1;
     let size = minus(field(table, i, 4), 2);
@@ -52,7 +52,7 @@ pub fn value<'a>(header: &'a [u8], message: &'a [u8], table: &[u32], i: usize) -
 
 // Whether one of the first entries has the n-th of the names.
 pub fn present(table: &[u32], count: usize, n: u32) -> bool
-    requires { ⌜ count * 8 ≤ length (now table) ⌝ }
+    requires { ⌜ count * width ≤ length (now table) ⌝ }
     ensures { λ r. ⌜ r ≡ present n (entriesOf count (now (table .entry))) ⌝ }
 {
     let mut i: usize = 0;
@@ -67,7 +67,7 @@ pub fn present(table: &[u32], count: usize, n: u32) -> bool
 
 // The place of the value of the first one that does, with quotation marks; 0, 0 where there is none.
 pub fn value_of(table: &[u32], count: usize, n: u32) -> Place
-    requires { ⌜ count * 8 ≤ length (now table) ⌝ }
+    requires { ⌜ count * width ≤ length (now table) ⌝ }
     ensures { λ r. ⌜ r .start ≡ valueOf n (entriesOf count (now (table .entry))) .start ⌝ }
     ensures { λ r. ⌜ r .len ≡ valueOf n (entriesOf count (now (table .entry))) .size ⌝ }
     ensures { λ r. ⌜ r .start < 4294967296 ⌝ }

@@ -4,13 +4,14 @@ ghost use mathlib.Core.Bool.{true};
 ghost use Prim.Native.Nat.{_+_, _*_, _≤_};
 ghost use lib.ListN.{length, take};
 ghost use Rattle.prelude.specs.Buffer.{AllBelow, written};
+ghost use Rattle.prelude.specs.Limits.{levels, longest};
 ghost use Rattle.names.specs.Names.{names, filled};
 ghost use Rattle.grammar.specs.Grammar.{curly};
 ghost use Rattle.grammar.specs.Reader.{membersAt};
-ghost use Rattle.json.specs.Members.{collectedOf};
+ghost use Rattle.json.specs.Members.{collectedOf, memberWidth};
 ghost use Rattle.json.specs.Known.{Given, KnownIn};
 ghost use Rattle.rows.specs.Rows.{entryOf, entriesIn};
-ghost use Rattle.rows.specs.Tables.{eight, flat, collectedTable};
+ghost use Rattle.rows.specs.Tables.{eight, flat, collectedTable, headerTable, width};
 ghost use Rattle.rows.specs.Members.{firstMember, membersOf};
 use json::Position;
 use json::member::Collected;
@@ -18,9 +19,9 @@ use json::member::Collected;
 // The entry of a member, of which `row` has the five numbers, written from a position of the table on.
 fn put(text: &[u8], origin: u32, list: &[u8], row: &[usize], table: &mut [u32], at: usize)
     requires { ⌜ filled (now list) ≡ true ⌝ }
-    requires { ⌜ length (now row) ≡ 5 ⌝ }
+    requires { ⌜ length (now row) ≡ memberWidth ⌝ }
     requires { ⌜ AllBelow 4294967296 (now row) ⌝ }
-    requires { ⌜ at + 8 ≤ length (now table) ⌝ }
+    requires { ⌜ at + width ≤ length (now table) ⌝ }
     ensures { λ _. ⌜ now (table .exit) ≡ written at (eight (entryOf (names (now (list .entry))) (now (text .entry)) origin (firstMember (now (row .entry))))) (now (table .entry)) ⌝ }
 {
     let start = row[0];
@@ -49,10 +50,10 @@ fn fill(
     from: usize,
 )
     requires { ⌜ filled (now list) ≡ true ⌝ }
-    requires { ⌜ count * 5 ≤ length (now rows) ⌝ }
-    requires { ⌜ AllBelow 4294967296 (take (count * 5) (now rows)) ⌝ }
-    requires { ⌜ from * 8 + count * 8 ≤ length (now table) ⌝ }
-    ensures { λ _. ⌜ now (table .exit) ≡ written (from * 8) (flat (entriesIn (names (now (list .entry))) (now (text .entry)) origin (membersOf count (now (rows .entry))))) (now (table .entry)) ⌝ }
+    requires { ⌜ count * memberWidth ≤ length (now rows) ⌝ }
+    requires { ⌜ AllBelow 4294967296 (take (count * memberWidth) (now rows)) ⌝ }
+    requires { ⌜ from * width + count * width ≤ length (now table) ⌝ }
+    ensures { λ _. ⌜ now (table .exit) ≡ written (from * width) (flat (entriesIn (names (now (list .entry))) (now (text .entry)) origin (membersOf count (now (rows .entry))))) (now (table .entry)) ⌝ }
 {
     let mut i: usize = 0;
     while i < count {
@@ -75,12 +76,12 @@ pub fn collect(
     from: usize,
     judged: bool,
 ) -> Collected
-    requires { ⌜ length (now text) ≤ 16777216 ⌝ }
+    requires { ⌜ length (now text) ≤ longest ⌝ }
     requires { ⌜ filled (now list) ≡ true ⌝ }
-    requires { ⌜ from * 8 + 256 ≤ length (now table) ⌝ }
-    requires { ⌜ Given judged (KnownIn curly 12 (now text) at) ⌝ }
-    ensures { λ r. ⌜ r ≡ collectedOf (membersAt 12 (now (text .entry)) at) ⌝ }
-    ensures { λ _. ⌜ now (table .exit) ≡ collectedTable from (entriesIn (names (now (list .entry))) (now (text .entry)) origin (membersAt 12 (now (text .entry)) at)) (now (table .entry)) ⌝ }
+    requires { ⌜ from * width + headerTable ≤ length (now table) ⌝ }
+    requires { ⌜ Given judged (KnownIn curly levels (now text) at) ⌝ }
+    ensures { λ r. ⌜ r ≡ collectedOf (membersAt levels (now (text .entry)) at) ⌝ }
+    ensures { λ _. ⌜ now (table .exit) ≡ collectedTable from (entriesIn (names (now (list .entry))) (now (text .entry)) origin (membersAt levels (now (text .entry)) at)) (now (table .entry)) ⌝ }
 {
     let mut rows = [0usize; 160];
     let answer = Position { at }.collect(text, 12, judged, &mut rows);

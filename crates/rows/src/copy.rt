@@ -3,7 +3,7 @@ ghost use mathlib.Core.Path.{_≡_};
 ghost use Prim.Native.Nat.{_+_, _*_, _≤_};
 ghost use lib.ListN.{length, drop};
 ghost use Rattle.prelude.specs.Buffer.{written};
-ghost use Rattle.rows.specs.Tables.{six, listed, firstOf, entriesOf};
+ghost use Rattle.rows.specs.Tables.{six, listed, firstOf, entriesOf, listWidth, width};
 
 // Numbers copied into a table from a position on.
 pub fn copy(from: &[u32], into: &mut [u32], at: usize)
@@ -31,9 +31,9 @@ pub fn copy_octets(from: &[u8], into: &mut [u8], at: usize)
 
 // One entry's six numbers of the list, which are the first of its eight in the table.
 fn lay_one(table: &[u32], i: usize, list: &mut [u32])
-    requires { ⌜ i * 8 + 8 ≤ length (now table) ⌝ }
-    requires { ⌜ i * 6 + 6 ≤ length (now list) ⌝ }
-    ensures { λ _. ⌜ now (list .exit) ≡ written (i * 6) (six (firstOf (drop (i * 8) (now (table .entry))))) (now (list .entry)) ⌝ }
+    requires { ⌜ i * width + width ≤ length (now table) ⌝ }
+    requires { ⌜ i * listWidth + listWidth ≤ length (now list) ⌝ }
+    ensures { λ _. ⌜ now (list .exit) ≡ written (i * listWidth) (six (firstOf (drop (i * width) (now (table .entry))))) (now (list .entry)) ⌝ }
 {
     let start = i * 8;
     let end = start + 6;
@@ -42,8 +42,8 @@ fn lay_one(table: &[u32], i: usize, list: &mut [u32])
 
 // The first entries laid out as document 01's list: six numbers each, at the start of the list.
 pub fn lay(table: &[u32], count: usize, list: &mut [u32])
-    requires { ⌜ count * 8 ≤ length (now table) ⌝ }
-    requires { ⌜ count * 6 ≤ length (now list) ⌝ }
+    requires { ⌜ count * width ≤ length (now table) ⌝ }
+    requires { ⌜ count * listWidth ≤ length (now list) ⌝ }
     ensures { λ _. ⌜ now (list .exit) ≡ written 0 (listed (entriesOf count (now (table .entry)))) (now (list .entry)) ⌝ }
 {
     let mut i: usize = 0;

@@ -5,7 +5,7 @@ ghost use lib.ListN.{length, drop};
 ghost use Rattle.grammar.specs.Spellings.{alike};
 ghost use Rattle.prelude.specs.Any.{any};
 ghost use Rattle.rows.specs.Rows.{spelledName, nameIn, apart, clash, clashes};
-ghost use Rattle.rows.specs.Tables.{firstOf, entriesOf};
+ghost use Rattle.rows.specs.Tables.{firstOf, entriesOf, width};
 use crate::ask::field;
 
 // Whether two origins differ, or are the same.
@@ -17,9 +17,9 @@ fn apart(across: bool, o: usize, p: usize) -> bool
 
 // Whether the names of two entries, each spelled in its own text, say the same.
 fn alike(one: &[u8], other: &[u8], table: &[u32], i: usize, j: usize) -> bool
-    requires { ⌜ i * 8 + 8 ≤ length (now table) ⌝ }
-    requires { ⌜ j * 8 + 8 ≤ length (now table) ⌝ }
-    ensures { λ r. ⌜ r ≡ alike (spelledName (now (one .entry)) (firstOf (drop (i * 8) (now (table .entry))) .member)) (spelledName (now (other .entry)) (firstOf (drop (j * 8) (now (table .entry))) .member)) ⌝ }
+    requires { ⌜ i * width + width ≤ length (now table) ⌝ }
+    requires { ⌜ j * width + width ≤ length (now table) ⌝ }
+    ensures { λ r. ⌜ r ≡ alike (spelledName (now (one .entry)) (firstOf (drop (i * width) (now (table .entry))) .member)) (spelledName (now (other .entry)) (firstOf (drop (j * width) (now (table .entry))) .member)) ⌝ }
 {
     let a = parts::part(one, field(table, i, 1), field(table, i, 2));
     let b = parts::part(other, field(table, j, 1), field(table, j, 2));
@@ -28,9 +28,9 @@ fn alike(one: &[u8], other: &[u8], table: &[u32], i: usize, j: usize) -> bool
 
 // Whether they do, each in the text that its origin says.
 fn same(header: &[u8], message: &[u8], table: &[u32], i: usize, j: usize) -> bool
-    requires { ⌜ i * 8 + 8 ≤ length (now table) ⌝ }
-    requires { ⌜ j * 8 + 8 ≤ length (now table) ⌝ }
-    ensures { λ r. ⌜ r ≡ alike (nameIn (now (header .entry)) (now (message .entry)) (firstOf (drop (i * 8) (now (table .entry))))) (nameIn (now (header .entry)) (now (message .entry)) (firstOf (drop (j * 8) (now (table .entry))))) ⌝ }
+    requires { ⌜ i * width + width ≤ length (now table) ⌝ }
+    requires { ⌜ j * width + width ≤ length (now table) ⌝ }
+    ensures { λ r. ⌜ r ≡ alike (nameIn (now (header .entry)) (now (message .entry)) (firstOf (drop (i * width) (now (table .entry))))) (nameIn (now (header .entry)) (now (message .entry)) (firstOf (drop (j * width) (now (table .entry))))) ⌝ }
 {
     let o = field(table, i, 0);
     let p = field(table, j, 0);
@@ -48,9 +48,9 @@ fn same(header: &[u8], message: &[u8], table: &[u32], i: usize, j: usize) -> boo
 
 // Whether two entries clash: their fingerprints are compared first.
 fn clash(header: &[u8], message: &[u8], table: &[u32], across: bool, i: usize, j: usize) -> bool
-    requires { ⌜ i * 8 + 8 ≤ length (now table) ⌝ }
-    requires { ⌜ j * 8 + 8 ≤ length (now table) ⌝ }
-    ensures { λ r. ⌜ r ≡ clash across (now (header .entry)) (now (message .entry)) (firstOf (drop (i * 8) (now (table .entry)))) (firstOf (drop (j * 8) (now (table .entry)))) ⌝ }
+    requires { ⌜ i * width + width ≤ length (now table) ⌝ }
+    requires { ⌜ j * width + width ≤ length (now table) ⌝ }
+    ensures { λ r. ⌜ r ≡ clash across (now (header .entry)) (now (message .entry)) (firstOf (drop (i * width) (now (table .entry)))) (firstOf (drop (j * width) (now (table .entry)))) ⌝ }
 {
     if field(table, i, 7) != field(table, j, 7) {
         return false;
@@ -70,9 +70,9 @@ fn clashes_with(
     across: bool,
     i: usize,
 ) -> bool
-    requires { ⌜ count * 8 ≤ length (now table) ⌝ }
+    requires { ⌜ count * width ≤ length (now table) ⌝ }
     requires { ⌜ i < count ⌝ }
-    ensures { λ r. ⌜ r ≡ any (clash across (now (header .entry)) (now (message .entry)) (firstOf (drop (i * 8) (now (table .entry))))) (drop (i + 1) (entriesOf count (now (table .entry)))) ⌝ }
+    ensures { λ r. ⌜ r ≡ any (clash across (now (header .entry)) (now (message .entry)) (firstOf (drop (i * width) (now (table .entry))))) (drop (i + 1) (entriesOf count (now (table .entry)))) ⌝ }
 {
     let mut j = i + 1;
     while j < count {
@@ -87,7 +87,7 @@ fn clashes_with(
 // Whether two of the first entries say the same, both of one origin, or, across, of two. Names with different
 // fingerprints are not compared, so that long names are read once.
 pub fn clashes(header: &[u8], message: &[u8], table: &[u32], count: usize, across: bool) -> bool
-    requires { ⌜ count * 8 ≤ length (now table) ⌝ }
+    requires { ⌜ count * width ≤ length (now table) ⌝ }
     ensures { λ r. ⌜ r ≡ clashes across (now (header .entry)) (now (message .entry)) (entriesOf count (now (table .entry))) ⌝ }
 {
     let mut i: usize = 0;

@@ -2,7 +2,7 @@
 use mathlib.Core.Path.{_≡_}
 use mathlib.Core.List.{List, [], _∷_, _++_}
 use mathlib.Core.Bool.{cond}
-use Prim.Native.Nat.{ℕ}
+use Prim.Native.Nat.{ℕ, _*_}
 use lib.ListN.{length}
 use lib.Dec.{eqb, ltb}
 use Rattle.prelude.specs.Buffer.{written}
@@ -15,6 +15,12 @@ use Rattle.shape.specs.Shape.{Recipient, recipientOf, wrongElements}
 use Rattle.shape.specs.Recipients.{elementEntries, elementOrder}
 
 -- Recipients as numbers in a table, three each: where the own header stands, the key's start and length.
+
+abbrev pub recipientWidth : ℕ
+recipientWidth = 3
+
+abbrev pub recipientsRoom : ℕ
+recipientsRoom = mostRecipients * recipientWidth
 
 abbrev pub three : Recipient → List ℕ
 three r = r .header ∷ r .key .start ∷ r .key .size ∷ []

@@ -8,8 +8,7 @@ use Rattle.grammar.specs.Places.{Element}
 use Rattle.grammar.specs.Reader.{membersAt, elementsAt}
 use Rattle.rows.specs.Rows.{Entry, present, valueOf}
 use Rattle.prelude.specs.Refusals.{Test, _if_}
-use Rattle.jose.specs.HeaderRules.{levels}
-use Rattle.prelude.specs.Limits.{mostRecipients}
+use Rattle.prelude.specs.Limits.{levels, mostRecipients}
 use Rattle.headers.specs.Components.{Components}
 use Rattle.headers.specs.Headers.{unread, outermost, objectOrder}
 use Rattle.shape.specs.Shape.{memberEntries, protected, recipients, iv, aad, ciphertext, tag, component, wrongTop}

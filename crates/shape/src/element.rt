@@ -3,19 +3,20 @@ ghost use mathlib.Core.Path.{_≡_};
 ghost use Prim.Native.Nat.{_+_, _-_, _*_, _≤_};
 ghost use lib.ListN.{length};
 ghost use Rattle.prelude.specs.Buffer.{written};
+ghost use Rattle.prelude.specs.Limits.{levels, longest, mostRecipients};
 ghost use Rattle.grammar.specs.Grammar.{curly, square};
 ghost use Rattle.grammar.specs.Bounds.{Every};
 ghost use Rattle.grammar.specs.Reader.{elementsAt};
 ghost use Rattle.json.specs.Known.{KnownFrom, KnownIn};
 ghost use Rattle.prelude.specs.Any.{any};
-ghost use Rattle.rows.specs.Tables.{entriesOf};
+ghost use Rattle.rows.specs.Tables.{entriesOf, width};
 ghost use Rattle.prelude.specs.Refusals.{first};
 ghost use Rattle.jose.specs.Elements.{elementsFrom};
 ghost use Rattle.headers.specs.Answers.{stageOf, Leaves};
 ghost use Rattle.shape.specs.Shape.{noObject, encryptedKey, component, recipientOf};
 ghost use Rattle.shape.specs.Recipients.{elementEntries, elementOrder};
 ghost use Rattle.shape.specs.Answers.{three, flatRecipients, startsOf, arrayOrder, counted};
-ghost use Rattle.shape.specs.Answers.{startsOrder, recipientsAt, LeavesAt};
+ghost use Rattle.shape.specs.Answers.{startsOrder, recipientsAt, LeavesAt, recipientWidth};
 use crate::member;
 use headers::Stage;
 use json::Position;
@@ -31,7 +32,7 @@ fn minus(a: usize, b: usize) -> usize
 
 // The place of the encrypted key without its quotation marks; 0, 0 where it is absent.
 fn key(table: &[u32], count: usize) -> Place
-    requires { ⌜ count * 8 ≤ length (now table) ⌝ }
+    requires { ⌜ count * width ≤ length (now table) ⌝ }
     ensures { λ r. ⌜ r .start ≡ component encryptedKey (entriesOf count (now (table .entry))) .start ⌝ }
     ensures { λ r. ⌜ r .len ≡ component encryptedKey (entriesOf count (now (table .entry))) .size ⌝ }
 {
@@ -47,8 +48,8 @@ fn key(table: &[u32], count: usize) -> Place
 
 // The recipient of the first entries, written from a position on.
 pub(crate) fn put(table: &[u32], count: usize, into: &mut [usize], at: usize)
-    requires { ⌜ count * 8 ≤ length (now table) ⌝ }
-    requires { ⌜ at + 3 ≤ length (now into) ⌝ }
+    requires { ⌜ count * width ≤ length (now table) ⌝ }
+    requires { ⌜ at + recipientWidth ≤ length (now into) ⌝ }
     ensures { λ _. ⌜ now (into .exit) ≡ written at (three (recipientOf (entriesOf count (now (table .entry))))) (now (into .entry)) ⌝ }
 {
     let header = rows::ask::value_of(table, count, 3);
@@ -60,7 +61,7 @@ pub(crate) fn put(table: &[u32], count: usize, into: &mut [usize], at: usize)
 
 // Whether one of the elements from a position on, at most so many, is no object.
 fn some_no_object(message: &[u8], from: Position, turns: usize) -> bool
-    requires { ⌜ KnownFrom square 12 (now message) turns (from .at) ⌝ }
+    requires { ⌜ KnownFrom square levels (now message) turns (from .at) ⌝ }
     ensures { λ r. ⌜ r ≡ any noObject (elementsFrom (now (message .entry)) turns (from .at)) ⌝ }
 {
     let mut p = from;
@@ -91,10 +92,10 @@ fn counted(count: usize) -> Stage
 
 // 10 on `recipients` itself, and 11: where its elements start, and how many they are. They are read once.
 pub(crate) fn walk(message: &[u8], at: usize, starts: &mut [usize]) -> Stage
-    requires { ⌜ 8 ≤ length (now starts) ⌝ }
-    requires { ⌜ KnownIn square 12 (now message) at ⌝ }
-    ensures { λ r. ⌜ r ≡ stageOf (first (arrayOrder (elementsAt 12 (now (message .entry)) at))) (length (elementsAt 12 (now (message .entry)) at)) ⌝ }
-    ensures { λ r. ⌜ Leaves (startsOf (elementsAt 12 (now (message .entry)) at)) (now (starts .entry)) (now (starts .exit)) r ⌝ }
+    requires { ⌜ mostRecipients ≤ length (now starts) ⌝ }
+    requires { ⌜ KnownIn square levels (now message) at ⌝ }
+    ensures { λ r. ⌜ r ≡ stageOf (first (arrayOrder (elementsAt levels (now (message .entry)) at))) (length (elementsAt levels (now (message .entry)) at)) ⌝ }
+    ensures { λ r. ⌜ Leaves (startsOf (elementsAt levels (now (message .entry)) at)) (now (starts .entry)) (now (starts .exit)) r ⌝ }
 {
     let mut p = Position { at }.inside(message);
     let mut count: usize = 0;
@@ -123,9 +124,9 @@ pub(crate) fn walk(message: &[u8], at: usize, starts: &mut [usize]) -> Stage
 
 // 8 to 10 on the element at a position: where it passes, its recipient is written from a position of the table on.
 fn element(message: &[u8], at: usize, into: &mut [usize], to: usize) -> Stage
-    requires { ⌜ length (now message) ≤ 16777216 ⌝ }
-    requires { ⌜ to + 3 ≤ length (now into) ⌝ }
-    requires { ⌜ KnownIn curly 12 (now message) at ⌝ }
+    requires { ⌜ length (now message) ≤ longest ⌝ }
+    requires { ⌜ to + recipientWidth ≤ length (now into) ⌝ }
+    requires { ⌜ KnownIn curly levels (now message) at ⌝ }
     ensures { λ r. ⌜ r ≡ stageOf (first (elementOrder (now (message .entry)) at)) (length (elementEntries (now (message .entry)) at)) ⌝ }
     ensures { λ r. ⌜ LeavesAt to (three (recipientOf (elementEntries (now (message .entry)) at))) (now (into .entry)) (now (into .exit)) r ⌝ }
 {
@@ -144,9 +145,9 @@ fn element(message: &[u8], at: usize, into: &mut [usize], to: usize) -> Stage
 
 // 8 to 10 on the elements at some starts, in turn: their recipients as numbers of the table, and how many they are.
 pub(crate) fn elements(message: &[u8], starts: &[usize], into: &mut [usize]) -> Stage
-    requires { ⌜ length (now message) ≤ 16777216 ⌝ }
-    requires { ⌜ length (now starts) * 3 ≤ length (now into) ⌝ }
-    requires { ⌜ Every (KnownIn curly 12 (now message)) (now starts) ⌝ }
+    requires { ⌜ length (now message) ≤ longest ⌝ }
+    requires { ⌜ length (now starts) * recipientWidth ≤ length (now into) ⌝ }
+    requires { ⌜ Every (KnownIn curly levels (now message)) (now starts) ⌝ }
     ensures { λ r. ⌜ r ≡ stageOf (first (startsOrder (now (message .entry)) (now (starts .entry)))) (length (now (starts .entry))) ⌝ }
     ensures { λ r. ⌜ Leaves (flatRecipients (recipientsAt (now (message .entry)) (now (starts .entry)))) (now (into .entry)) (now (into .exit)) r ⌝ }
 {

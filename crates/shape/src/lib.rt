@@ -2,11 +2,12 @@
 ghost use mathlib.Core.Path.{_≡_};
 ghost use Prim.Native.Nat.{_*_, _≤_};
 ghost use lib.ListN.{length};
-ghost use Rattle.rows.specs.Tables.{flat, entriesOf};
+ghost use Rattle.rows.specs.Tables.{flat, entriesOf, headerTable, width};
+ghost use Rattle.prelude.specs.Limits.{longest};
 ghost use Rattle.prelude.specs.Refusals.{first};
 ghost use Rattle.headers.specs.Answers.{stageOf, Leaves};
 ghost use Rattle.shape.specs.Recipients.{topEntries, topOrder, elementsOrder, recipientsIn};
-ghost use Rattle.shape.specs.Answers.{flatRecipients};
+ghost use Rattle.shape.specs.Answers.{flatRecipients, recipientsRoom};
 use headers::Stage;
 use json::Found;
 use json::Position;
@@ -29,8 +30,8 @@ mod member;
 
 // 7, and 8 to 10 on the top level: its members as entries of the table, and how many they are.
 pub fn top(message: &[u8], table: &mut [u32]) -> Stage
-    requires { ⌜ length (now message) ≤ 16777216 ⌝ }
-    requires { ⌜ 256 ≤ length (now table) ⌝ }
+    requires { ⌜ length (now message) ≤ longest ⌝ }
+    requires { ⌜ headerTable ≤ length (now table) ⌝ }
     ensures { λ r. ⌜ r ≡ stageOf (first (topOrder (now (message .entry)))) (length (topEntries (now (message .entry)))) ⌝ }
     ensures { λ r. ⌜ Leaves (flat (topEntries (now (message .entry)))) (now (table .entry)) (now (table .exit)) r ⌝ }
 {
@@ -53,9 +54,9 @@ pub fn top(message: &[u8], table: &mut [u32]) -> Stage
 // 10 on `recipients`, 11, and 8 to 10 on its elements: the recipients as numbers of the table, three each, and how many they
 // are. The entries are those of a top level that has passed.
 pub fn recipients(message: &[u8], table: &[u32], count: usize, into: &mut [usize]) -> Stage
-    requires { ⌜ length (now message) ≤ 16777216 ⌝ }
-    requires { ⌜ count * 8 ≤ length (now table) ⌝ }
-    requires { ⌜ 24 ≤ length (now into) ⌝ }
+    requires { ⌜ length (now message) ≤ longest ⌝ }
+    requires { ⌜ count * width ≤ length (now table) ⌝ }
+    requires { ⌜ recipientsRoom ≤ length (now into) ⌝ }
     requires { ⌜ first (topOrder (now message)) ≡ 0 ⌝ }
     requires { ⌜ entriesOf count (now table) ≡ topEntries (now message) ⌝ }
     ensures { λ r. ⌜ r ≡ stageOf (first (elementsOrder (now (message .entry)) (entriesOf count (now (table .entry))))) (length (recipientsIn (now (message .entry)) (entriesOf count (now (table .entry))))) ⌝ }

@@ -6,7 +6,7 @@ ghost use Prim.Native.Nat.{_+_, _*_, _≤_};
 ghost use lib.ListN.{length, drop};
 ghost use Rattle.grammar.specs.Grammar.{curly};
 ghost use Rattle.prelude.specs.Any.{any};
-ghost use Rattle.rows.specs.Tables.{firstOf, entriesOf};
+ghost use Rattle.rows.specs.Tables.{firstOf, entriesOf, width};
 ghost use Rattle.shape.specs.Shape.{wrongComponent, hollow, wrongHeader, wrongMember, wrongTop};
 ghost use Rattle.shape.specs.Shape.{wrongInElement, wrongElement};
 use json::Position;
@@ -15,8 +15,8 @@ use rows::ask::present;
 
 // Whether an entry is no component: a string without a backslash, and not empty unless it is the ciphertext.
 fn wrong_component(message: &[u8], table: &[u32], i: usize) -> bool
-    requires { ⌜ i * 8 + 8 ≤ length (now table) ⌝ }
-    ensures { λ r. ⌜ r ≡ wrongComponent (now (message .entry)) (firstOf (drop (i * 8) (now (table .entry)))) ⌝ }
+    requires { ⌜ i * width + width ≤ length (now table) ⌝ }
+    ensures { λ r. ⌜ r ≡ wrongComponent (now (message .entry)) (firstOf (drop (i * width) (now (table .entry)))) ⌝ }
 {
     if field(table, i, 5) != 2 {
         return true;
@@ -43,8 +43,8 @@ fn hollow(message: &[u8], at: usize) -> bool
 
 // Whether an entry is no header: an object with a member.
 fn wrong_header(message: &[u8], table: &[u32], i: usize) -> bool
-    requires { ⌜ i * 8 + 8 ≤ length (now table) ⌝ }
-    ensures { λ r. ⌜ r ≡ wrongHeader (now (message .entry)) (firstOf (drop (i * 8) (now (table .entry)))) ⌝ }
+    requires { ⌜ i * width + width ≤ length (now table) ⌝ }
+    ensures { λ r. ⌜ r ≡ wrongHeader (now (message .entry)) (firstOf (drop (i * width) (now (table .entry)))) ⌝ }
 {
     if field(table, i, 5) != 0 {
         return true;
@@ -54,8 +54,8 @@ fn wrong_header(message: &[u8], table: &[u32], i: usize) -> bool
 
 // Whether an entry is a known member that is wrong.
 fn wrong_member(message: &[u8], table: &[u32], i: usize) -> bool
-    requires { ⌜ i * 8 + 8 ≤ length (now table) ⌝ }
-    ensures { λ r. ⌜ r ≡ wrongMember (now (message .entry)) (firstOf (drop (i * 8) (now (table .entry)))) ⌝ }
+    requires { ⌜ i * width + width ≤ length (now table) ⌝ }
+    ensures { λ r. ⌜ r ≡ wrongMember (now (message .entry)) (firstOf (drop (i * width) (now (table .entry)))) ⌝ }
 {
     let number = field(table, i, 6);
     if number == 0 {
@@ -75,7 +75,7 @@ fn wrong_member(message: &[u8], table: &[u32], i: usize) -> bool
 
 // Whether one of the first entries is.
 fn some_wrong(message: &[u8], table: &[u32], count: usize) -> bool
-    requires { ⌜ count * 8 ≤ length (now table) ⌝ }
+    requires { ⌜ count * width ≤ length (now table) ⌝ }
     ensures { λ r. ⌜ r ≡ any (wrongMember (now (message .entry))) (entriesOf count (now (table .entry))) ⌝ }
 {
     let mut i: usize = 0;
@@ -90,7 +90,7 @@ fn some_wrong(message: &[u8], table: &[u32], count: usize) -> bool
 
 // 10 on the top level, the elements of `recipients` aside.
 pub(crate) fn wrong_top(message: &[u8], table: &[u32], count: usize) -> bool
-    requires { ⌜ count * 8 ≤ length (now table) ⌝ }
+    requires { ⌜ count * width ≤ length (now table) ⌝ }
     ensures { λ r. ⌜ r ≡ wrongTop (now (message .entry)) (entriesOf count (now (table .entry))) ⌝ }
 {
     if some_wrong(message, table, count) {
@@ -110,8 +110,8 @@ pub(crate) fn wrong_top(message: &[u8], table: &[u32], count: usize) -> bool
 
 // Whether an entry is `header` or `encrypted_key`, the members that an element knows, and wrong.
 fn wrong_in_element(message: &[u8], table: &[u32], i: usize) -> bool
-    requires { ⌜ i * 8 + 8 ≤ length (now table) ⌝ }
-    ensures { λ r. ⌜ r ≡ wrongInElement (now (message .entry)) (firstOf (drop (i * 8) (now (table .entry)))) ⌝ }
+    requires { ⌜ i * width + width ≤ length (now table) ⌝ }
+    ensures { λ r. ⌜ r ≡ wrongInElement (now (message .entry)) (firstOf (drop (i * width) (now (table .entry)))) ⌝ }
 {
     let number = field(table, i, 6);
     if number == 3 {
@@ -125,7 +125,7 @@ fn wrong_in_element(message: &[u8], table: &[u32], i: usize) -> bool
 
 // 10 on an element of `recipients`.
 pub(crate) fn wrong_element(message: &[u8], table: &[u32], count: usize) -> bool
-    requires { ⌜ count * 8 ≤ length (now table) ⌝ }
+    requires { ⌜ count * width ≤ length (now table) ⌝ }
     ensures { λ r. ⌜ r ≡ wrongElement (now (message .entry)) (entriesOf count (now (table .entry))) ⌝ }
 {
     let mut i: usize = 0;

@@ -1,11 +1,13 @@
 // Components and values shown in place, as parts of the caller's own texts. What each function shows stands in
 // specs/Shown.
 ghost use mathlib.Core.Path.{_≡_};
-ghost use Rattle.shown.specs.Shown.{componentShown, valueShown};
+ghost use denote.Ref.{ptr};
+ghost use Rattle.shown.specs.Shown.{componentShown, componentAt, valueShown, valueAt};
 
 // A component, by its place, as that part of the message; the empty part where the place does not fit.
 pub fn component(message: &[u8], start: usize, len: usize) -> &[u8]
-    ensures { λ r. ⌜ now r ≡ componentShown (now (message .entry)) start len ⌝ }
+    ensures octets { λ r. ⌜ now r ≡ componentShown (now (message .entry)) start len ⌝ }
+    ensures place { λ r. ⌜ ptr r ≡ componentAt (message .entry) start len ⌝ }
 {
     parts::part(message, start, len)
 }
@@ -19,7 +21,8 @@ pub fn value<'a>(
     start: usize,
     len: usize,
 ) -> &'a [u8]
-    ensures { λ r. ⌜ now r ≡ valueShown (now (message .entry)) (now (header .entry)) origin start len ⌝ }
+    ensures octets { λ r. ⌜ now r ≡ valueShown (now (message .entry)) (now (header .entry)) origin start len ⌝ }
+    ensures place { λ r. ⌜ ptr r ≡ valueAt (message .entry) (header .entry) origin start len ⌝ }
 {
     if 2 < origin {
         return &message[..0];

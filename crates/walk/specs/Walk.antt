@@ -12,8 +12,7 @@ use Rattle.grammar.specs.Reader.{skipSpace, Entry, entryAt, valueAt}
 use Rattle.grammar.specs.Readings.{Reading}
 use Rattle.json.specs.Members.{firstIn, nextFrom, rowOf, fiveOf}
 use Rattle.prelude.specs.Refusals.{Test, _if_, first}
-use Rattle.jose.specs.HeaderRules.{levels}
-use Rattle.prelude.specs.Limits.{longest}
+use Rattle.prelude.specs.Limits.{levels, longest}
 use Rattle.headers.specs.Headers.{unread, protectedEntries, objectOrder}
 use Rattle.walk.specs.declared.Opening.{Opening}
 use Rattle.walk.specs.declared.Handed.{Handed}

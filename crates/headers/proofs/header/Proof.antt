@@ -35,7 +35,7 @@ decodes : (c : tie.After-decode) →
 decodes c =
     let start = c .before .before .before .before .before in
     decoding (start .args .message .now) (placeOf (start .args .place)) (start .pre .0) (start .args .buffer .now)
-    (start .pre .1) _ _ _ (c .before .before .part .ensures) (c .decode .ensures)
+    (start .pre .1) _ _ _ (c .before .before .part .ensures .0) (c .decode .ensures)
 
 -- where it answers octets
 begins : (c : tie.After-known-told) →

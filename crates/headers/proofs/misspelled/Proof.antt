@@ -13,7 +13,7 @@ faulty : (c : tie.After-check) →
     isFaulty (c .check .result) ≡ misspelled (args .message .now) (placeOf (args .place))
 faulty c =
     let args = c .before .before .before .args in
-    checked (args .message .now) (placeOf (args .place)) _ _ (c .before .part .ensures) (c .check .ensures)
+    checked (args .message .now) (placeOf (args .place)) _ _ (c .before .part .ensures .0) (c .check .ensures)
 
 part-requires : tie.Need-part-requires
 part-requires c κs = search needs

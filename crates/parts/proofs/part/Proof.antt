@@ -1,9 +1,9 @@
--- `part` gives the octets at a place: each of its tests settles whether the place fits.
+-- `part` gives the octets at a place, and points there: each of its tests settles whether the place fits.
 use Prim.Native.Nat.{ℕ, _+_, _-_}
 use mathlib.Core.Path.{_≡_, ap, sym, _∙_}
 use native.Mathlib.Omega.{arith}
 use lib.ListN.{take, drop}
-use Rattle.parts.proofs.Laws.{part-fits, part-empty}
+use Rattle.parts.proofs.Laws.{part-fits, part-empty, part-at-fits, part-at-empty}
 use borrow.Author.Needs.{needs}
 use Rattle.parts.proofs.part.Statement.{statement}
 use Rattle.parts.proofs.part.Tie as tie
@@ -13,16 +13,20 @@ slice-aggregate-result c = search needs
 
 returns : tie.Need-returns
 returns c =
-    let given = c .before .before .args in
-    sym (part-empty (given .s .now) (given .start) (given .len) (omega arith))
+    let given = c .before .before .args in (
+      sym (part-empty (given .s .now) (given .start) (given .len) (omega arith)),
+      sym (part-at-empty (given .s) (given .start) (given .len) (omega arith)),
+    )
 
 slice-aggregate-result-2 : tie.Need-slice-aggregate-result-2
 slice-aggregate-result-2 c = search needs
 
 returns-2 : tie.Need-returns-2
 returns-2 c =
-    let given = c .before .before .before .args in
-    sym (part-empty (given .s .now) (given .start) (given .len) (omega arith))
+    let given = c .before .before .before .args in (
+      sym (part-empty (given .s .now) (given .start) (given .len) (omega arith)),
+      sym (part-at-empty (given .s) (given .start) (given .len) (omega arith)),
+    )
 
 add-end : tie.Need-add-end
 add-end c = search needs
@@ -40,8 +44,12 @@ returns-3 : tie.Need-returns-3
 returns-3 c =
     let given = c .before .before .before .args in
     let size : given .start + given .len - given .start ≡ given .len = omega arith in
-    ap (λ (n : ℕ). take n (drop (given .start) (given .s .now))) size
-    ∙ sym (part-fits (given .s .now) (given .start) (given .len) (omega arith))
+    let offset : given .start + given .s .ptr .1 ≡ given .s .ptr .1 + given .start = omega arith in (
+      ap (λ (n : ℕ). take n (drop (given .start) (given .s .now))) size
+          ∙ sym (part-fits (given .s .now) (given .start) (given .len) (omega arith)),
+      ap (λ (n : ℕ). (given .s .ptr .0, n)) offset
+          ∙ sym (part-at-fits (given .s) (given .start) (given .len) (omega arith)),
+    )
 
 pub part-spec : {M : Type 1} → statement M
 part-spec =

@@ -53,7 +53,7 @@ returns-2 c =
     let z = sym (number-first message known (given .recipient) 4096 576 r (read .ensures .0)) ∙ chosen .before .if1 .left in
     let are = components-are message known (given .recipient) n r (read .ensures .0) z in
     let shown =
-    c .before .before .before .before .before .component .ensures
+    c .before .before .before .before .before .component .ensures .0
     ∙ ap (λ (q : Place). part message (q .start) (q .len)) (chosen .place-of .ensures)
     ∙ ap (λ (q : headers.Components). octetsAt message (componentPlace q n)) are in
     let call = c .before .before .jwe-decode in

@@ -58,7 +58,7 @@ returns c =
     let header = given .header .now in
     let message = given .message .now in
     let w = given .w .now in
-    c .alike .ensures ∙ ap (λ (v : List ℕ). alike v w) (c .before .part .ensures)
+    c .alike .ensures ∙ ap (λ (v : List ℕ). alike v w) (c .before .part .ensures .0)
     ∙ says-at header message (given .table .now) (given .i * 8) header
     (text-header header message _ (c .before .before .if1 .taken)) w
 
@@ -74,7 +74,7 @@ returns-2 c =
     let header = given .header .now in
     let message = given .message .now in
     let w = given .w .now in
-    c .alike2 .ensures ∙ ap (λ (v : List ℕ). alike v w) (c .before .part2 .ensures)
+    c .alike2 .ensures ∙ ap (λ (v : List ℕ). alike v w) (c .before .part2 .ensures .0)
     ∙ says-at header message (given .table .now) (given .i * 8) message
     (text-message header message _ (c .before .before .if1 .left)) w
 

@@ -3,7 +3,8 @@ use mathlib.Core.Path.{_≡_, ap, sym, _∙_}
 use Rattle.grammar.specs.Reader.{elementsAt}
 use Rattle.names.specs.Names.{names}
 use Rattle.prelude.specs.Any.{any}
-use Rattle.jose.specs.HeaderRules.{levels, unknown}
+use Rattle.jose.specs.HeaderRules.{unknown}
+use Rattle.prelude.specs.Limits.{levels}
 use Rattle.jose.specs.Elements.{elementsFrom}
 use Rattle.jose.proofs.Elements.{elements-all}
 use Rattle.jose.proofs.Walks.{of-any, walk-spent, walk-end, walk-found, walk-on}

@@ -29,7 +29,7 @@ part-requires c κs = search needs
 returns-2 : tie.Need-returns-2
 returns-2 c =
     let given = c .before .before .before .before .before .args in
-    c .part .ensures ∙ ap (part (given .s .now) (given .row .value .start + 1)) (c .before .minus .ensures)
+    c .part .ensures .0 ∙ ap (part (given .s .now) (given .row .value .start + 1)) (c .before .minus .ensures)
 
 pub spelled-spec : {M : Type 1} → statement M
 spelled-spec =

@@ -3,7 +3,8 @@ use mathlib.Core.Path.{_≡_, ap, sym, _∙_}
 use native.Mathlib.Omega.{arith}
 use Rattle.grammar.specs.Reader.{elementsAt}
 use Rattle.prelude.specs.Any.{anyPair}
-use Rattle.jose.specs.HeaderRules.{levels, sameElement}
+use Rattle.jose.specs.HeaderRules.{sameElement}
+use Rattle.prelude.specs.Limits.{levels}
 use Rattle.jose.specs.Elements.{elementsFrom}
 use Rattle.jose.proofs.Elements.{elements-all}
 use Rattle.jose.proofs.Walks.{of-pair, walk-spent, walk-end, walk-found, walk-on}

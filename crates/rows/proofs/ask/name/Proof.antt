@@ -23,7 +23,7 @@ returns c =
     let len = c .before .before .before .field2 .ensures .0 in
     let origin = c .before .before .field3 .ensures .0 in
     let text = text-header (args .header .now) (args .message .now) origin (c .before .if1 .taken) in
-    part-is text start len (c .part .ensures)
+    part-is text start len (c .part .ensures .0)
 
 part-requires-2 : tie.Need-part-requires-2
 part-requires-2 c κs = search needs
@@ -35,7 +35,7 @@ returns-2 c =
     let len = c .before .before .before .field2 .ensures .0 in
     let origin = c .before .before .field3 .ensures .0 in
     let text = text-message (args .header .now) (args .message .now) origin (c .before .if1 .left) in
-    part-is text start len (c .part2 .ensures)
+    part-is text start len (c .part2 .ensures .0)
 
 pub name-spec : {M : Type 1} → statement M
 name-spec =

@@ -32,7 +32,7 @@ returns c =
     let size = c .before .before .before .minus .ensures ∙ ap (λ (n : ℕ). n - 2) long in
     let origin = c .before .before .field3 .ensures .0 in
     let text = text-header (args .header .now) (args .message .now) origin (c .before .if1 .taken) in
-    part-is text begin size (c .part .ensures)
+    part-is text begin size (c .part .ensures .0)
 
 part-requires-2 : tie.Need-part-requires-2
 part-requires-2 c κs = search needs
@@ -45,7 +45,7 @@ returns-2 c =
     let size = c .before .before .before .minus .ensures ∙ ap (λ (n : ℕ). n - 2) long in
     let origin = c .before .before .field3 .ensures .0 in
     let text = text-message (args .header .now) (args .message .now) origin (c .before .if1 .left) in
-    part-is text begin size (c .part2 .ensures)
+    part-is text begin size (c .part2 .ensures .0)
 
 pub value-spec : {M : Type 1} → statement M
 value-spec =

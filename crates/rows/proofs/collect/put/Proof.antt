@@ -153,7 +153,7 @@ returns c =
     let name = c .before .before .before .before .before .part in
     let entry = eight (entryOf list text origin (firstMember row)) in
     let is = entry-numbers list text origin row (name .result .now) (found .result) (print .result)
-    (name .ensures) (found .ensures) (print .ensures) in
+    (name .ensures .0) (found .ensures) (print .ensures) in
     let opened = begin-as at entry _ (start .args .table .now) is (start .pre .1 .1 .1) in
     let one = put _ (at + 1) refl opened in
     let two = put _ (at + 2) (omega arith) one in

@@ -29,8 +29,8 @@ alike-requires c κs = search needs
 
 returns : tie.Need-returns
 returns c =
-    let one = c .before .before .before .before .part .ensures in
-    let other = c .before .part2 .ensures in
+    let one = c .before .before .before .before .part .ensures .0 in
+    let other = c .before .part2 .ensures .0 in
     c .alike .ensures
     ∙ ap₂ alike
     (part-is refl (c .before .before .before .before .before .before .field .ensures .0) (c .before .before .before .before .before .field2 .ensures .0) one)
