@@ -2,8 +2,8 @@
  * writes; nothing else is needed.
  *
  * Every function answers a refusal: 0, or a number of docs/REFUSALS.md. Where octets are written, *octets is how many,
- * at the start of out, and the rest of out is as it was; refused, *octets is 0 and every lent buffer is as it was.
- * Every length is a size_t and is never cut. Texts need not end in a NUL.
+ * at the start of out, and the rest of out is unchanged; refused, *octets is 0 and every lent buffer is unchanged.
+ * Every length is a size_t and is never cut. Texts need not end in a NUL. docs/RULES.md has the rules.
  *
  * The functions keep no state, allocate nothing and may be called from any thread. Pointers are not NULL, also where
  * the length beside them is 0; no two of a call's buffers overlap where one of them is written. jwe_judge,
@@ -100,8 +100,8 @@ enum {
 /* Reads a message for a recipient. Accepted: header begins with the decoded protected header; list with six numbers a
  * parameter: origin (0 protected, 1 shared, 2 own), the name's start and length without quotation marks, the value's
  * start and length with them, and its kind (0 object, 1 array, 2 string, 3 number, 4 true, 5 false, 6 null), places of
- * origin 0 counting in the header and others in the message; result with 18 numbers. Each goes on as it was; refused,
- * all are as they were. */
+ * origin 0 counting in the header and others in the message; result with 18 numbers. The rest of each is unchanged; refused,
+ * all of it is. */
 uint32_t jwe_read(const uint8_t *message, size_t message_len, const uint8_t *known, size_t known_len,
                   uint32_t recipient, uint8_t *header, size_t header_len, uint32_t *list, size_t list_len,
                   uint32_t *result, size_t result_len);

@@ -1,4 +1,4 @@
-//! Messages written by hand, each with the answer that document 01 gives it: its samples, every number, the borders of
+//! Messages written by hand, each with the answer that document 01 (docs/RULES.md) gives it: its samples, every number, the borders of
 //! every size, and for each two numbers that follow one another in its orders a message with both faults.
 
 use super::second::Answer;
