@@ -1,9 +1,7 @@
 -- The code's answers: document 01's number for each, and what they hold.
-use mathlib.Core.Path.{_≡_}
 use mathlib.Core.List.{List}
 use mathlib.Core.Bool.{cond}
 use Prim.Native.Nat.{ℕ}
-use lib.ListN.{length}
 use lib.Dec.{eqb}
 use Rattle.prelude.specs.Buffer.{written}
 use Rattle.grammar.specs.Places as json
@@ -19,11 +17,6 @@ placeOf q = record { start = q .start; size = q .len }
 -- A stage's answer, by its first refusal, 0 where there is none, and by what it passes.
 unfoldable pub stageOf : ℕ → ℕ → Stage
 stageOf n passed = cond (eqb n 0) (Passed passed) (Refused n)
-
--- What a stage leaves in a table: where it passes, the table begins with the numbers and goes on as it was.
-abbrev pub Leaves : List ℕ → List ℕ → List ℕ → Stage → Type 0
-Leaves numbers before after (Passed n) = after ≡ written 0 numbers before
-Leaves numbers before after (Refused n) = length after ≡ length before
 
 -- The buffer into which a header is decoded.
 unfoldable pub headerBuffer : List ℕ → List ℕ → List ℕ

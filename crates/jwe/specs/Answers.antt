@@ -71,7 +71,8 @@ numbers r =
     (placeNumbers (r .components .ciphertext) (placeNumbers (r .components .tag) (r .header ∷ r .parameters ∷ []))))))
 
 -- A message judged by an order: refused by its first failing test, or accepted with the numbers of its outcome, the decoded
--- header at the start of the text buffer and the entries at the start of the table.
+-- header at the start of the text buffer and the entries at the start of the table. Where it is refused the contents of
+-- both are free and their lengths are kept: they are local ones of `read`, which does not read them then.
 abbrev pub Judges : List ℕ → List Test → Outcome → Judged → List ℕ → List ℕ → List ℕ → List ℕ → Type 0
 Judges message order x (Accepted r) text₀ text table₀ table =
     (first order ≡ 0)

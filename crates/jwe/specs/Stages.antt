@@ -53,10 +53,11 @@ OwnAt message of own counts k =
 abbrev pub Owned : ℕ → List ℕ → List ℕ → List ℕ → List ℕ → Type 0
 Owned number message of own counts = (k : ℕ) → k < number → OwnAt message of own counts k
 
--- What collecting them leaves where it passes.
+-- What collecting them leaves. Where it refuses the contents are free and the lengths are kept: both tables are local ones
+-- of `headed`, which does not read them then.
 abbrev pub LeavesOwn : ℕ → List ℕ → List ℕ → List ℕ → List ℕ → Stage → Type 0
 LeavesOwn number message of own counts (Passed n) = Owned number message of own counts
-LeavesOwn number message of own counts (Refused n) = Unit {0}
+LeavesOwn number message of own counts (Refused n) = (length own ≡ ownTable) × (length counts ≡ mostRecipients)
 
 -- What is known of the headers of a message that has been judged: where one stands, what opens in it reads.
 
@@ -127,7 +128,7 @@ shapedOutcome message es rs recipient =
       entries = parameters header message es r;
     }
 
--- As Answers' Judges, the header having been decoded before.
+-- As Answers' Judges, the header having been decoded before; where it is refused the table's contents are free likewise.
 abbrev pub Heads : List ℕ → List Test → Outcome → Judged → List ℕ → List ℕ → Type 0
 Heads text order x (message.Accepted r) table₀ table =
     (first order ≡ 0) × (numbers r ≡ accepted text x) × (table ≡ written 0 (flat (x .entries)) table₀)

@@ -37,7 +37,7 @@ fn between(a: usize, b: usize) -> Place
 }
 
 // The components of a message.
-pub fn split(message: &[u8]) -> FullStops
+pub(crate) fn split(message: &[u8]) -> FullStops
     requires { ⌜ length (now message) ≤ longest ⌝ }
     ensures { λ r. ⌜ r ≡ splitOf (now (message .entry)) ⌝ }
 {
@@ -67,7 +67,7 @@ pub fn split(message: &[u8]) -> FullStops
 }
 
 // 5: whether a component is not base64url.
-pub fn misspelled(message: &[u8], q: Components) -> bool
+pub(crate) fn misspelled(message: &[u8], q: Components) -> bool
     ensures { λ r. ⌜ r ≡ any (misspelled (now (message .entry))) (places (componentsOf q)) ⌝ }
 {
     if headers::misspelled(message, q.protected) {
@@ -133,7 +133,7 @@ fn judge_header(
 
 // A compact message judged in document 01's order, from 4 on; `text` and `table` are room for the decoded header and for
 // its entries.
-pub fn judge(
+pub(crate) fn judge(
     message: &[u8],
     known: &[u8],
     recipient: u32,

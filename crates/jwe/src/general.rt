@@ -403,7 +403,7 @@ fn shaped(
 }
 
 // A JSON message judged for a recipient.
-pub fn judge(
+pub(crate) fn judge(
     message: &[u8],
     known: &[u8],
     recipient: u32,

@@ -10,7 +10,7 @@ pub enum Judged {
 }
 
 // The refusal of a stage, handed up unchanged.
-pub fn handed(stage: Stage) -> Judged
+pub(crate) fn handed(stage: Stage) -> Judged
     ensures { λ r. ⌜ r ≡ handed stage ⌝ }
 {
     let Stage::Refused(n) = stage else {
@@ -20,7 +20,7 @@ pub fn handed(stage: Stage) -> Judged
 }
 
 // That of the rules on a recipient, likewise.
-pub fn ruled_out(judged: jose::judge::Judged) -> Judged
+pub(crate) fn ruled_out(judged: jose::judge::Judged) -> Judged
     ensures { λ r. ⌜ r ≡ ruledOut judged ⌝ }
 {
     let jose::judge::Judged::Refused(n) = judged else {

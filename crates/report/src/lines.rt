@@ -47,7 +47,7 @@ const KINDS: [u8; 44] = *b"\x07\
     false\
     null";
 
-pub fn put_first(form: u32, count: usize, mode: u32, out: &mut [u8], at: usize) -> usize
+pub(crate) fn put_first(form: u32, count: usize, mode: u32, out: &mut [u8], at: usize) -> usize
     requires { ⌜ at + length (firstLine form count mode) ≤ length (now out) ⌝ }
     ensures { λ r. ⌜ r ≡ at + length (firstLine form count mode) ⌝ }
     ensures { λ _. ⌜ now (out .exit) ≡ written at (firstLine form count mode) (now (out .entry)) ⌝ }
@@ -70,7 +70,7 @@ fn put_component(name: &[u8], place: Place, out: &mut [u8], at: usize) -> usize
     put_number(place.len, b'\n', out, b)
 }
 
-pub fn put_components(places: Components, out: &mut [u8], at: usize) -> usize
+pub(crate) fn put_components(places: Components, out: &mut [u8], at: usize) -> usize
     requires { ⌜ at + length (componentLines (componentsOf places)) ≤ length (now out) ⌝ }
     ensures { λ r. ⌜ r ≡ at + length (componentLines (componentsOf places)) ⌝ }
     ensures { λ _. ⌜ now (out .exit) ≡ written at (componentLines (componentsOf places)) (now (out .entry)) ⌝ }
@@ -101,7 +101,7 @@ fn put_parameter(six: &[u32], out: &mut [u8], at: usize) -> usize
 }
 
 // The first parameters of the reader's list.
-pub fn put_parameters(list: &[u32], count: usize, out: &mut [u8], at: usize) -> usize
+pub(crate) fn put_parameters(list: &[u32], count: usize, out: &mut [u8], at: usize) -> usize
     requires { ⌜ count * 6 ≤ length (now list) ⌝ }
     requires { ⌜ at + length (listLines count (now list)) ≤ length (now out) ⌝ }
     ensures { λ r. ⌜ r ≡ at + length (listLines count (now (list .entry))) ⌝ }

@@ -7,7 +7,7 @@ ghost use Rattle.prelude.specs.Buffer.{written};
 ghost use Rattle.names.specs.Names.{names, filled};
 ghost use Rattle.report.specs.Text.{decimal, word, ended};
 
-pub fn put_word(word: &[u8], end: u8, out: &mut [u8], at: usize) -> usize
+pub(crate) fn put_word(word: &[u8], end: u8, out: &mut [u8], at: usize) -> usize
     requires { ⌜ at + length (ended (now word) end) ≤ length (now out) ⌝ }
     ensures { λ r. ⌜ r ≡ at + length (ended (now (word .entry)) end) ⌝ }
     ensures { λ _. ⌜ now (out .exit) ≡ written at (ended (now (word .entry)) end) (now (out .entry)) ⌝ }
@@ -33,7 +33,7 @@ fn put_digits(n: usize, out: &mut [u8], at: usize) -> usize
     last + 1
 }
 
-pub fn put_number(n: usize, end: u8, out: &mut [u8], at: usize) -> usize
+pub(crate) fn put_number(n: usize, end: u8, out: &mut [u8], at: usize) -> usize
     requires { ⌜ at + length (ended (decimal n) end) ≤ length (now out) ⌝ }
     ensures { λ r. ⌜ r ≡ at + length (ended (decimal n) end) ⌝ }
     ensures { λ _. ⌜ now (out .exit) ≡ written at (ended (decimal n) end) (now (out .entry)) ⌝ }
@@ -51,7 +51,7 @@ fn least(a: usize, b: usize) -> usize
 
 // The n-th word of a list, counted from 1; the first for 0, and the last where there are fewer. The list has contents first,
 // as `names` reads it.
-pub fn put_named(list: &[u8], n: usize, end: u8, out: &mut [u8], at: usize) -> usize
+pub(crate) fn put_named(list: &[u8], n: usize, end: u8, out: &mut [u8], at: usize) -> usize
     requires { ⌜ filled (now list) ≡ true ⌝ }
     requires { ⌜ 1 ≤ getD (now list) 0 0 ⌝ }
     requires { ⌜ at + length (ended (word n (names (now list))) end) ≤ length (now out) ⌝ }

@@ -5,22 +5,24 @@ use mathlib.Core.List.{List, [], _∷_, _++_, map, flatMap}
 use Prim.Native.Nat.{ℕ, _≤_}
 use native.Mathlib.Omega.{arith}
 use lib.ListN.{length, take}
-use lib.Dec.{ltb}
-use borrow.Author.Tests.{ltb-false}
+use lib.Dec.{eqb, ltb}
+use borrow.Author.Tests.{ltb-false, eq-eqb, ne-eqb}
+use Rattle.prelude.specs.Buffer.{written}
 use Rattle.prelude.proofs.Writing.{begins}
 use Rattle.grammar.specs.Places.{Element}
 use Rattle.grammar.specs.Reader.{elementsAt}
 use Rattle.rows.specs.Rows.{Entry, present, valueOf}
 use Rattle.prelude.specs.Refusals.{Test, _if_, first}
 use Rattle.prelude.proofs.Refusals.{nonzero}
-use Rattle.headers.specs.Answers.{stageOf, Leaves}
+use Rattle.headers.specs.Answers.{stageOf}
 use Rattle.headers.specs.declared.Stage.{Stage}
 use Rattle.headers.specs.declared.Stage.the-variants.{Passed, Refused}
-use Rattle.headers.proofs.Stages.{passed-is}
+use Rattle.headers.proofs.Stages.{passed-is, refused-is}
 use Rattle.shape.specs.Shape.{Recipient, recipientOf, wrongElements}
 use Rattle.shape.specs.Recipients.{elementsIn, elementEntries, elementOrder, elementsOrder, recipientsIn}
-use Rattle.shape.specs.Answers.{three, flatRecipients, arrayOrder, startsOf, startsOrder, recipientsAt}
-use Rattle.shape.proofs.Orders.{handed-up, gone-on}
+use Rattle.shape.specs.Answers.{three, flatRecipients, arrayOrder, startsOf, startsOrder, recipientsAt, passedAt, writtenIn, Leaves}
+use Rattle.shape.proofs.Orders.{handed-up, gone-on, both-pass}
+use Rattle.shape.proofs.Reading.{element-nonzero}
 use Rattle.shape.proofs.Walking.{starts-length}
 
 -- Elements by their starts.
@@ -57,6 +59,21 @@ few xs e = ltb-false 8 (length xs) (cases (wrongElements xs) (ltb 8 (length xs))
     cases false true z = let absurdity : _≡_ {A = ℕ} 11 0 = z in absurd (omega arith)
     cases false false z = refl
 
+-- What is written of a general message's recipients.
+abbrev general-written : List ℕ → List Element → List Recipient
+general-written message xs = cond (eqb (first (arrayOrder xs)) 0) (passedAt message (startsOf xs)) []
+
+-- All are, where none is refused.
+all-passed : (message starts : List ℕ) → first (startsOrder message starts) ≡ 0 →
+    passedAt message starts ≡ recipientsAt message starts
+unfolding startsOrder passedAt recipientsAt
+all-passed message [] e = refl
+all-passed message (x ∷ starts) e =
+    let here = both-pass (elementOrder message x) (startsOrder message starts) (element-nonzero message x) e in
+    ap (λ (b : Bool). cond b (recipientOf (elementEntries message x) ∷ passedAt message starts) [])
+    (eq-eqb (first (elementOrder message x)) 0 (here .0))
+    ∙ ap (λ (l : List Recipient). recipientOf (elementEntries message x) ∷ l) (all-passed message starts (here .1))
+
 -- Flattened: there is no `recipients`.
 module _ (message : List ℕ) (es : List Entry) (p : present 5 es ≡ false) where
   no-order : elementsOrder message es ≡ []
@@ -75,14 +92,20 @@ module _ (message : List ℕ) (es : List Entry) (p : present 5 es ≡ false) whe
       (map (λ (x : Element). recipientOf (elementEntries message (x .start))) (elementsIn message es))
       (recipientOf es ∷ [])) p
 
+  alone : writtenIn message es ≡ recipientsIn message es
+  unfolding writtenIn
+  alone =
+      ap (λ (b : Bool). cond b (general-written message (elementsIn message es)) (recipientOf es ∷ [])) p ∙ sym itself
+
   pub flattened : Passed 1 ≡ stageOf (first (elementsOrder message es)) (length (recipientsIn message es))
   unfolding first stageOf
   flattened =
       sym (ap₂ (λ (o : List Test) (rs : List Recipient). stageOf (first o) (length rs)) no-order itself)
 
-  pub flattened-numbers : three (recipientOf es) ≡ flatRecipients (recipientsIn message es)
-  unfolding flatRecipients
-  flattened-numbers = sym (ap flatRecipients itself)
+  pub flattened-numbers : three (recipientOf es) ≡ flatRecipients (writtenIn message es)
+  unfolding flatRecipients writtenIn
+  flattened-numbers =
+      sym (ap (λ (b : Bool). flatRecipients (cond b (general-written message (elementsIn message es)) (recipientOf es ∷ []))) p)
 
 -- General: xs are the elements of `recipients`.
 module _ (message : List ℕ) (es : List Entry) (p : present 5 es ≡ true) (at : ℕ) (v : at ≡ valueOf 5 es .start) where
@@ -115,6 +138,12 @@ module _ (message : List ℕ) (es : List Entry) (p : present 5 es ≡ true) (at 
       ∙ ap (λ (ys : List Element). map (λ (x : Element). recipientOf (elementEntries message (x .start))) ys) all
       ∙ recipients-starts message xs
 
+  wrote : writtenIn message es ≡ general-written message xs
+  unfolding writtenIn
+  wrote =
+      ap (λ (b : Bool). cond b (general-written message (elementsIn message es)) (recipientOf es ∷ [])) p
+      ∙ ap (general-written message) all
+
   module _ (walked : Stage) (a : walked ≡ stageOf (first (arrayOrder (elementsAt 12 message at)))
       (length (elementsAt 12 message at))) where
     -- The walk refuses.
@@ -124,6 +153,16 @@ module _ (message : List ℕ) (es : List Entry) (p : present 5 es ≡ true) (at 
         e ∙ handed-up (arrayOrder xs) (startsOrder message (startsOf xs)) (array-nonzero xs) m (length xs)
         (length (recipientsIn message es)) (sym e ∙ a)
         ∙ ap (λ (o : List Test). stageOf (first o) (length (recipientsIn message es))) (sym order)
+
+    pub general-none : (m : ℕ) → walked ≡ Refused m → (before : List ℕ) →
+        before ≡ written 0 (flatRecipients (writtenIn message es)) before
+    unfolding written flatRecipients
+    general-none m e before =
+        let told = refused-is m (first (arrayOrder xs)) (length xs) (sym e ∙ a) in
+        let none : writtenIn message es ≡ [] =
+        wrote ∙ ap (λ (b : Bool). cond b (passedAt message (startsOf xs)) [])
+        (ne-eqb (first (arrayOrder xs)) 0 (λ z. omega (arith, z, told .0, told .1))) in
+        sym (ap (λ (rs : List Recipient). written 0 (flatRecipients rs) before) none)
 
     module _ (n : ℕ) (e : walked ≡ Passed n) where
       told : (first (arrayOrder xs) ≡ 0) × (n ≡ length xs)
@@ -155,9 +194,26 @@ module _ (message : List ℕ) (es : List Entry) (p : present 5 es ≡ true) (at 
             (length (recipientsIn message es)) (sym e ∙ a))
             ∙ ap (λ (o : List Test). stageOf (first o) (length (recipientsIn message es))) (sym order)
 
-        pub general-leaves : (before after : List ℕ) (r : Stage) →
-            Leaves (flatRecipients (recipientsAt message starts)) before after r →
-            Leaves (flatRecipients (recipientsIn message es)) before after r
-        general-leaves before after r l =
-            subst (λ (rs : List Recipient). Leaves (flatRecipients rs) before after r)
-            (ap (recipientsAt message) s ∙ sym are) l
+        pub general-writes : passedAt message starts ≡ writtenIn message es
+        general-writes =
+            ap (passedAt message) s
+            ∙ sym (ap (λ (b : Bool). cond b (passedAt message (startsOf xs)) [])
+            (eq-eqb (first (arrayOrder xs)) 0 (told .0)))
+            ∙ sym wrote
+
+-- Where nothing is refused, all recipients are written.
+pub all-written : (message : List ℕ) (es : List Entry) → first (elementsOrder message es) ≡ 0 →
+    writtenIn message es ≡ recipientsIn message es
+all-written message es e = cases (present 5 es) refl
+  where
+    cases : (b : Bool) → present 5 es ≡ b → writtenIn message es ≡ recipientsIn message es
+    cases true p =
+        let xs = elementsAt 12 message (valueOf 5 es .start) in
+        let passed = both-pass (arrayOrder xs) (startsOrder message (startsOf xs)) (array-nonzero xs)
+        (sym (ap first (order message es p (valueOf 5 es .start) refl)) ∙ e) in
+        wrote message es p (valueOf 5 es .start) refl
+        ∙ ap (λ (b : Bool). cond b (passedAt message (startsOf xs)) [])
+        (eq-eqb (first (arrayOrder xs)) 0 (passed .0))
+        ∙ all-passed message (startsOf xs) (passed .1)
+        ∙ sym (are message es p (valueOf 5 es .start) refl)
+    cases false p = alone message es p

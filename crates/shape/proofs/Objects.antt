@@ -6,8 +6,8 @@ use mathlib.Core.List.{List, [], _∷_, _++_}
 use Prim.Native.Nat.{ℕ, _+_, _*_, _≤_}
 use native.Mathlib.Omega.{arith}
 use lib.ListN.{length, length-map}
-use lib.Dec.{leb, ltb}
-use borrow.Author.Tests.{ltb-false, leb-true, le-leb}
+use lib.Dec.{ltb}
+use borrow.Author.Tests.{ltb-false, le-leb}
 use Rattle.prelude.specs.Buffer.{written}
 use Rattle.prelude.proofs.Writing.{written-length}
 use Rattle.grammar.specs.Places.{Member}
@@ -17,18 +17,18 @@ use Rattle.json.specs.declared.Found.{Found}
 use Rattle.rows.specs.Rows.{Entry, entryOf, entriesIn, repeated}
 use Rattle.rows.specs.Tables.{flat, entriesOf, collectedTable}
 use Rattle.rows.proofs.Entries.{flat-length, entries-written}
-use Rattle.prelude.specs.Refusals.{_if_, first}
+use Rattle.prelude.specs.Refusals.{Test, _if_, first}
 use Rattle.prelude.proofs.Refusals.{first-fails, first-passes}
 use Rattle.headers.specs.Headers.{isNothing, unread, outermost, objectOrder}
-use Rattle.headers.specs.Answers.{stageOf, Leaves}
+use Rattle.headers.specs.Answers.{stageOf}
 use Rattle.headers.specs.declared.Stage.{Stage}
 use Rattle.headers.specs.declared.Stage.the-variants.{Passed, Refused}
 use Rattle.headers.proofs.Stages.{passed-is, object-nonzero}
 use Rattle.headers.proofs.Texts.{noValue}
 use Rattle.shape.specs.Shape.{memberNames, memberEntries, wrongTop, wrongElement}
-use Rattle.shape.specs.Recipients.{topEntries, topOrder, elementEntries, elementOrder}
+use Rattle.shape.specs.Recipients.{topEntries, topOrder, topTable, elementEntries, elementOrder}
 use Rattle.shape.specs.Answers.{LeavesAt}
-use Rattle.shape.proofs.Orders.{handed-up, gone-on, one-fails, one-passes}
+use Rattle.shape.proofs.Orders.{handed-up, gone-on, both-pass, one-fails, one-passes}
 
 entries-count : (names : List (List ℕ)) (s : List ℕ) (o : ℕ) (ms : List Member) →
     length (entriesIn names s o ms) ≡ length ms
@@ -78,7 +78,7 @@ module _ (es : List Entry) (before last : List ℕ) (left : last ≡ collectedTa
     within : length es ≤ 32
     within = few message es (told .0)
 
-    pub entered-table : last ≡ written 0 (flat es) before
+    entered-table : last ≡ written 0 (flat es) before
     unfolding collectedTable
     entered-table =
         left ∙ ap (λ (b : Bool). cond b (written 0 (flat es) before) before) (le-leb (length es) 32 within)
@@ -89,16 +89,6 @@ module _ (es : List Entry) (before last : List ℕ) (left : last ≡ collectedTa
       entries = ap₂ entriesOf (told .1) entered-table ∙ entries-written es before;
       fits = omega (arith, told .1, within, ap length entered-table, room-for es before within room, room);
     }
-
-  -- However it answers, the table is as long as it was.
-  pub as-long : length last ≡ length before
-  unfolding collectedTable
-  as-long = ap length left ∙ cases (leb (length es) 32) refl
-    where
-      cases : (b : Bool) → leb (length es) 32 ≡ b →
-          length (cond b (written 0 (flat es) before) before) ≡ length before
-      cases true t = room-for es before (leb-true (length es) 32 t) room
-      cases false t = refl
 
 module _ (message : List ℕ) (es : List Entry) (answer : Stage)
     (a : answer ≡ stageOf (first (objectOrder message es)) (length es)) where
@@ -147,10 +137,6 @@ pub leaves-refused : (at : ℕ) (numbers before : List ℕ) (r : Stage) (m : ℕ
     LeavesAt at numbers before before r
 leaves-refused at numbers before r m e = subst (λ (x : Stage). LeavesAt at numbers before before x) (sym e) refl
 
-pub stage-refused : (numbers before after : List ℕ) (r : Stage) (m : ℕ) → r ≡ Refused m →
-    length after ≡ length before → Leaves numbers before after r
-stage-refused numbers before after r m e h = subst (λ (x : Stage). Leaves numbers before after x) (sym e) h
-
 -- The top level
 
 by-reading : (a : Answer) → isNothing a ≡ noValue (foundOf a)
@@ -171,6 +157,34 @@ module _ (message : List ℕ) where
   pub top-unread : (n : ℕ) → unread message ≡ true → Refused 7 ≡ stageOf (first (topOrder message)) n
   unfolding topOrder stageOf
   top-unread n e = ap (λ (m : ℕ). stageOf m n) (sym (first-fails (7 if unread message) _ e))
+
+  module _ (table : List ℕ) where
+    -- What is left in the table ..
+    pub top-kept : unread message ≡ true → topTable message table ≡ table
+    unfolding topTable
+    top-kept e = ap (λ (b : Bool). cond b table (collectedTable 0 (topEntries message) table)) e
+
+    pub top-collected : unread message ≡ false → topTable message table ≡ collectedTable 0 (topEntries message) table
+    unfolding topTable
+    top-collected e = ap (λ (b : Bool). cond b table (collectedTable 0 (topEntries message) table)) e
+
+    -- .. and where nothing is refused it begins with the entries.
+    pub top-written : first (topOrder message) ≡ 0 → topTable message table ≡ written 0 (flat (topEntries message)) table
+    unfolding topOrder collectedTable
+    top-written e = cases (unread message) refl
+      where
+        behind : List Test
+        behind = objectOrder message (topEntries message) ++ (10 if wrongTop message (topEntries message) ∷ [])
+
+        cases : (b : Bool) → unread message ≡ b → topTable message table ≡ written 0 (flat (topEntries message)) table
+        cases true u = absurd (omega (arith, sym (first-fails (7 if unread message) behind u) ∙ e))
+        cases false u =
+            let passed = both-pass (objectOrder message (topEntries message))
+            (10 if wrongTop message (topEntries message) ∷ []) (object-nonzero message (topEntries message))
+            (sym (first-passes (7 if unread message) behind u) ∙ e) in
+            top-collected u
+            ∙ ap (λ (b : Bool). cond b (written 0 (flat (topEntries message)) table) table)
+            (le-leb (length (topEntries message)) 32 (few message (topEntries message) (passed .0)))
 
   pub top-order : (n : ℕ) → unread message ≡ false →
       stageOf (first (objectOrder message (topEntries message) ++ (10 if wrongTop message (topEntries message) ∷ []))) n

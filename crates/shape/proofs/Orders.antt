@@ -1,10 +1,11 @@
 -- A stage's answer handed up: tests of a stage with others behind them.
-use mathlib.Core.Path.{_≡_, ap, sym, _∙_}
+use mathlib.Core.Path.{_≡_, refl, ap, sym, _∙_}
 use mathlib.Core.Bool.{Bool, true, false, cond}
 use mathlib.Core.List.{List, [], _∷_, _++_}
 use Prim.Native.Nat.{ℕ, _<_}
 use native.Mathlib.Omega.{arith}
-use borrow.Author.Tests.{ne-eqb}
+use lib.Dec.{eqb}
+use borrow.Author.Tests.{ne-eqb, eqb-true, eqb-false}
 use Rattle.prelude.specs.Refusals.{Test, _if_, first}
 use Rattle.prelude.proofs.Refusals.{nonzero, first-skip, first-stop}
 use Rattle.headers.specs.Answers.{stageOf}
@@ -28,6 +29,16 @@ module _ (tests more : List Test) (p : nonzero tests ≡ true) where
   pub gone-on : (i k n : ℕ) → Passed i ≡ stageOf (first tests) k →
       stageOf (first (tests ++ more)) n ≡ stageOf (first more) n
   gone-on i k n e = ap (λ (j : ℕ). stageOf j n) (first-skip tests more p (passed-is i (first tests) k e .0))
+
+  -- Where all pass, both do.
+  pub both-pass : first (tests ++ more) ≡ 0 → (first tests ≡ 0) × (first more ≡ 0)
+  both-pass e = cases (eqb (first tests) 0) refl
+    where
+      cases : (b : Bool) → eqb (first tests) 0 ≡ b → (first tests ≡ 0) × (first more ≡ 0)
+      cases true t =
+          let none = eqb-true (first tests) 0 t in (none, sym (first-skip tests more p none) ∙ e)
+      cases false t =
+          let some = eqb-false (first tests) 0 t in absurd (some (sym (first-stop tests more p some) ∙ e))
 
 -- One test.
 

@@ -14,11 +14,11 @@ use Rattle.grammar.specs.Places.{Element}
 use Rattle.prelude.specs.Any.{any}
 use Rattle.prelude.specs.Refusals.{first}
 use Rattle.jose.specs.HeaderRules.{isEmpty}
-use Rattle.headers.specs.Answers.{stageOf, Leaves}
+use Rattle.headers.specs.Answers.{stageOf}
 use Rattle.headers.specs.declared.Stage.{Stage}
 use Rattle.headers.specs.declared.Stage.the-variants.{Passed, Refused}
 use Rattle.shape.specs.Shape.{noObject, wrongElements}
-use Rattle.shape.specs.Answers.{arrayOrder, startsOf, counted}
+use Rattle.shape.specs.Answers.{arrayOrder, startsOf, counted, Leaves}
 
 -- What is known at a turn: `xs` are all elements, `rest` those to come, `count` those before.
 pub record Walking (xs rest : List Element) (count : ℕ) (before now : List ℕ) : Type 0 where

@@ -7,12 +7,13 @@ use lib.ListN.{length}
 use lib.Dec.{eqb, ltb}
 use Rattle.prelude.specs.Buffer.{written}
 use Rattle.grammar.specs.Places.{Element}
-use Rattle.prelude.specs.Refusals.{Test, _if_}
+use Rattle.rows.specs.Rows.{Entry, present}
+use Rattle.prelude.specs.Refusals.{Test, _if_, first}
 use Rattle.prelude.specs.Limits.{mostRecipients}
 use Rattle.headers.specs.declared.Stage.{Stage}
 use Rattle.headers.specs.declared.Stage.the-variants.{Passed, Refused}
-use Rattle.shape.specs.Shape.{Recipient, recipientOf, wrongElements}
-use Rattle.shape.specs.Recipients.{elementEntries, elementOrder}
+use Rattle.shape.specs.Shape.{Recipient, recipientOf, recipients, wrongElements}
+use Rattle.shape.specs.Recipients.{elementsIn, elementEntries, elementOrder}
 
 -- Recipients as numbers in a table, three each: where the own header stands, the key's start and length.
 
@@ -52,7 +53,30 @@ unfoldable pub recipientsAt : List ℕ → List ℕ → List Recipient
 recipientsAt message [] = []
 recipientsAt message (start ∷ rest) = recipientOf (elementEntries message start) ∷ recipientsAt message rest
 
--- What one element leaves: where it passes, the numbers from a position on; else the table is as it was.
+-- The recipients before the first element that is refused: those that are written.
+unfoldable pub passedAt : List ℕ → List ℕ → List Recipient
+passedAt message [] = []
+passedAt message (start ∷ rest) =
+    let later = passedAt message rest in
+    cond (eqb (first (elementOrder message start)) 0) (recipientOf (elementEntries message start) ∷ later) []
+
+-- The recipients that a message's table then begins with: all where none is refused, none where 10 or 11 refuses
+-- `recipients` itself.
+unfoldable pub writtenIn : List ℕ → List Entry → List Recipient
+writtenIn message es =
+    let xs = elementsIn message es in
+    cond (present recipients es)
+    (cond (eqb (first (arrayOrder xs)) 0) (passedAt message (startsOf xs)) [])
+    (recipientOf es ∷ [])
+
+-- What the walk along the elements leaves: where it passes, the starts, and the rest of the table unchanged. Where it refuses,
+-- the contents are free and only the length is kept: the table is a local one of `recipients`, which does not read it
+-- then.
+abbrev pub Leaves : List ℕ → List ℕ → List ℕ → Stage → Type 0
+Leaves starts before after (Passed n) = after ≡ written 0 starts before
+Leaves starts before after (Refused n) = length after ≡ length before
+
+-- What one element leaves: where it passes, the numbers from a position on; else the table is unchanged.
 abbrev pub LeavesAt : ℕ → List ℕ → List ℕ → List ℕ → Stage → Type 0
 LeavesAt at numbers before after (Passed n) = after ≡ written at numbers before
 LeavesAt at numbers before after (Refused n) = after ≡ before

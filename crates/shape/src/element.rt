@@ -12,11 +12,11 @@ ghost use Rattle.prelude.specs.Any.{any};
 ghost use Rattle.rows.specs.Tables.{entriesOf, width};
 ghost use Rattle.prelude.specs.Refusals.{first};
 ghost use Rattle.jose.specs.Elements.{elementsFrom};
-ghost use Rattle.headers.specs.Answers.{stageOf, Leaves};
+ghost use Rattle.headers.specs.Answers.{stageOf};
 ghost use Rattle.shape.specs.Shape.{noObject, encryptedKey, component, recipientOf};
 ghost use Rattle.shape.specs.Recipients.{elementEntries, elementOrder};
 ghost use Rattle.shape.specs.Answers.{three, flatRecipients, startsOf, arrayOrder, counted};
-ghost use Rattle.shape.specs.Answers.{startsOrder, recipientsAt, LeavesAt, recipientWidth};
+ghost use Rattle.shape.specs.Answers.{startsOrder, passedAt, Leaves, LeavesAt, recipientWidth};
 use crate::member;
 use headers::Stage;
 use json::Position;
@@ -143,13 +143,14 @@ fn element(message: &[u8], at: usize, into: &mut [usize], to: usize) -> Stage
     object
 }
 
-// 8 to 10 on the elements at some starts, in turn: their recipients as numbers of the table, and how many they are.
+// 8 to 10 on the elements at some starts, in turn: their recipients as numbers of the table, those before one that is
+// refused, and how many they are.
 pub(crate) fn elements(message: &[u8], starts: &[usize], into: &mut [usize]) -> Stage
     requires { ⌜ length (now message) ≤ longest ⌝ }
     requires { ⌜ length (now starts) * recipientWidth ≤ length (now into) ⌝ }
     requires { ⌜ Every (KnownIn curly levels (now message)) (now starts) ⌝ }
     ensures { λ r. ⌜ r ≡ stageOf (first (startsOrder (now (message .entry)) (now (starts .entry)))) (length (now (starts .entry))) ⌝ }
-    ensures { λ r. ⌜ Leaves (flatRecipients (recipientsAt (now (message .entry)) (now (starts .entry)))) (now (into .entry)) (now (into .exit)) r ⌝ }
+    ensures { λ _. ⌜ now (into .exit) ≡ written 0 (flatRecipients (passedAt (now (message .entry)) (now (starts .entry)))) (now (into .entry)) ⌝ }
 {
     let mut i: usize = 0;
     while i < starts.len() {

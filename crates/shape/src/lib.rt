@@ -2,12 +2,13 @@
 ghost use mathlib.Core.Path.{_≡_};
 ghost use Prim.Native.Nat.{_*_, _≤_};
 ghost use lib.ListN.{length};
-ghost use Rattle.rows.specs.Tables.{flat, entriesOf, headerTable, width};
+ghost use Rattle.rows.specs.Tables.{entriesOf, headerTable, width};
+ghost use Rattle.prelude.specs.Buffer.{written};
 ghost use Rattle.prelude.specs.Limits.{longest};
 ghost use Rattle.prelude.specs.Refusals.{first};
-ghost use Rattle.headers.specs.Answers.{stageOf, Leaves};
-ghost use Rattle.shape.specs.Recipients.{topEntries, topOrder, elementsOrder, recipientsIn};
-ghost use Rattle.shape.specs.Answers.{flatRecipients, recipientsRoom};
+ghost use Rattle.headers.specs.Answers.{stageOf};
+ghost use Rattle.shape.specs.Recipients.{topEntries, topOrder, topTable, elementsOrder, recipientsIn};
+ghost use Rattle.shape.specs.Answers.{flatRecipients, writtenIn, recipientsRoom};
 use headers::Stage;
 use json::Found;
 use json::Position;
@@ -28,12 +29,13 @@ pub const MEMBERS: [u8; 77] = *b"\x09\
 mod element;
 mod member;
 
-// 7, and 8 to 10 on the top level: its members as entries of the table, and how many they are.
+// 7, and 8 to 10 on the top level: its members as entries of the table, and how many they are. What a refusal leaves in the
+// table is `topTable` too.
 pub fn top(message: &[u8], table: &mut [u32]) -> Stage
     requires { ⌜ length (now message) ≤ longest ⌝ }
     requires { ⌜ headerTable ≤ length (now table) ⌝ }
     ensures { λ r. ⌜ r ≡ stageOf (first (topOrder (now (message .entry)))) (length (topEntries (now (message .entry)))) ⌝ }
-    ensures { λ r. ⌜ Leaves (flat (topEntries (now (message .entry)))) (now (table .entry)) (now (table .exit)) r ⌝ }
+    ensures { λ _. ⌜ now (table .exit) ≡ topTable (now (message .entry)) (now (table .entry)) ⌝ }
 {
     let judged = json::judge(message, 12);
     let Found::Value(_, _) = judged else {
@@ -52,7 +54,7 @@ pub fn top(message: &[u8], table: &mut [u32]) -> Stage
 }
 
 // 10 on `recipients`, 11, and 8 to 10 on its elements: the recipients as numbers of the table, three each, and how many they
-// are. The entries are those of a top level that has passed.
+// are. The entries are those of a top level that has passed. Where an element is refused, those before it are written.
 pub fn recipients(message: &[u8], table: &[u32], count: usize, into: &mut [usize]) -> Stage
     requires { ⌜ length (now message) ≤ longest ⌝ }
     requires { ⌜ count * width ≤ length (now table) ⌝ }
@@ -60,7 +62,7 @@ pub fn recipients(message: &[u8], table: &[u32], count: usize, into: &mut [usize
     requires { ⌜ first (topOrder (now message)) ≡ 0 ⌝ }
     requires { ⌜ entriesOf count (now table) ≡ topEntries (now message) ⌝ }
     ensures { λ r. ⌜ r ≡ stageOf (first (elementsOrder (now (message .entry)) (entriesOf count (now (table .entry))))) (length (recipientsIn (now (message .entry)) (entriesOf count (now (table .entry))))) ⌝ }
-    ensures { λ r. ⌜ Leaves (flatRecipients (recipientsIn (now (message .entry)) (entriesOf count (now (table .entry))))) (now (into .entry)) (now (into .exit)) r ⌝ }
+    ensures { λ _. ⌜ now (into .exit) ≡ written 0 (flatRecipients (writtenIn (now (message .entry)) (entriesOf count (now (table .entry))))) (now (into .entry)) ⌝ }
 {
     if !rows::ask::present(table, count, 5) {
         element::put(table, count, into, 0);

@@ -16,11 +16,11 @@ use Rattle.grammar.specs.Bounds.{Every}
 use Rattle.json.specs.Known.{KnownIn}
 use Rattle.prelude.specs.Refusals.{first}
 use Rattle.headers.proofs.Stages.{passed-is}
-use Rattle.shape.specs.Answers.{startsOf, arrayOrder}
+use Rattle.shape.specs.Shape.{Recipient}
+use Rattle.shape.specs.Answers.{flatRecipients, startsOf, arrayOrder}
 use Rattle.shape.proofs.Known.{recipients-known, elements-known}
-use Rattle.shape.proofs.Objects.{stage-refused}
 use Rattle.shape.proofs.Forms.{flattened, flattened-numbers, general-refused, eight, starts-count, starts-are}
-use Rattle.shape.proofs.Forms.{general, general-leaves}
+use Rattle.shape.proofs.Forms.{general, general-none, general-writes}
 use borrow.Author.Needs.{needs}
 use Rattle.shape.proofs.recipients.Statement.{statement}
 use Rattle.shape.proofs.recipients.Tie as tie
@@ -135,7 +135,9 @@ returns-2 c =
     let value = after .before .before .value-of in (
       general-refused (message (start after)) (entries (start after)) (is-general after) (value .result .start)
           (value .ensures .0) (after .walk .result) (after .walk .ensures .0) (told .0 .0) (told .1),
-      stage-refused _ _ _ _ (told .0 .0) (told .1) refl,
+      general-none (message (start after)) (entries (start after)) (is-general after) (value .result .start)
+          (value .ensures .0) (after .walk .result) (after .walk .ensures .0) (told .0 .0) (told .1)
+          (start after .args .into .now),
     )
 
 array-share-prefix-starts : tie.Need-array-share-prefix-starts
@@ -169,9 +171,10 @@ returns-3 c =
       general (message (start after)) (entries (start after)) (is-general after) (value .result .start)
           (value .ensures .0)
           (after .walk .result) (after .walk .ensures .0) (told .0 .0) (told .1) _ (starts k) _ (call .ensures .0),
-      general-leaves (message (start after)) (entries (start after)) (is-general after) (value .result .start)
-          (value .ensures .0) (after .walk .result) (after .walk .ensures .0) (told .0 .0) (told .1) _ (starts k)
-          (start after .args .into .now) (call .last .1 .1 .0) (call .result) (call .ensures .1),
+      call .ensures .1
+          ∙ ap (λ (rs : List Recipient). written 0 (flatRecipients rs) (start after .args .into .now))
+          (general-writes (message (start after)) (entries (start after)) (is-general after) (value .result .start)
+          (value .ensures .0) (after .walk .result) (after .walk .ensures .0) (told .0 .0) (told .1) _ (starts k)),
     )
 
 pub recipients-spec : {M : Type 1} → statement M

@@ -16,10 +16,10 @@ use Rattle.headers.specs.Headers.{unread, objectOrder}
 use Rattle.headers.specs.Answers.{stageOf}
 use Rattle.headers.proofs.Texts.{noValue}
 use Rattle.shape.specs.Shape.{memberNames, wrongTop}
-use Rattle.shape.specs.Recipients.{topEntries}
-use Rattle.shape.proofs.Objects.{Entered, object-answer, object-table, entered, entered-table, as-long}
+use Rattle.shape.specs.Recipients.{topEntries, topTable}
+use Rattle.shape.proofs.Objects.{Entered, object-answer, object-table, entered}
 use Rattle.shape.proofs.Objects.{object-refused, object-wrong, object-passed}
-use Rattle.shape.proofs.Objects.{top-entries, unread-is, top-unread, top-order, stage-refused}
+use Rattle.shape.proofs.Objects.{top-entries, unread-is, top-unread, top-order, top-kept, top-collected}
 use Rattle.shape.proofs.Known.{top-object}
 use borrow.Author.Needs.{needs}
 use Rattle.shape.proofs.top.Statement.{statement}
@@ -64,6 +64,9 @@ is-read c =
     unread-is (message (start c)) (judged .result) (judged .ensures)
     ∙ ap noValue (c .before .before .before .before .enum-told .given .1)
 
+whole : (c : tie.After-object) → c .object .last .1 .1 .1 .1 .0 ≡ topTable (message (start c)) (start c .args .table .now)
+whole c = left c ∙ sym (top-collected (message (start c)) (start c .args .table .now) (is-read c))
+
 -- where it passes
 holds : (c : tie.After-known-told) →
     let after = c .before .before .before .before .before in
@@ -89,7 +92,7 @@ returns c =
     let judged = c .before .before .judge in
     let none = unread-is (args .message .now) (judged .result) (judged .ensures)
     ∙ ap noValue (c .enum-told2 .given .1) in
-    (top-unread (args .message .now) _ none, refl)
+    (top-unread (args .message .now) _ none, sym (top-kept (args .message .now) (args .table .now) none))
 
 skip-space-requires : tie.Need-skip-space-requires
 skip-space-requires c κs = search needs
@@ -131,7 +134,7 @@ returns-2 c =
     let s = message (start after) in (
       object-refused _ _ _ (answer after) (wrongTop s (topEntries s)) (told .0 .0) (told .1)
           ∙ top-order s _ (is-read after),
-      stage-refused _ _ _ _ (told .0 .0) (told .1) (as-long _ _ _ (left after) (start after .pre .1)),
+      whole after,
     )
 
 wrong-top-requires : tie.Need-wrong-top-requires
@@ -148,7 +151,7 @@ returns-3 c =
     let wrong = sym (ap (wrongTop s) (holds (c .before .before .before) .entries))
     ∙ sym (c .before .wrong-top .ensures) ∙ c .if1 .taken in (
       object-wrong _ _ _ (answer after) _ (told .0 .0) (told .1) wrong ∙ top-order s _ (is-read after),
-      as-long _ _ _ (left after) (start after .pre .1),
+      whole after,
     )
 
 same-length-3 : tie.Need-same-length-3
@@ -162,7 +165,7 @@ returns-4 c =
     let right = sym (ap (wrongTop s) (holds (c .before .before .before) .entries))
     ∙ sym (c .before .wrong-top .ensures) ∙ c .if1 .left in (
       sym (told .1) ∙ object-passed _ _ _ (answer after) _ (told .0 .0) (told .1) right ∙ top-order s _ (is-read after),
-      entered-table _ _ _ (left after) (start after .pre .1) _ _ (answer after) (told .0 .0) (told .1),
+      whole after,
     )
 
 pub top-spec : {M : Type 1} → statement M

@@ -1,19 +1,22 @@
 -- `judge` hands up the refusals of the top level, of the elements and of the components in their order; what stands in
 -- its
 -- tables then is the message's members and recipients.
-use mathlib.Core.Path.{_≡_, refl, sym, subst, _∙_}
+use mathlib.Core.Path.{_≡_, refl, ap, sym, subst, _∙_}
 use mathlib.Core.List.{List}
 use Prim.Native.Nat.{_≤_}
 use native.Mathlib.Omega.{arith}
 use lib.ListN.{length, replicate}
+use Rattle.prelude.specs.Buffer.{written}
 use Rattle.names.specs.Names.{names}
 use Rattle.rows.specs.Rows.{Entry, valueOf}
-use Rattle.rows.specs.Tables.{flat, entriesOf}
+use Rattle.rows.specs.Tables.{entriesOf}
 use Rattle.prelude.specs.Refusals.{first}
-use Rattle.headers.specs.Answers.{Leaves}
-use Rattle.headers.proofs.Stages.{refused-is}
+use Rattle.headers.proofs.Stages.{passed-is, refused-is}
+use Rattle.shape.specs.Shape.{Recipient}
 use Rattle.shape.specs.Recipients.{topEntries, topOrder, elementsOrder, recipientsIn}
 use Rattle.shape.specs.Answers.{flatRecipients}
+use Rattle.shape.proofs.Objects.{top-written}
+use Rattle.shape.proofs.Forms.{all-written}
 use Rattle.shape.proofs.Known.{shared-known, own-known}
 use Rattle.jwe.specs.Stages.{HeaderKnown, HeadersKnown, recipientsOf}
 use Rattle.jwe.proofs.JsonOrder.{json-top, json-elements, json-misspelled}
@@ -35,8 +38,9 @@ tops c =
     .before .args .message .now in
     let call = c .before .before .before .before .top2 in
     let told = c .before .members .given .1 in
+    let passed = passed-is _ (first (topOrder message)) (length (topEntries message)) (sym told ∙ call .ensures .0) in
     top-is message (replicate 256 0) (call .last .1 .0) _ (sym told ∙ call .ensures .0)
-    (subst (Leaves (flat (topEntries message)) (replicate 256 0) (call .last .1 .0)) told (call .ensures .1))
+    (call .ensures .1 ∙ top-written message (replicate 256 0) (passed .0))
 
 -- where the elements pass
 lists : (c : tie.After-known-told2) →
@@ -54,11 +58,13 @@ lists c =
     let told = c .before .elements .given .1 in
     let fs = entriesOf (c .before .before .before .before .before .before .before .before .members .given .0 .0) (c
     .before .before .before .before .before .before .before .before .before .before .before .top2 .last .1 .0) in
+    let passed = passed-is _ (first (elementsOrder message fs)) (length (recipientsIn message fs))
+    (sym told ∙ call .ensures .0) in
     listed-is message (topEntries message) fs (tops (c .before .before .before .before .before .before
     .before) .1 .1) (replicate 24 0) (call .last .1 .1 .1 .0) _
     (sym told ∙ call .ensures .0)
-    (subst (Leaves (flatRecipients (recipientsIn message fs)) (replicate 24 0) (call .last .1 .1 .1 .0)) told
-    (call .ensures .1))
+    (call .ensures .1 ∙ ap (λ (rs : List Recipient). written 0 (flatRecipients rs) (replicate 24 0))
+    (all-written message fs (passed .0)))
 
 slice-aggregate-top : tie.Need-slice-aggregate-top
 slice-aggregate-top c = search needs

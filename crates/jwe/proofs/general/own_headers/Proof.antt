@@ -122,7 +122,8 @@ returns c =
     (args .of .now) (loop .inv .1 .1 .1 .1) (c .before .before .before .before .before .before
     .before .loop-test .taken) (told .0) (told .1) in (
       c .enum-told .given .1 ∙ refuses (args .number) (told .1) ∙ ap (λ (n : ℕ). stageOf n (args .number)) (sym all),
-      subst (LeavesOwn (args .number) message (args .of .now) _ _) (sym (c .enum-told .given .1)) tt,
+      subst (LeavesOwn (args .number) message (args .of .now) _ _) (sym (c .enum-told .given .1))
+          (omega (arith, loop .inv .1 .0, c .before .before .before .before .unprotected .kept), loop .inv .1 .1 .0),
     )
 
 mul-counts : tie.Need-mul-counts Inv-loop μ-loop

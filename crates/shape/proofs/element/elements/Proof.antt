@@ -60,7 +60,7 @@ returns c =
     let call = c .before .before .before .before .element in
     let told = c .enum-told2 .given in
     read-refused (loop .inv) (c .before .before .before .before .before .before .before .loop-test .taken) _ _
-    (call .ensures .0) _ (call .ensures .1) (told .0 .0) _ (told .1)
+    (call .ensures .0) _ (call .ensures .1) (told .0 .0) (told .1) _
 
 add-i : tie.Need-add-i Inv-loop μ-loop
 add-i c = search needs
