@@ -291,7 +291,7 @@ fn decode_at(text: &[u8], out: &mut [u8], at: usize) -> usize
     j
 }
 
-// Decodes a text into out: document 01's 5, then 1 if out is shorter than the octets. Refused, out is as it was.
+// Decodes a text into out: document 01's 5, then 1 if out is shorter than the octets. Refused, out is unchanged.
 pub fn decode(text: &[u8], out: &mut [u8]) -> Decoded
     ensures { λ r. ⌜ Decodes (now (text .entry)) (now (out .entry)) r (now (out .exit)) ⌝ }
 {
@@ -417,7 +417,7 @@ pub fn encode_at(octets: &[u8], out: &mut [u8], at: usize) -> usize
     j
 }
 
-// Encodes octets into out from a position on: document 01's 1 where the text does not fit, and then out is as it was.
+// Encodes octets into out from a position on: document 01's 1 where the text does not fit, and then out is unchanged.
 pub fn encode(octets: &[u8], out: &mut [u8], at: usize) -> Encoded
     ensures { λ r. ⌜ r ≡ encodeAnswer (now (octets .entry)) at (length (now (out .entry))) ⌝ }
     ensures { λ _. ⌜ now (out .exit) ≡ encodeBuffer (now (octets .entry)) at (now (out .entry)) ⌝ }

@@ -35,9 +35,15 @@ pub fn read(
     header: &mut [u8],
     list: &mut [u32],
 ) -> Result
-    ensures { λ r. ⌜ numbers r ≡ result (now (message .entry)) (now (known .entry)) recipient (length (now (header .entry))) (length (now (list .entry))) ⌝ }
-    ensures { λ _. ⌜ now (header .exit) ≡ headerAfter (now (message .entry)) (now (known .entry)) recipient (now (header .entry)) (now (list .entry)) ⌝ }
-    ensures { λ _. ⌜ now (list .exit) ≡ listAfter (now (message .entry)) (now (known .entry)) recipient (now (header .entry)) (now (list .entry)) ⌝ }
+    ensures answered { λ r. ⌜ numbers r
+        ≡ result (now (message .entry)) (now (known .entry)) recipient
+        (length (now (header .entry))) (length (now (list .entry))) ⌝ }
+    ensures decoded { λ _. ⌜ now (header .exit)
+        ≡ headerAfter (now (message .entry)) (now (known .entry)) recipient
+        (now (header .entry)) (now (list .entry)) ⌝ }
+    ensures listed { λ _. ⌜ now (list .exit)
+        ≡ listAfter (now (message .entry)) (now (known .entry)) recipient
+        (now (header .entry)) (now (list .entry)) ⌝ }
 {
     jwe::read(message, known, recipient, header, list)
 }
@@ -92,7 +98,9 @@ pub fn write(
     known: &[u8],
     out: &mut [u8],
 ) -> Written
-    ensures { λ r. ⌜ WritesCompact (raw (now (header .entry)) (now (key .entry)) (now (iv .entry)) (now (ciphertext .entry)) (now (tag .entry))) (now (known .entry)) (now (out .entry)) r (now (out .exit)) ⌝ }
+    ensures { λ r. ⌜ WritesCompact
+        (raw (now (header .entry)) (now (key .entry)) (now (iv .entry)) (now (ciphertext .entry)) (now (tag .entry)))
+        (now (known .entry)) (now (out .entry)) r (now (out .exit)) ⌝ }
 {
     jwe_write::write(header, key, iv, ciphertext, tag, known, out)
 }

@@ -24,7 +24,7 @@ unfoldable pub readList : List ℕ → List ℕ → ℕ → List ℕ → List �
 readList message known recipient header list resultLent =
     cond (ltb resultLent resultRoom) list (listAfter message known recipient header list)
 
--- Accepted, the buffer begins with the numbers of the result; refused, it is as it was.
+-- Accepted, the buffer begins with the numbers of the result; refused, it is unchanged.
 unfoldable pub readResult : List ℕ → List ℕ → ℕ → ℕ → ℕ → List ℕ → List ℕ
 readResult message known recipient headerLent listLent buffer =
     cond (eqb (readRefusal message known recipient headerLent listLent (length buffer)) 0)

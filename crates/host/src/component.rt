@@ -57,7 +57,10 @@ pub extern "C" fn jwe_component(
     out: &mut [u8],
     octets: &mut usize,
 ) -> u32
-    ensures { λ r. ⌜ Writes (componentRefusal (now (message .entry)) (now (known .entry)) recipient component (length (now (out .entry)))) (componentOctets (now (message .entry)) recipient component) (now (out .entry)) r (now (octets .exit)) (now (out .exit)) ⌝ }
+    ensures { λ r. ⌜ Writes
+        (componentRefusal (now (message .entry)) (now (known .entry)) recipient component (length (now (out .entry))))
+        (componentOctets (now (message .entry)) recipient component)
+        (now (out .entry)) r (now (octets .exit)) (now (out .exit)) ⌝ }
 {
     let mut header = [0u8; 4096];
     let mut list = [0u32; 576];

@@ -17,7 +17,10 @@ mod reading;
 // Decodes one component: 5 for a text that is not base64url, 1 where out is shorter than the octets.
 #[no_mangle]
 pub extern "C" fn jwe_decode(text: &[u8], out: &mut [u8], octets: &mut usize) -> u32
-    ensures { λ r. ⌜ Writes (decodeRefusal (now (text .entry)) (length (now (out .entry)))) (decoded (now (text .entry))) (now (out .entry)) r (now (octets .exit)) (now (out .exit)) ⌝ }
+    ensures { λ r. ⌜ Writes
+        (decodeRefusal (now (text .entry)) (length (now (out .entry))))
+        (decoded (now (text .entry)))
+        (now (out .entry)) r (now (octets .exit)) (now (out .exit)) ⌝ }
 {
     let answer = gateway::decode(text, out);
     match answer {
@@ -44,7 +47,10 @@ pub extern "C" fn jwe_aad(
     out: &mut [u8],
     octets: &mut usize,
 ) -> u32
-    ensures { λ r. ⌜ Writes (aadRefusal (now («encoded_header» .entry)) (now («encoded_aad» .entry)) (length (now (out .entry)))) (aadText (now («encoded_header» .entry)) (now («encoded_aad» .entry))) (now (out .entry)) r (now (octets .exit)) (now (out .exit)) ⌝ }
+    ensures { λ r. ⌜ Writes
+        (aadRefusal (now («encoded_header» .entry)) (now («encoded_aad» .entry)) (length (now (out .entry))))
+        (aadText (now («encoded_header» .entry)) (now («encoded_aad» .entry)))
+        (now (out .entry)) r (now (octets .exit)) (now (out .exit)) ⌝ }
 {
     let answer = gateway::aad(encoded_header, encoded_aad, out);
     match answer {
@@ -71,7 +77,13 @@ pub extern "C" fn jwe_write_compact(
     out: &mut [u8],
     octets: &mut usize,
 ) -> u32
-    ensures { λ r. ⌜ Writes (writeRefusal (raw (now (header .entry)) (now (key .entry)) (now (iv .entry)) (now (ciphertext .entry)) (now (tag .entry))) (now (known .entry)) (length (now (out .entry)))) (compactText (raw (now (header .entry)) (now (key .entry)) (now (iv .entry)) (now (ciphertext .entry)) (now (tag .entry)))) (now (out .entry)) r (now (octets .exit)) (now (out .exit)) ⌝ }
+    ensures { λ r. ⌜ Writes
+        (writeRefusal
+        (raw (now (header .entry)) (now (key .entry)) (now (iv .entry)) (now (ciphertext .entry)) (now (tag .entry)))
+        (now (known .entry)) (length (now (out .entry))))
+        (compactText
+        (raw (now (header .entry)) (now (key .entry)) (now (iv .entry)) (now (ciphertext .entry)) (now (tag .entry))))
+        (now (out .entry)) r (now (octets .exit)) (now (out .exit)) ⌝ }
 {
     let answer = gateway::write(header, key, iv, ciphertext, tag, known, out);
     match answer {

@@ -5,7 +5,7 @@ ghost use Prim.Native.Nat.{_+_, _≤_, _<_};
 ghost use lib.ListN.{length};
 ghost use Rattle.prelude.specs.Buffer.{AllBelow, written};
 ghost use Rattle.jwe.specs.Answers.{numbers, placeNumbers};
-ghost use Rattle.host.specs.Read.{readRefusal, readHeader, readList, readResult};
+ghost use Rattle.host.specs.Read.{resultRoom, readRefusal, readHeader, readList, readResult};
 use json::member::Place;
 use jwe::Result;
 
@@ -23,7 +23,7 @@ fn put_place(place: Place, into: &mut [u32], at: usize)
 // The eighteen numbers of a result, written at the start of a buffer.
 fn put_result(r: Result, into: &mut [u32])
     requires { ⌜ AllBelow 4294967296 (numbers r) ⌝ }
-    requires { ⌜ 18 ≤ length (now into) ⌝ }
+    requires { ⌜ resultRoom ≤ length (now into) ⌝ }
     ensures { λ _. ⌜ now (into .exit) ≡ written 0 (numbers r) (now (into .entry)) ⌝ }
 {
     into[0] = r.number;
@@ -41,7 +41,7 @@ fn put_result(r: Result, into: &mut [u32])
 }
 
 // Reads a message. Answers 0 and the result's eighteen numbers at the start of `result`, or the refusal's number; that is 1
-// as well where fewer than eighteen numbers are lent. Refused, `result` is as it was.
+// as well where fewer than eighteen numbers are lent. Refused, `result` is unchanged.
 #[no_mangle]
 pub extern "C" fn jwe_read(
     message: &[u8],
@@ -51,10 +51,18 @@ pub extern "C" fn jwe_read(
     list: &mut [u32],
     result: &mut [u32],
 ) -> u32
-    ensures { λ r. ⌜ r ≡ readRefusal (now (message .entry)) (now (known .entry)) recipient (length (now (header .entry))) (length (now (list .entry))) (length (now (result .entry))) ⌝ }
-    ensures { λ _. ⌜ now (header .exit) ≡ readHeader (now (message .entry)) (now (known .entry)) recipient (now (header .entry)) (now (list .entry)) (length (now (result .entry))) ⌝ }
-    ensures { λ _. ⌜ now (list .exit) ≡ readList (now (message .entry)) (now (known .entry)) recipient (now (header .entry)) (now (list .entry)) (length (now (result .entry))) ⌝ }
-    ensures { λ _. ⌜ now (result .exit) ≡ readResult (now (message .entry)) (now (known .entry)) recipient (length (now (header .entry))) (length (now (list .entry))) (now (result .entry)) ⌝ }
+    ensures answered { λ r. ⌜ r
+        ≡ readRefusal (now (message .entry)) (now (known .entry)) recipient
+        (length (now (header .entry))) (length (now (list .entry))) (length (now (result .entry))) ⌝ }
+    ensures decoded { λ _. ⌜ now (header .exit)
+        ≡ readHeader (now (message .entry)) (now (known .entry)) recipient
+        (now (header .entry)) (now (list .entry)) (length (now (result .entry))) ⌝ }
+    ensures listed { λ _. ⌜ now (list .exit)
+        ≡ readList (now (message .entry)) (now (known .entry)) recipient
+        (now (header .entry)) (now (list .entry)) (length (now (result .entry))) ⌝ }
+    ensures numbered { λ _. ⌜ now (result .exit)
+        ≡ readResult (now (message .entry)) (now (known .entry)) recipient
+        (length (now (header .entry))) (length (now (list .entry))) (now (result .entry)) ⌝ }
 {
     if result.len() < 18 {
         return 1;

@@ -87,8 +87,8 @@ fn judge(message: &[u8], known: &[u8], recipient: u32, text: &mut [u8], table: &
 }
 
 // Reads a message for a recipient. `known` lists the extension names that the caller knows. Accepted, the header buffer
-// begins with the decoded protected header and the list with six numbers a parameter; both go on as they were. Refused, the
-// result is the refusal's number with zeros, and both are as they were.
+// begins with the decoded protected header and the list with six numbers a parameter; the rest of both is unchanged. Refused, the
+// result is the refusal's number with zeros, and both are unchanged.
 pub fn read(
     message: &[u8],
     known: &[u8],

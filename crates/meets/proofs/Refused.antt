@@ -1,5 +1,5 @@
 -- A refusal has a number of document 01's table, 1 to 19, and changes nothing: the result is the number and zeros, and
--- the lent header buffer and list are as they were.
+-- the lent header buffer and list are unchanged.
 use mathlib.Core.Path.{_≡_, refl, ap}
 use mathlib.Core.Bool.{Bool, false, cond}
 use mathlib.Core.List.{List}
@@ -23,7 +23,7 @@ module _ (message known : List ℕ) (recipient : ℕ) where
       let r = refusal message known recipient headerLent listLent in
       ap (λ (b : Bool). cond b (accepted message (outcome message recipient)) (refused r)) (ne-eqb r 0 n)
 
-  -- .. and what was lent is as it was.
+  -- .. and what was lent is unchanged.
   module _ (buffer list : List ℕ) (n : refusal message known recipient (length buffer) (length list) ≡ 0 → ⊥) where
     fails : eqb (refusal message known recipient (length buffer) (length list)) 0 ≡ false
     fails = ne-eqb (refusal message known recipient (length buffer) (length list)) 0 n

@@ -154,7 +154,7 @@ module _ (ms : List Member) (count : ℕ) (answered : Rows count ≡ rows.collec
         ∙ sym (ap (λ (b : Bool). cond b (written (from * 8) (flat (entriesIn names s o ms)) t) t)
         (le-leb (length (entriesIn names s o ms)) 32 fits))
 
--- Where there are more the table is as it was.
+-- Where there are more the table is unchanged.
 pub none-collected : (ms : List Member) → More ≡ rows.collectedOf ms → (names : List (List ℕ)) (s : List ℕ) (o from : ℕ)
     (before : List ℕ) → before ≡ collectedTable from (entriesIn names s o ms) before
 unfolding rows.collectedOf collectedTable entriesIn

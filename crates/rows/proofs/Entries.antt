@@ -92,7 +92,7 @@ entry-at i count t h =
 pub entries-done : (i count : ℕ) (t : List ℕ) → count ≤ i → drop i (entriesOf count t) ≡ []
 entries-done i count t h = drop-of-length-le (entriesOf count t) {i = i} (omega (arith, entries-length count t))
 
--- The first entries are as they were where the front of the table is; behind them come the others.
+-- The first entries are unchanged where the front of the table is; behind them come the others.
 
 pub entries-split : (m n : ℕ) (t : List ℕ) → entriesOf (m + n) t ≡ entriesOf m t ++ entriesOf n (drop (m * 8) t)
 unfolding entriesOf

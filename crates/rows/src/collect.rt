@@ -65,7 +65,7 @@ fn fill(
 }
 
 // The members of the object at a position of a text of at most 16 MiB, as entries of the table from the entry `from`
-// on; the table is as it was where they are more than 32. `list` is the names that are counted; `judged` says that the text
+// on; the table is unchanged where they are more than 32. `list` is the names that are counted; `judged` says that the text
 // has been judged, so that objects and arrays need only be passed over.
 pub fn collect(
     text: &[u8],
