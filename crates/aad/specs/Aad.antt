@@ -5,6 +5,7 @@ use mathlib.Core.List.{List, [], _∷_, _++_}
 use Prim.Native.Nat.{ℕ}
 use lib.ListN.{length}
 use lib.Dec.{eqb, ltb}
+use Rattle.prelude.specs.Ascii.{fullStop}
 use Rattle.prelude.specs.Refusals.{Test, _if_, first}
 use Rattle.prelude.specs.Outputs.{outputAfter, Writes}
 use Rattle.aad.specs.declared.Joined.{Joined}
@@ -13,7 +14,7 @@ use Rattle.aad.specs.declared.Joined.the-variants.{Octets, Short}
 -- The encoded protected header; behind it, where there is an aad, a full stop and the encoded aad. Without a protected header
 -- the full stop comes first.
 unfoldable pub aadText : List ℕ → List ℕ → List ℕ
-aadText header aad = cond (eqb (length aad) 0) header (header ++ (46 ∷ aad))
+aadText header aad = cond (eqb (length aad) 0) header (header ++ (fullStop ∷ aad))
 
 -- Only 1 can refuse: the output is shorter than the octets.
 

@@ -4,6 +4,7 @@ ghost use mathlib.Core.Path.{_≡_};
 ghost use mathlib.Core.List.{_∷_, _++_};
 ghost use Prim.Native.Nat.{_+_, _≤_};
 ghost use lib.ListN.{length};
+ghost use Rattle.prelude.specs.Ascii.{fullStop};
 ghost use Rattle.prelude.specs.Buffer.{written};
 ghost use Rattle.aad.specs.Aad.{Joins};
 
@@ -16,14 +17,14 @@ pub enum Joined {
 // A header, a full stop and an aad, written at the start. Answers how many octets they are.
 fn put(header: &[u8], aad: &[u8], out: &mut [u8]) -> usize
     requires { ⌜ length (now header) + 1 + length (now aad) ≤ length (now out) ⌝ }
-    ensures { λ r. ⌜ r ≡ length (now (header .entry) ++ (46 ∷ now (aad .entry))) ⌝ }
-    ensures { λ _. ⌜ now (out .exit) ≡ written 0 (now (header .entry) ++ (46 ∷ now (aad .entry))) (now (out .entry)) ⌝ }
+    ensures { λ r. ⌜ r ≡ length (now (header .entry) ++ (fullStop ∷ now (aad .entry))) ⌝ }
+    ensures { λ _. ⌜ now (out .exit) ≡ written 0 (now (header .entry) ++ (fullStop ∷ now (aad .entry))) (now (out .entry)) ⌝ }
 {
     let stop = header.len();
     let next = stop + 1;
-    rows::copy::copy_octets(header, out, 0);
-    out[stop] = 46;
-    rows::copy::copy_octets(aad, out, next);
+    prelude::copy_octets(header, out, 0);
+    out[stop] = b'.';
+    prelude::copy_octets(aad, out, next);
     next + aad.len()
 }
 
@@ -38,7 +39,7 @@ pub fn join(header: &[u8], aad: &[u8], out: &mut [u8]) -> Joined
         return Joined::Short;
     }
     if aad.len() == 0 {
-        rows::copy::copy_octets(header, out, 0);
+        prelude::copy_octets(header, out, 0);
         return Joined::Octets(n);
     }
     if out.len() - n <= aad.len() {

@@ -12,9 +12,9 @@ ghost use Rattle.jwe_write.specs.Write.{raw};
 ghost use Rattle.jwe_write.specs.Answers.{WritesCompact};
 use aad::Joined;
 use base64url::Decoded;
-use json::member::Place;
 use jwe::Result;
 use jwe_write::Written;
+use prelude::Place;
 
 // The header walk (document 01, 'Further requests'): `open_walk` opens it on a text, and each `next_member` hands out one
 // member, then the end. For callers that want no struct, `walk_start` and `walk_step` take the text and an offset.

@@ -14,12 +14,11 @@ use Rattle.grammar.specs.Reader.{skipSpace, membersAt}
 use Rattle.rows.specs.Rows.{Entry, repeated, entryOf, entriesIn}
 use Rattle.rows.specs.Tables.{flat, entriesOf, collectedTable}
 use Rattle.rows.proofs.Entries.{flat-length, entries-written}
-use Rattle.prelude.specs.Refusals.{first}
+use Rattle.prelude.specs.Refusals.{first, stageOf}
 use Rattle.jose.specs.Registered.{registered}
 use Rattle.prelude.specs.Limits.{mostMembers}
 use Rattle.headers.specs.Headers.{outermost, protectedEntries, objectOrder}
-use Rattle.headers.specs.Answers.{stageOf}
-use Rattle.headers.specs.declared.Stage.the-variants as stage
+use Rattle.prelude.specs.declared.Stage.the-variants as stage
 use Rattle.headers.proofs.Stages.{passed-is}
 
 not-many : (s : List ℕ) (es : List Entry) → first (objectOrder s es) ≡ 0 → length es ≤ 32

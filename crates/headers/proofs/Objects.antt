@@ -18,10 +18,9 @@ use Rattle.rows.specs.Rows.{Entry, entryOf, entriesIn, textOf, repeated, clashe
 use Rattle.rows.specs.Tables.{flat, entriesOf, collectedTable}
 use Rattle.rows.proofs.Entries.{flat-length, entries-written-from}
 use Rattle.rows.proofs.Printing.{clashes-repeated, entries-printed}
-use Rattle.prelude.specs.Refusals.{first}
+use Rattle.prelude.specs.Refusals.{first, stageOf}
 use Rattle.headers.specs.Headers.{objectOrder}
-use Rattle.headers.specs.Answers.{stageOf}
-use Rattle.headers.specs.declared.Stage.the-variants.{Passed, Refused}
+use Rattle.prelude.specs.declared.Stage.the-variants.{Passed, Refused}
 use Rattle.headers.proofs.Bounds.{either-way}
 
 -- What collecting answers, by how many entries there are.

@@ -10,11 +10,10 @@ use borrow.Author.Tests.{eqb-true, eqb-false}
 use Rattle.rows.specs.Rows.{Entry}
 use Rattle.jose.specs.Judged.{judgedOf}
 use Rattle.jose.specs.declared.judge.Judged.the-variants as ruled
-use Rattle.prelude.specs.Refusals.{Test, first}
+use Rattle.prelude.specs.Refusals.{Test, first, stageOf}
 use Rattle.prelude.proofs.Refusals.{nonzero, first-stop}
 use Rattle.headers.specs.Headers.{tooLong, unread, textOrder, objectOrder}
-use Rattle.headers.specs.Answers.{stageOf}
-use Rattle.headers.specs.declared.Stage.the-variants.{Passed, Refused}
+use Rattle.prelude.specs.declared.Stage.the-variants.{Passed, Refused}
 
 module _ (n refusal passes : ℕ) where
   pub passed-is : Passed n ≡ stageOf refusal passes → (refusal ≡ 0) × (n ≡ passes)

@@ -20,12 +20,12 @@ use Rattle.grammar.specs.Reader.{Answer, nothing, found, readText}
 use Rattle.json.specs.Ends.{foundOf}
 use Rattle.json.specs.declared.Found.{Found}
 use Rattle.json.specs.declared.Found.the-variants.{Value, Nothing}
-use Rattle.prelude.specs.Refusals.{first}
+use Rattle.prelude.specs.Refusals.{first, stageOf}
 use Rattle.prelude.specs.Outputs.{octetsWritten, outputAfter}
 use Rattle.headers.specs.Components.{octetsAt, misspelled}
 use Rattle.headers.specs.Headers.{headerText, tooLong, isNothing, unread, textOrder}
-use Rattle.headers.specs.Answers.{stageOf, headerBuffer}
-use Rattle.headers.specs.declared.Stage.the-variants.{Passed, Refused}
+use Rattle.headers.specs.Answers.{headerBuffer}
+use Rattle.prelude.specs.declared.Stage.the-variants.{Passed, Refused}
 
 -- What decoding a text without fault answers, by how long it decoded is.
 abbrev pub decodedAs : List ℕ → Decoded

@@ -2,6 +2,7 @@
 use mathlib.Core.List.{List, [], _∷_, _++_}
 use mathlib.Core.Bool.{Bool, true, false}
 use Prim.Native.Nat.{ℕ}
+use Rattle.prelude.specs.Ascii.{fullStop}
 use Rattle.base64url.specs.Base64url.{encoded}
 use Rattle.base64url.specs.Fault.{fault}
 use Rattle.base64url.specs.Answers.{ofFault}
@@ -36,10 +37,6 @@ misspelled message q = ofFault (fault (octetsAt message q)) false true
 -- The compact serialization (RFC 7516, section 7.1): BASE64URL(UTF8(JWE Protected Header)) || '.' ||
 -- BASE64URL(JWE Encrypted Key) || '.' || BASE64URL(JWE Initialization Vector) || '.' || BASE64URL(JWE Ciphertext) || '.' ||
 -- BASE64URL(JWE Authentication Tag)
-
--- .
-abbrev pub fullStop : ℕ
-fullStop = 46
 
 abbrev pub dotted : List ℕ → List ℕ → List ℕ → List ℕ → List ℕ → List ℕ
 dotted header key iv ciphertext tag =

@@ -10,22 +10,17 @@ ghost use Rattle.json.specs.Known.{Given, KnownIn};
 ghost use Rattle.rows.specs.Rows.{entriesIn};
 ghost use Rattle.rows.specs.Tables.{collectedTable, headerTable, width};
 ghost use Rattle.prelude.specs.Limits.{headerRoom, levels, longest};
-ghost use Rattle.prelude.specs.Refusals.{first};
+ghost use Rattle.prelude.specs.Refusals.{first, stageOf};
 ghost use Rattle.headers.specs.Components.{misspelled};
 ghost use Rattle.headers.specs.Headers.{headerText, textOrder, protectedEntries, objectOrder};
-ghost use Rattle.headers.specs.Answers.{placeOf, stageOf, headerBuffer};
+ghost use Rattle.headers.specs.Answers.{placeOf, headerBuffer};
 use base64url::Checked;
 use base64url::Decoded;
 use json::Found;
 use json::Position;
 use json::member::Collected;
-use json::member::Place;
-
-// What a stage of judging answers: that it passed, with a number, or document 01's refusal.
-pub enum Stage {
-    Passed(usize),
-    Refused(u32),
-}
+use prelude::Place;
+use prelude::Stage;
 
 // Whether a component is not base64url.
 pub fn misspelled(message: &[u8], place: Place) -> bool

@@ -7,8 +7,8 @@ ghost use Rattle.jwe.specs.Judge.{refusal};
 ghost use Rattle.jwe.specs.Answers.{codePlace, componentsOf};
 ghost use Rattle.host.specs.Component.{componentPlace, componentOctets, componentRefusal};
 use crate::jwe_decode;
-use json::member::Place;
 use jwe::Components;
+use prelude::Place;
 
 // Judges a message for a recipient. What reading it hands out stays in here.
 #[no_mangle]

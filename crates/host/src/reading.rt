@@ -6,8 +6,8 @@ ghost use lib.ListN.{length};
 ghost use Rattle.prelude.specs.Buffer.{AllBelow, written};
 ghost use Rattle.jwe.specs.Answers.{numbers, placeNumbers};
 ghost use Rattle.host.specs.Read.{resultRoom, readRefusal, readHeader, readList, readResult};
-use json::member::Place;
 use jwe::Result;
+use prelude::Place;
 
 // A place's two numbers, written from a position on.
 fn put_place(place: Place, into: &mut [u32], at: usize)

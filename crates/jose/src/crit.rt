@@ -16,13 +16,6 @@ use json::Position;
 use json::member::Member;
 use json::member::Row;
 
-// The difference, or 0.
-fn minus(a: usize, b: usize) -> usize
-    ensures { λ r. ⌜ r ≡ a - b ⌝ }
-{
-    if b <= a { a - b } else { 0 }
-}
-
 // A string element as it is spelled, without quotation marks; the empty part where it lies outside the text.
 fn spelled(s: &[u8], row: Row) -> &[u8]
     ensures { λ r. ⌜ now r ≡ spelledElement (now (s .entry)) (elementOf row) ⌝ }
@@ -32,7 +25,7 @@ fn spelled(s: &[u8], row: Row) -> &[u8]
     if s.len() <= start {
         return &s[..0];
     }
-    parts::part(s, start + 1, minus(value.len, 2))
+    parts::part(s, start + 1, prelude::minus(value.len, 2))
 }
 
 // Whether an array has no element.

@@ -10,7 +10,7 @@ use Rattle.grammar.specs.Grammar.{comma}
 use Rattle.grammar.specs.Places as places
 use Rattle.grammar.specs.Reader.{octetAt, step, skipSpace, Entry}
 use Rattle.json.specs.declared.Position.{Position}
-use Rattle.json.specs.declared.member.Place.{Place}
+use Rattle.prelude.specs.declared.Place.{Place}
 use Rattle.json.specs.declared.member.Row.{Row}
 use Rattle.json.specs.declared.member.Member.{Member}
 use Rattle.json.specs.declared.member.Member.the-variants.{Here, End}

@@ -12,12 +12,7 @@ ghost use Rattle.json.specs.Known.{Given, Known, KnownEntry, KnownIn};
 use crate::Ends;
 use crate::Found;
 use crate::Position;
-
-// A part of a text.
-pub struct Place {
-    pub start: usize,
-    pub len: usize,
-}
+use prelude::Place;
 
 // A member: the place of its name without quotation marks (0, 0 for an element), the place of its value, its kind.
 pub struct Row {
@@ -36,13 +31,6 @@ pub enum Member {
 pub enum Collected {
     Rows(usize),
     More,
-}
-
-// The difference, or 0.
-fn minus(a: usize, b: usize) -> usize
-    ensures { λ r. ⌜ r ≡ a - b ⌝ }
-{
-    if b <= a { a - b } else { 0 }
 }
 
 // The five numbers of a row, written from a position on.
@@ -101,11 +89,11 @@ impl Position {
         };
         let name = Place {
             start: at + 1,
-            len: minus(end.at, at + 2),
+            len: prelude::minus(end.at, at + 2),
         };
         let value = Place {
             start: begin.at,
-            len: minus(after.at, begin.at),
+            len: prelude::minus(after.at, begin.at),
         };
         let row = Row { name, value, kind };
         Member::Here(row, after.next_entry(s))
@@ -124,7 +112,7 @@ impl Position {
         let name = Place { start: 0, len: 0 };
         let value = Place {
             start: at,
-            len: minus(after.at, at),
+            len: prelude::minus(after.at, at),
         };
         let row = Row { name, value, kind };
         Member::Here(row, after.next_entry(s))

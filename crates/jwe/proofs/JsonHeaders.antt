@@ -19,13 +19,13 @@ use Rattle.prelude.specs.Any.{any, anyPair}
 use Rattle.rows.specs.Rows.{Entry, entryOf, entriesIn, numbered, present, valueOf, repeated}
 use Rattle.rows.specs.Tables.{flat, collectedTable}
 use Rattle.jose.specs.Registered.{registered}
-use Rattle.prelude.specs.Refusals.{first}
+use Rattle.prelude.specs.Refusals.{first, stageOf}
 use Rattle.headers.specs.Components.{absent}
 use Rattle.headers.specs.Headers.{headerText, textOrder, outermost, protectedEntries, membersOf}
 use Rattle.headers.specs.Headers.{headerEntries, objectOrder}
-use Rattle.headers.specs.Answers.{stageOf, headerBuffer}
-use Rattle.headers.specs.declared.Stage.{Stage}
-use Rattle.headers.specs.declared.Stage.the-variants.{Passed, Refused}
+use Rattle.headers.specs.Answers.{headerBuffer}
+use Rattle.prelude.specs.declared.Stage.{Stage}
+use Rattle.prelude.specs.declared.Stage.the-variants.{Passed, Refused}
 use Rattle.headers.proofs.Stages.{passed-is, refused-is}
 use Rattle.shape.specs.Shape.{inner, component, protected}
 use Rattle.jwe.specs.General.{isHollow}

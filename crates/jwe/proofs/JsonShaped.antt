@@ -16,11 +16,11 @@ use Rattle.rows.specs.Tables.{flat, entriesOf, collectedTable}
 use Rattle.rows.proofs.Entries.{entries-written, entries-more}
 use Rattle.rows.proofs.Printing.{entries-printed, printed-append}
 use Rattle.jose.specs.Registered.{registered}
-use Rattle.prelude.specs.Refusals.{Test, first}
+use Rattle.prelude.specs.Refusals.{Test, first, stageOf}
 use Rattle.headers.specs.Headers.{headerText, tooLong, unread, textOrder, outermost, protectedEntries, membersOf}
 use Rattle.headers.specs.Headers.{headerEntries, objectOrder}
-use Rattle.headers.specs.Answers.{stageOf, headerBuffer}
-use Rattle.headers.specs.declared.Stage.the-variants.{Passed}
+use Rattle.headers.specs.Answers.{headerBuffer}
+use Rattle.prelude.specs.declared.Stage.the-variants.{Passed}
 use Rattle.headers.proofs.Stages.{passed-is}
 use Rattle.shape.specs.Shape.{protected, unprotected, component, Recipient}
 use Rattle.jwe.specs.General.{sharedEntries, isHollow}

@@ -14,12 +14,11 @@ use Rattle.prelude.specs.Any.{any}
 use Rattle.rows.specs.Rows.{Entry, present, repeated}
 use Rattle.rows.specs.Tables.{flat, entriesOf}
 use Rattle.rows.proofs.Entries.{entries-written}
-use Rattle.prelude.specs.Refusals.{_if_, first}
+use Rattle.prelude.specs.Refusals.{_if_, first, stageOf}
 use Rattle.prelude.specs.Limits.{mostRecipients}
 use Rattle.headers.specs.Components.{misspelled}
 use Rattle.headers.specs.Headers.{unread, objectOrder}
-use Rattle.headers.specs.Answers.{stageOf}
-use Rattle.headers.specs.declared.Stage.the-variants.{Passed}
+use Rattle.prelude.specs.declared.Stage.the-variants.{Passed}
 use Rattle.headers.proofs.Stages.{passed-is}
 use Rattle.shape.specs.Shape.{protected, recipients, component, wrongTop, wrongElements, Recipient, recipientOf}
 use Rattle.shape.specs.Recipients.{topEntries, topOrder, elementsIn, elementEntries, elementOrder, elementsOrder}

@@ -9,7 +9,7 @@ use lib.ListN.{length, drop}
 use lib.Dec.{eqb, ltb}
 use borrow.Author.Tests.{eqb-true, ltb-false}
 use Rattle.prelude.specs.Buffer.{AllBelow}
-use Rattle.json.specs.declared.member.Place.{Place}
+use Rattle.prelude.specs.declared.Place.{Place}
 use Rattle.grammar.proofs.Endings.{either}
 use Rattle.grammar.specs.Reader.{opensObject}
 use Rattle.names.specs.Names.{names, sound}

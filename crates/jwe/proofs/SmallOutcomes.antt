@@ -36,7 +36,7 @@ use Rattle.headers.specs.Headers.{headerText, outermost, protectedEntries, memb
 use Rattle.shape.specs.Shape.{memberNames, memberEntries, protected, encryptedKey, recipients, iv, aad, ciphertext, tag}
 use Rattle.shape.specs.Shape.{unprotected, inner, component, Recipient, recipientOf}
 use Rattle.shape.specs.Recipients.{topEntries, elementsIn, elementEntries, recipientsIn, componentsIn}
-use Rattle.headers.specs.Components.{fullStop}
+use Rattle.prelude.specs.Ascii.{fullStop}
 use Rattle.jwe.specs.Compact.{after, stops, between, compactComponents}
 use Rattle.jwe.specs.General.{sharedEntries, ownEntries, parameters}
 use Rattle.jwe.specs.Judge.{Outcome, compactOutcome, asked, jsonOutcome, outcome, place, accepted}

@@ -8,10 +8,10 @@ use lib.ListN.{length}
 use lib.Dec.{eqb, ltb}
 use borrow.Author.Tests.{lt-ltb, le-ltb, eq-eqb, ne-eqb}
 use Rattle.parts.specs.Parts.{seek}
-use Rattle.json.specs.declared.member.Place.{Place}
+use Rattle.prelude.specs.declared.Place.{Place}
 use Rattle.prelude.specs.Any.{any}
 use Rattle.headers.specs.Components as headers
-use Rattle.headers.specs.Components.{fullStop}
+use Rattle.prelude.specs.Ascii.{fullStop}
 use Rattle.jwe.specs.Compact.{after, Stops, stops, fourStops, between, compactComponents}
 use Rattle.jwe.specs.Answers.{codePlace, codeComponents, componentsOf, splitOf}
 use Rattle.jwe.specs.declared.Components.{Components}

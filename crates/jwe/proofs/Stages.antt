@@ -10,11 +10,11 @@ use Rattle.prelude.specs.Buffer.{written}
 use Rattle.prelude.proofs.Writing.{written-length, begins}
 use Rattle.rows.specs.Rows.{Entry}
 use Rattle.rows.specs.Prints.{Printed}
-use Rattle.prelude.specs.Refusals.{Test, first}
+use Rattle.prelude.specs.Refusals.{Test, first, stageOf}
 use Rattle.jose.specs.HeaderRules.{modeIn}
 use Rattle.headers.specs.Headers.{tooLong, textOrder}
-use Rattle.headers.specs.Answers.{stageOf, headerBuffer}
-use Rattle.headers.specs.declared.Stage.the-variants as stage
+use Rattle.headers.specs.Answers.{headerBuffer}
+use Rattle.prelude.specs.declared.Stage.the-variants as stage
 use Rattle.headers.proofs.Stages.{passed-is, not-long}
 use Rattle.jwe.specs.Compact.{compactComponents}
 use Rattle.jwe.specs.Judge.{Outcome, compactOutcome, accepted}

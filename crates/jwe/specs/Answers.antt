@@ -6,11 +6,11 @@ use Prim.Native.Nat.{ℕ, _<_}
 use lib.ListN.{length}
 use Rattle.prelude.specs.Buffer.{written}
 use Rattle.grammar.specs.Places as json
-use Rattle.json.specs.declared.member.Place.{Place}
+use Rattle.prelude.specs.declared.Place.{Place}
 use Rattle.headers.specs.Components as headers
 use Rattle.headers.specs.Answers.{placeOf}
-use Rattle.headers.specs.declared.Stage.{Stage}
-use Rattle.headers.specs.declared.Stage.the-variants as stage
+use Rattle.prelude.specs.declared.Stage.{Stage}
+use Rattle.prelude.specs.declared.Stage.the-variants as stage
 use Rattle.rows.specs.Tables.{flat}
 use Rattle.prelude.specs.Refusals.{Test, first}
 use Rattle.jose.specs.declared.judge.Judged as jose

@@ -9,7 +9,8 @@ use Rattle.grammar.specs.Places.{Place}
 use Rattle.prelude.specs.Any.{any}
 use Rattle.prelude.specs.Refusals.{Test, _if_}
 use Rattle.jose.specs.HeaderRules.{recipientOrder}
-use Rattle.headers.specs.Components.{fullStop, absent, Components, places, misspelled}
+use Rattle.prelude.specs.Ascii.{fullStop}
+use Rattle.headers.specs.Components.{absent, Components, places, misspelled}
 use Rattle.headers.specs.Headers.{headerText, textOrder, protectedEntries, objectOrder}
 
 -- The position of the first full stop after a position.

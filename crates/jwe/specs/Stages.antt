@@ -15,8 +15,8 @@ use Rattle.rows.specs.Tables.{flat, entriesOf, headerTable}
 use Rattle.prelude.specs.Refusals.{Test, _if_, first}
 use Rattle.jose.specs.HeaderRules.{recipientOrder}
 use Rattle.headers.specs.Headers.{headerText, textOrder, outermost, protectedEntries, objectOrder}
-use Rattle.headers.specs.declared.Stage.{Stage}
-use Rattle.headers.specs.declared.Stage.the-variants.{Passed, Refused}
+use Rattle.prelude.specs.declared.Stage.{Stage}
+use Rattle.prelude.specs.declared.Stage.the-variants.{Passed, Refused}
 use Rattle.shape.specs.Shape.{protected, recipients, component, Recipient}
 use Rattle.shape.specs.Recipients.{componentsIn}
 use Rattle.shape.specs.Answers.{recipientWidth}

@@ -16,8 +16,8 @@ use crate::Result;
 use crate::judged::Judged;
 use crate::judged::handed;
 use crate::judged::ruled_out;
-use headers::Stage;
-use json::member::Place;
+use prelude::Place;
+use prelude::Stage;
 
 // The components between full stops, or that there are not exactly four full stops.
 pub enum FullStops {

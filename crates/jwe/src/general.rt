@@ -15,12 +15,12 @@ ghost use Rattle.prelude.specs.Any.{any};
 ghost use Rattle.rows.specs.Rows.{present, valueOf};
 ghost use Rattle.rows.specs.Prints.{Printed};
 ghost use Rattle.rows.specs.Tables.{flat, entriesOf, collectedTable, headerTable, recipientTable, width};
-ghost use Rattle.prelude.specs.Refusals.{first};
+ghost use Rattle.prelude.specs.Refusals.{first, stageOf};
 ghost use Rattle.jose.specs.HeaderRules.{recipientOrder, modeIn};
 ghost use Rattle.jose.specs.Judged.{judgedOf};
 ghost use Rattle.headers.specs.Components.{misspelled};
 ghost use Rattle.headers.specs.Headers.{headerText, protectedEntries, headerEntries, objectOrder};
-ghost use Rattle.headers.specs.Answers.{placeOf, stageOf, headerBuffer};
+ghost use Rattle.headers.specs.Answers.{placeOf, headerBuffer};
 ghost use Rattle.shape.specs.Shape.{component, protected, recipients, unprotected};
 ghost use Rattle.shape.specs.Recipients.{componentsIn};
 ghost use Rattle.shape.specs.Answers.{recipientWidth};
@@ -33,9 +33,9 @@ use crate::Components;
 use crate::Result;
 use crate::judged::Judged;
 use crate::judged::handed;
-use headers::Stage;
 use json::Position;
-use json::member::Place;
+use prelude::Place;
+use prelude::Stage;
 
 // The place of a component of the top level without its quotation marks; 0, 0 where it is absent.
 fn component(top: &[u32], count: usize, n: u32) -> Place

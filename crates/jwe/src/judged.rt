@@ -2,7 +2,7 @@
 ghost use mathlib.Core.Path.{_≡_};
 ghost use Rattle.jwe.specs.Answers.{handed, ruledOut};
 use crate::Result;
-use headers::Stage;
+use prelude::Stage;
 
 pub enum Judged {
     Accepted(Result),

@@ -11,8 +11,8 @@ ghost use Rattle.jwe.specs.Compact.{compactOrder};
 ghost use Rattle.jwe.specs.General.{jsonOrder};
 ghost use Rattle.jwe.specs.Judge.{outcome, result, refused, headerAfter, listAfter};
 ghost use Rattle.jwe.specs.Answers.{numbers, refusedBy, Judges};
-use json::member::Place;
 use judged::Judged;
+use prelude::Place;
 
 mod compact;
 mod general;
@@ -118,7 +118,7 @@ pub fn read(
     let Judged::Accepted(result) = judged else {
         return refusal(judged);
     };
-    rows::copy::copy_octets(&text[..result.header], header, 0);
+    prelude::copy_octets(&text[..result.header], header, 0);
     rows::copy::lay(&table, result.parameters, list);
     result
 }

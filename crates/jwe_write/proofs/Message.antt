@@ -5,7 +5,7 @@ use Prim.Native.Nat.{ℕ, _+_, _≤_, _<_, min}
 use native.Mathlib.Omega.{arith}
 use lib.ListN.{length, length-append}
 use Rattle.base64url.specs.Base64url.{encoded}
-use Rattle.headers.specs.Components.{fullStop}
+use Rattle.prelude.specs.Ascii.{fullStop}
 use Rattle.jwe_write.specs.Write.{Raw, compactText}
 
 -- A component behind a full stop.

@@ -11,13 +11,13 @@ ghost use Rattle.base64url.specs.Base64url.{encoded};
 ghost use Rattle.names.specs.Names.{names, filled};
 ghost use Rattle.rows.specs.Tables.{entriesOf, width};
 ghost use Rattle.prelude.specs.Refusals.{first};
-ghost use Rattle.headers.specs.Components.{fullStop};
+ghost use Rattle.prelude.specs.Ascii.{fullStop};
 ghost use Rattle.headers.specs.Headers.{textOrder, protectedEntries};
 ghost use Rattle.jwe_write.specs.Write.{raw, compactText, rulesOrder, parametersOrder};
 ghost use Rattle.jwe_write.specs.Answers.{WritesCompact};
-use headers::Stage;
 use jose::judge::Judged;
 use json::Found;
+use prelude::Stage;
 
 // What the writer answers: the octets written, or the refusal's number.
 pub enum Written {
@@ -108,7 +108,7 @@ fn put_next(octets: &[u8], out: &mut [u8], at: usize) -> usize
     ensures { λ r. ⌜ r ≡ at + length (fullStop ∷ encoded (now (octets .entry))) ⌝ }
     ensures { λ _. ⌜ now (out .exit) ≡ written at (fullStop ∷ encoded (now (octets .entry))) (now (out .entry)) ⌝ }
 {
-    out[at] = 46;
+    out[at] = b'.';
     put(octets, out, at + 1)
 }
 

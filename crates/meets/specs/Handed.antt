@@ -6,7 +6,7 @@ use mathlib.Core.List.{List, [], _∷_, _++_, flatMap}
 use mathlib.Core.Option.{Option, none, some}
 use Prim.Native.Nat.{ℕ, zero, suc, _+_, _-_}
 use lib.ListN.{length}
-use Rattle.prelude.specs.Ascii.{ascii}
+use Rattle.prelude.specs.Ascii.{ascii, fullStop}
 use Rattle.base64url.specs.Base64url.{encoded}
 use Rattle.grammar.specs.Grammar.{Str, leavesChars}
 use Rattle.grammar.specs.Places.{Place, Placed, item, Parts, done, part, placedText, startOf, sizeOf, partsOf, Member, members}
@@ -75,7 +75,7 @@ within v = record { start = startOf v + 1; size = sizeOf v - 2 }
 
 -- What applies to recipient n of a message.
 pub data Applies (message : List ℕ) (n : ℕ) (header : List ℕ) (x : Rows) : Type 0 where
-  compact : (rest : List ℕ) → (encoded header ++ (46 ∷ rest) ≡ message) → ProtectedRows header (x .protected)
+  compact : (rest : List ℕ) → (encoded header ++ (fullStop ∷ rest) ≡ message) → ProtectedRows header (x .protected)
       → (x .shared ≡ []) → (x .own ≡ []) → Applies message n header x
   json : (r : Reading 12 message)
       → ((NoMember message (ascii "protected") (partsOf (placedText (r .text))) × (header ≡ []) × (x .protected ≡ []))

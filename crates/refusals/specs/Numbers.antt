@@ -4,7 +4,7 @@ use mathlib.Core.Path.{_≡_}
 use mathlib.Core.List.{List, [], _∷_, _++_}
 use Prim.Native.Nat.{ℕ, _≤_, _<_}
 use lib.ListN.{length}
-use Rattle.prelude.specs.Ascii.{ascii}
+use Rattle.prelude.specs.Ascii.{ascii, fullStop}
 use Rattle.base64url.specs.Base64url.{encoded}
 use Rattle.grammar.specs.Bounds.{Every}
 use Rattle.grammar.specs.Readings.{Reading}
@@ -40,7 +40,7 @@ recipientTable known h key rest =
 
 -- A text without a full stop.
 abbrev pub Stopless : List ℕ → Type 0
-Stopless = Every (λ c. c ≡ 46 → ⊥)
+Stopless = Every (λ c. c ≡ fullStop → ⊥)
 
 -- 4: a message with exactly four full stops: five texts without one, and one between each two.
 pub record FiveParts (message : List ℕ) : Type 0 where
@@ -50,7 +50,7 @@ pub record FiveParts (message : List ℕ) : Type 0 where
   pub ciphertext : List ℕ
   pub tag : List ℕ
   pub stopless : Stopless header × Stopless key × Stopless iv × Stopless ciphertext × Stopless tag
-  pub is : header ++ (46 ∷ (key ++ (46 ∷ (iv ++ (46 ∷ (ciphertext ++ (46 ∷ tag))))))) ≡ message
+  pub is : header ++ (fullStop ∷ (key ++ (fullStop ∷ (iv ++ (fullStop ∷ (ciphertext ++ (fullStop ∷ tag))))))) ≡ message
 
 -- 5: octets of which a text is the encoding.
 abbrev pub Encoding : List ℕ → Type 0

@@ -11,8 +11,8 @@ ghost use Rattle.report.specs.Answers.{listLines};
 use crate::words::put_named;
 use crate::words::put_number;
 use crate::words::put_word;
-use json::member::Place;
 use jwe::Components;
+use prelude::Place;
 
 // The words for the reader's numbers, as lists of names, contents first, as `names` reads them. Where one is used it is
 // proved to be the list of the words that the definition has, by computing.

@@ -12,7 +12,7 @@ pub(crate) fn put_word(word: &[u8], end: u8, out: &mut [u8], at: usize) -> usize
     ensures { λ r. ⌜ r ≡ at + length (ended (now (word .entry)) end) ⌝ }
     ensures { λ _. ⌜ now (out .exit) ≡ written at (ended (now (word .entry)) end) (now (out .entry)) ⌝ }
 {
-    rows::copy::copy_octets(word, out, at);
+    prelude::copy_octets(word, out, at);
     let last = at + word.len();
     out[last] = end;
     last + 1

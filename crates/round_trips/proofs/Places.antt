@@ -10,7 +10,8 @@ use Rattle.base64url.specs.Base64url.{encoded}
 use Rattle.parts.specs.Parts.{seek, holds}
 use Rattle.parts.proofs.Laws.{seek-after}
 use Rattle.grammar.specs.Places.{Place}
-use Rattle.headers.specs.Components.{fullStop, octetsAt, absent, Components, dotted}
+use Rattle.prelude.specs.Ascii.{fullStop}
+use Rattle.headers.specs.Components.{octetsAt, absent, Components, dotted}
 use Rattle.jwe.specs.Compact.{stops, compactComponents}
 use Rattle.jwe_write.specs.Write.{Raw, compactText}
 use Rattle.meets.proofs.FiveParts.{FiveParts, parts-placed}

@@ -6,8 +6,8 @@ pub mod Asking
 pub mod Printing
 -- For `collect`: entries of rows.
 pub mod Collecting
--- Numbers copied, and entries laid out.
-pub mod Copying
+-- Entries laid out as the list.
+pub mod Laying
 -- An entry's text, and the value of the first entry of a name.
 pub mod Values
 -- Names compared where their fingerprints are one.

@@ -4,7 +4,7 @@ ghost use Prim.Native.Nat.{_+_, _-_, _*_, _≤_, _<_};
 ghost use lib.ListN.{length, drop, getD};
 ghost use Rattle.rows.specs.Rows.{nameIn, valueIn, present, valueOf};
 ghost use Rattle.rows.specs.Tables.{firstOf, entriesOf, width};
-use json::member::Place;
+use prelude::Place;
 
 // The k-th of an entry's eight numbers.
 pub fn field(table: &[u32], i: usize, k: usize) -> usize
@@ -29,20 +29,13 @@ pub fn name<'a>(header: &'a [u8], message: &'a [u8], table: &[u32], i: usize) ->
     parts::part(message, start, len)
 }
 
-// The difference, or 0.
-fn minus(a: usize, b: usize) -> usize
-    ensures { λ r. ⌜ r ≡ a - b ⌝ }
-{
-    if b <= a { a - b } else { 0 }
-}
-
 // Its value, a string, without quotation marks, likewise.
 pub fn value<'a>(header: &'a [u8], message: &'a [u8], table: &[u32], i: usize) -> &'a [u8]
     requires { ⌜ i * width + width ≤ length (now table) ⌝ }
     ensures { λ r. ⌜ now r ≡ valueIn (now (header .entry)) (now (message .entry)) (firstOf (drop (i * width) (now (table .entry)))) ⌝ }
 {
     let begin = field(table, i, 3) + 1;
-    let size = minus(field(table, i, 4), 2);
+    let size = prelude::minus(field(table, i, 4), 2);
     let origin = field(table, i, 0);
     if origin == 0 {
         return parts::part(header, begin, size);

@@ -17,18 +17,6 @@ pub fn copy(from: &[u32], into: &mut [u32], at: usize)
     }
 }
 
-// The same for octets.
-pub fn copy_octets(from: &[u8], into: &mut [u8], at: usize)
-    requires { ⌜ at + length (now from) ≤ length (now into) ⌝ }
-    ensures { λ _. ⌜ now (into .exit) ≡ written at (now (from .entry)) (now (into .entry)) ⌝ }
-{
-    let mut j: usize = 0;
-    while j < from.len() {
-        into[at + j] = from[j];
-        j += 1;
-    }
-}
-
 // One entry's six numbers of the list, which are the first of its eight in the table.
 fn lay_one(table: &[u32], i: usize, list: &mut [u32])
     requires { ⌜ i * width + width ≤ length (now table) ⌝ }

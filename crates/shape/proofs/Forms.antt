@@ -12,11 +12,10 @@ use Rattle.prelude.proofs.Writing.{begins}
 use Rattle.grammar.specs.Places.{Element}
 use Rattle.grammar.specs.Reader.{elementsAt}
 use Rattle.rows.specs.Rows.{Entry, present, valueOf}
-use Rattle.prelude.specs.Refusals.{Test, _if_, first}
+use Rattle.prelude.specs.Refusals.{Test, _if_, first, stageOf}
 use Rattle.prelude.proofs.Refusals.{nonzero}
-use Rattle.headers.specs.Answers.{stageOf}
-use Rattle.headers.specs.declared.Stage.{Stage}
-use Rattle.headers.specs.declared.Stage.the-variants.{Passed, Refused}
+use Rattle.prelude.specs.declared.Stage.{Stage}
+use Rattle.prelude.specs.declared.Stage.the-variants.{Passed, Refused}
 use Rattle.headers.proofs.Stages.{passed-is, refused-is}
 use Rattle.shape.specs.Shape.{Recipient, recipientOf, wrongElements}
 use Rattle.shape.specs.Recipients.{elementsIn, elementEntries, elementOrder, elementsOrder, recipientsIn}

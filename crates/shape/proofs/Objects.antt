@@ -17,12 +17,11 @@ use Rattle.json.specs.declared.Found.{Found}
 use Rattle.rows.specs.Rows.{Entry, entryOf, entriesIn, repeated}
 use Rattle.rows.specs.Tables.{flat, entriesOf, collectedTable}
 use Rattle.rows.proofs.Entries.{flat-length, entries-written}
-use Rattle.prelude.specs.Refusals.{Test, _if_, first}
+use Rattle.prelude.specs.Refusals.{Test, _if_, first, stageOf}
 use Rattle.prelude.proofs.Refusals.{first-fails, first-passes}
 use Rattle.headers.specs.Headers.{isNothing, unread, outermost, objectOrder}
-use Rattle.headers.specs.Answers.{stageOf}
-use Rattle.headers.specs.declared.Stage.{Stage}
-use Rattle.headers.specs.declared.Stage.the-variants.{Passed, Refused}
+use Rattle.prelude.specs.declared.Stage.{Stage}
+use Rattle.prelude.specs.declared.Stage.the-variants.{Passed, Refused}
 use Rattle.headers.proofs.Stages.{passed-is, object-nonzero}
 use Rattle.headers.proofs.Texts.{noValue}
 use Rattle.shape.specs.Shape.{memberNames, memberEntries, wrongTop, wrongElement}

@@ -6,10 +6,9 @@ use Prim.Native.Nat.{ℕ, _<_}
 use native.Mathlib.Omega.{arith}
 use lib.Dec.{eqb}
 use borrow.Author.Tests.{ne-eqb, eqb-true, eqb-false}
-use Rattle.prelude.specs.Refusals.{Test, _if_, first}
+use Rattle.prelude.specs.Refusals.{Test, _if_, first, stageOf}
 use Rattle.prelude.proofs.Refusals.{nonzero, first-skip, first-stop}
-use Rattle.headers.specs.Answers.{stageOf}
-use Rattle.headers.specs.declared.Stage.the-variants.{Passed, Refused}
+use Rattle.prelude.specs.declared.Stage.the-variants.{Passed, Refused}
 use Rattle.headers.proofs.Stages.{passed-is, refused-is}
 
 refused-of : (m n : ℕ) → 0 < m → Refused m ≡ stageOf m n

@@ -11,12 +11,11 @@ use borrow.Author.Tests.{eq-eqb, ne-eqb}
 use Rattle.prelude.specs.Buffer.{written}
 use Rattle.prelude.proofs.Lists.{drop-next}
 use Rattle.prelude.proofs.Writing.{Writing, begin, put-part, done}
-use Rattle.prelude.specs.Refusals.{first}
+use Rattle.prelude.specs.Refusals.{first, stageOf}
 use Rattle.prelude.proofs.Refusals.{nonzero, first-skip}
 use Rattle.headers.specs.Headers.{objectOrder}
-use Rattle.headers.specs.Answers.{stageOf}
-use Rattle.headers.specs.declared.Stage.{Stage}
-use Rattle.headers.specs.declared.Stage.the-variants.{Passed, Refused}
+use Rattle.prelude.specs.declared.Stage.{Stage}
+use Rattle.prelude.specs.declared.Stage.the-variants.{Passed, Refused}
 use Rattle.headers.proofs.Stages.{passed-is, refused-is}
 use Rattle.shape.specs.Shape.{recipientOf}
 use Rattle.shape.specs.Recipients.{elementEntries, elementOrder}

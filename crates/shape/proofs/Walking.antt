@@ -12,11 +12,10 @@ use Rattle.prelude.specs.Buffer.{written}
 use Rattle.prelude.proofs.Writing.{Writing, begin, put, done}
 use Rattle.grammar.specs.Places.{Element}
 use Rattle.prelude.specs.Any.{any}
-use Rattle.prelude.specs.Refusals.{first}
+use Rattle.prelude.specs.Refusals.{first, stageOf}
 use Rattle.jose.specs.HeaderRules.{isEmpty}
-use Rattle.headers.specs.Answers.{stageOf}
-use Rattle.headers.specs.declared.Stage.{Stage}
-use Rattle.headers.specs.declared.Stage.the-variants.{Passed, Refused}
+use Rattle.prelude.specs.declared.Stage.{Stage}
+use Rattle.prelude.specs.declared.Stage.the-variants.{Passed, Refused}
 use Rattle.shape.specs.Shape.{noObject, wrongElements}
 use Rattle.shape.specs.Answers.{arrayOrder, startsOf, counted, Leaves}
 

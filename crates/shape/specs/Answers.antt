@@ -10,8 +10,8 @@ use Rattle.grammar.specs.Places.{Element}
 use Rattle.rows.specs.Rows.{Entry, present}
 use Rattle.prelude.specs.Refusals.{Test, _if_, first}
 use Rattle.prelude.specs.Limits.{mostRecipients}
-use Rattle.headers.specs.declared.Stage.{Stage}
-use Rattle.headers.specs.declared.Stage.the-variants.{Passed, Refused}
+use Rattle.prelude.specs.declared.Stage.{Stage}
+use Rattle.prelude.specs.declared.Stage.the-variants.{Passed, Refused}
 use Rattle.shape.specs.Shape.{Recipient, recipientOf, recipients, wrongElements}
 use Rattle.shape.specs.Recipients.{elementsIn, elementEntries, elementOrder}
 

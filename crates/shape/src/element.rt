@@ -10,25 +10,17 @@ ghost use Rattle.grammar.specs.Reader.{elementsAt};
 ghost use Rattle.json.specs.Known.{KnownFrom, KnownIn};
 ghost use Rattle.prelude.specs.Any.{any};
 ghost use Rattle.rows.specs.Tables.{entriesOf, width};
-ghost use Rattle.prelude.specs.Refusals.{first};
+ghost use Rattle.prelude.specs.Refusals.{first, stageOf};
 ghost use Rattle.jose.specs.Elements.{elementsFrom};
-ghost use Rattle.headers.specs.Answers.{stageOf};
 ghost use Rattle.shape.specs.Shape.{noObject, encryptedKey, component, recipientOf};
 ghost use Rattle.shape.specs.Recipients.{elementEntries, elementOrder};
 ghost use Rattle.shape.specs.Answers.{three, flatRecipients, startsOf, arrayOrder, counted};
 ghost use Rattle.shape.specs.Answers.{startsOrder, passedAt, Leaves, LeavesAt, recipientWidth};
 use crate::member;
-use headers::Stage;
 use json::Position;
 use json::member::Member;
-use json::member::Place;
-
-// The difference, or 0.
-fn minus(a: usize, b: usize) -> usize
-    ensures { λ r. ⌜ r ≡ a - b ⌝ }
-{
-    if b <= a { a - b } else { 0 }
-}
+use prelude::Place;
+use prelude::Stage;
 
 // The place of the encrypted key without its quotation marks; 0, 0 where it is absent.
 fn key(table: &[u32], count: usize) -> Place
@@ -42,7 +34,7 @@ fn key(table: &[u32], count: usize) -> Place
     }
     Place {
         start: value.start + 1,
-        len: minus(value.len, 2),
+        len: prelude::minus(value.len, 2),
     }
 }
 

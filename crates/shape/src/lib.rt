@@ -5,13 +5,12 @@ ghost use lib.ListN.{length};
 ghost use Rattle.rows.specs.Tables.{entriesOf, headerTable, width};
 ghost use Rattle.prelude.specs.Buffer.{written};
 ghost use Rattle.prelude.specs.Limits.{longest};
-ghost use Rattle.prelude.specs.Refusals.{first};
-ghost use Rattle.headers.specs.Answers.{stageOf};
+ghost use Rattle.prelude.specs.Refusals.{first, stageOf};
 ghost use Rattle.shape.specs.Recipients.{topEntries, topOrder, topTable, elementsOrder, recipientsIn};
 ghost use Rattle.shape.specs.Answers.{flatRecipients, writtenIn, recipientsRoom};
-use headers::Stage;
 use json::Found;
 use json::Position;
+use prelude::Stage;
 
 // The known members of a message, contents first.
 pub const MEMBERS: [u8; 77] = *b"\x09\

@@ -17,12 +17,11 @@ use Rattle.json.specs.declared.Position.{Position}
 use Rattle.json.specs.declared.member.Row.{Row}
 use Rattle.json.specs.declared.member.Member.{Member}
 use Rattle.json.specs.declared.member.Member.the-variants as member
-use Rattle.prelude.specs.Refusals.{_if_, first}
+use Rattle.prelude.specs.Refusals.{_if_, first, stageOf}
 use Rattle.prelude.proofs.Refusals.{first-fails, first-passes}
 use Rattle.prelude.specs.Limits.{longest}
 use Rattle.headers.specs.Headers.{unread, protectedEntries, objectOrder}
-use Rattle.headers.specs.Answers.{stageOf}
-use Rattle.headers.specs.declared.Stage.the-variants.{Passed, Refused}
+use Rattle.prelude.specs.declared.Stage.the-variants.{Passed, Refused}
 use Rattle.headers.proofs.Stages.{passed-is, refused-is}
 use Rattle.headers.proofs.Texts.{noValue, by-reading}
 use Rattle.walk.specs.declared.Opening.{Opening}

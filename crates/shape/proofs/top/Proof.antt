@@ -11,9 +11,8 @@ use Rattle.names.proofs.Laws.{names-of}
 use Rattle.rows.specs.Tables.{collectedTable}
 use Rattle.grammar.specs.Grammar.{curly}
 use Rattle.json.specs.Known.{KnownIn}
-use Rattle.prelude.specs.Refusals.{first}
+use Rattle.prelude.specs.Refusals.{first, stageOf}
 use Rattle.headers.specs.Headers.{unread, objectOrder}
-use Rattle.headers.specs.Answers.{stageOf}
 use Rattle.headers.proofs.Texts.{noValue}
 use Rattle.shape.specs.Shape.{memberNames, wrongTop}
 use Rattle.shape.specs.Recipients.{topEntries, topTable}

@@ -1,7 +1,7 @@
 -- `jwe_component` hands on the reader's refusal, or what decoding the component's text answers.
 use mathlib.Core.Path.{ap, sym, _∙_}
 use Rattle.parts.specs.Parts.{part}
-use Rattle.json.specs.declared.member.Place.{Place}
+use Rattle.prelude.specs.declared.Place.{Place}
 use Rattle.headers.specs.Components as headers
 use Rattle.headers.specs.Components.{octetsAt}
 use Rattle.host.specs.Component.{componentPlace}

@@ -13,12 +13,12 @@ use Rattle.rows.specs.Tables.{collectedTable}
 use Rattle.rows.specs.Prints.{Printed}
 use Rattle.rows.proofs.Printing.{entries-printed}
 use Rattle.jose.specs.Registered.{registered}
-use Rattle.prelude.specs.Refusals.{first}
+use Rattle.prelude.specs.Refusals.{first, stageOf}
 use Rattle.jose.specs.HeaderRules.{recipientOrder, modeIn}
 use Rattle.jose.specs.Judged.{judgedOf}
 use Rattle.headers.specs.Components.{misspelled, places}
 use Rattle.headers.specs.Headers.{headerText, textOrder, outermost, protectedEntries, objectOrder}
-use Rattle.headers.specs.Answers.{placeOf, stageOf, headerBuffer}
+use Rattle.headers.specs.Answers.{placeOf, headerBuffer}
 use Rattle.headers.proofs.Stages.{refused-is, ruled-mode, ruled-refused}
 use Rattle.headers.proofs.Collected.{Kept, kept-passed, table-length}
 use Rattle.jwe.specs.Compact.{compactComponents, compactOrder}

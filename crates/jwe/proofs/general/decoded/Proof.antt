@@ -4,10 +4,10 @@ use lib.ListN.{length}
 use borrow.Author.Tests.{not-true, not-false}
 use Rattle.grammar.specs.Places.{Place}
 use Rattle.rows.specs.Tables.{entriesOf}
-use Rattle.prelude.specs.Refusals.{first}
+use Rattle.prelude.specs.Refusals.{first, stageOf}
 use Rattle.headers.specs.Components.{misspelled}
 use Rattle.headers.specs.Headers.{headerText, textOrder}
-use Rattle.headers.specs.Answers.{stageOf, headerBuffer}
+use Rattle.headers.specs.Answers.{headerBuffer}
 use Rattle.shape.specs.Shape.{component}
 use Rattle.jwe.proofs.JsonHeaders.{no-header-passes, no-header-left, text-there}
 use borrow.Author.Needs.{needs}

@@ -7,9 +7,8 @@ use native.Mathlib.Omega.{arith}
 use lib.ListN.{length, drop, length-set}
 use Rattle.rows.specs.Rows.{Entry}
 use Rattle.rows.specs.Tables.{collectedTable}
-use Rattle.prelude.specs.Refusals.{Test, first}
+use Rattle.prelude.specs.Refusals.{Test, first, stageOf}
 use Rattle.headers.specs.Headers.{objectOrder}
-use Rattle.headers.specs.Answers.{stageOf}
 use Rattle.headers.proofs.Stages.{passed-is, refused-is}
 use Rattle.shape.specs.Shape.{Recipient}
 use Rattle.jwe.specs.General.{ownEntries}

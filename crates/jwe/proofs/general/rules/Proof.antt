@@ -14,11 +14,10 @@ use Rattle.rows.specs.Rows.{Entry}
 use Rattle.rows.specs.Prints.{Printed}
 use Rattle.rows.specs.Tables.{entriesOf}
 use Rattle.rows.proofs.Printing.{printed-append}
-use Rattle.prelude.specs.Refusals.{Test, first}
+use Rattle.prelude.specs.Refusals.{Test, first, stageOf}
 use Rattle.jose.specs.HeaderRules.{recipientOrder, modeIn}
 use Rattle.jose.specs.Judged.{judgedOf}
 use Rattle.prelude.proofs.Refusals.{nonzero}
-use Rattle.headers.specs.Answers.{stageOf}
 use Rattle.shape.specs.Shape.{Recipient}
 use Rattle.jwe.specs.General.{ownEntries}
 use Rattle.jwe.specs.Stages.{recipientAt, recipientsOf, ruleTests, refusedOf}

@@ -3,7 +3,7 @@ use Prim.Native.Nat.{_+_, _-_, _≤_}
 use native.Mathlib.Omega.{arith}
 use lib.ListN.{length, drop}
 use Rattle.prelude.proofs.Writing.{Writing}
-use Rattle.rows.proofs.Copying.{copy-begins, copy-turn, copied}
+use Rattle.prelude.proofs.Copying.{copy-begins, copy-turn, copied}
 use borrow.Author.Needs.{needs}
 use Rattle.rows.proofs.copy.copy.Statement.{statement}
 use Rattle.rows.proofs.copy.copy.Tie as tie

@@ -1,7 +1,7 @@
 -- `lay` lays out each entry in turn.
 use Prim.Native.Nat.{_-_, _≤_}
 use native.Mathlib.Omega.{arith}
-use Rattle.rows.proofs.Copying.{Laid, lay-begins, lay-turn, laid}
+use Rattle.rows.proofs.Laying.{Laid, lay-begins, lay-turn, laid}
 use borrow.Author.Needs.{needs}
 use Rattle.rows.proofs.copy.lay.Statement.{statement}
 use Rattle.rows.proofs.copy.lay.Tie as tie

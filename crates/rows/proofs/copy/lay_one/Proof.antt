@@ -3,7 +3,7 @@ use Prim.Native.Nat.{ℕ, _*_}
 use mathlib.Core.Path.{ap, _∙_}
 use mathlib.Core.List.{List}
 use Rattle.prelude.specs.Buffer.{written}
-use Rattle.rows.proofs.Copying.{six-part}
+use Rattle.rows.proofs.Laying.{six-part}
 use borrow.Author.Needs.{needs}
 use Rattle.rows.proofs.copy.lay_one.Statement.{statement}
 use Rattle.rows.proofs.copy.lay_one.Tie as tie

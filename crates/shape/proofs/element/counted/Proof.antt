@@ -2,7 +2,7 @@
 use mathlib.Core.Path.{ap, sym}
 use mathlib.Core.Bool.{Bool, cond}
 use borrow.Author.Tests.{eq-eqb, ne-eqb}
-use Rattle.headers.specs.declared.Stage.the-variants.{Passed, Refused}
+use Rattle.prelude.specs.declared.Stage.the-variants.{Passed, Refused}
 use Rattle.shape.proofs.element.counted.Statement.{statement}
 use Rattle.shape.proofs.element.counted.Tie as tie
 use Rattle.shape.proofs.element.counted.Reads as reads

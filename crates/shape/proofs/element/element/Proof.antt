@@ -8,9 +8,8 @@ use Rattle.prelude.specs.Buffer.{written}
 use Rattle.names.specs.Names.{listOf, filled, total}
 use Rattle.names.proofs.Laws.{names-of}
 use Rattle.rows.specs.Rows.{Entry}
-use Rattle.prelude.specs.Refusals.{first}
+use Rattle.prelude.specs.Refusals.{first, stageOf}
 use Rattle.headers.specs.Headers.{objectOrder}
-use Rattle.headers.specs.Answers.{stageOf}
 use Rattle.shape.specs.Shape.{memberNames, wrongElement, recipientOf}
 use Rattle.shape.specs.Recipients.{elementEntries}
 use Rattle.shape.specs.Answers.{three}

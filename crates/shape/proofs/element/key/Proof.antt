@@ -11,7 +11,6 @@ use Rattle.shape.proofs.element.key.Tie as tie
 use Rattle.shape.proofs.element.key.Reads as reads
 use Rattle.shape.proofs.element.key.Lts as lts
 use Rattle.rows.proofs.ask.value_of.Reads as value-of-reads
-use Rattle.shape.proofs.element.minus.Reads as minus-reads
 
 value-of-requires : tie.Need-value-of-requires
 value-of-requires c κs = search needs

@@ -1,5 +1,4 @@
--- A list copied into a buffer element by element, whatever its elements' width, and entries laid out one after the
--- other: what is still to come is the list from the next element on.
+-- Entries laid out as the list's numbers, one after the other: what is still to come is the list from the next entry on.
 use mathlib.Core.Path.{_≡_, refl, ap, sym, subst, _∙_}
 use mathlib.Core.List.{List}
 use Prim.Native.Nat.{ℕ, _+_, _-_, _*_, _≤_, _<_}
@@ -13,18 +12,6 @@ use Rattle.prelude.proofs.Writing.{Writing, begin, put, put-part, done}
 use Rattle.rows.specs.Rows.{Entry}
 use Rattle.rows.specs.Tables.{six, flat, listed, firstOf, entriesOf}
 use Rattle.rows.proofs.Entries.{listed-length, entries-length, flat-of, entry-at, entries-done}
-
-pub copy-begins : (at : ℕ) (s before : List ℕ) → at + length s ≤ length before → Writing at s before (drop 0 s) (at + 0) before
-copy-begins at s before h = rw (add-zero at) (begin at s before h)
-
-module _ {at : ℕ} {s before now : List ℕ} {k : ℕ} (w : Writing at s before (drop k s) (at + k) now) where
-  pub copy-turn : k < length s → Writing at s before (drop (k + 1) s) (at + (k + 1)) (set now (at + k) (getD s k 0))
-  copy-turn h =
-      put (getD s k 0) (at + (k + 1)) (omega arith)
-      (subst (λ (l : List ℕ). Writing at s before l (at + k) now) (drop-next s k (k + 1) refl h) w)
-
-  pub copied : length s ≤ k → now ≡ written at s before
-  copied h = done (subst (λ (l : List ℕ). Writing at s before l (at + k) now) (drop-of-length-le s h) w)
 
 -- The part of a table that is an entry's first six numbers.
 pub six-part : (t : List ℕ) (start : ℕ) → start + 8 ≤ length t

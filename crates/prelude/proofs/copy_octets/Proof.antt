@@ -2,11 +2,11 @@
 use Prim.Native.Nat.{_+_, _-_, _≤_}
 use native.Mathlib.Omega.{arith}
 use lib.ListN.{length, drop}
 use Rattle.prelude.proofs.Writing.{Writing}
-use Rattle.rows.proofs.Copying.{copy-begins, copy-turn, copied}
+use Rattle.prelude.proofs.Copying.{copy-begins, copy-turn, copied}
 use borrow.Author.Needs.{needs}
-use Rattle.rows.proofs.copy.copy_octets.Statement.{statement}
-use Rattle.rows.proofs.copy.copy_octets.Tie as tie
+use Rattle.prelude.proofs.copy_octets.Statement.{statement}
+use Rattle.prelude.proofs.copy_octets.Tie as tie
 
 abbrev Inv-loop : tie.InvT-loop
 Inv-loop from into₀ at j₀ into j = (j ≤ length from) × Writing at from into₀ (drop j from) (at + j) into
