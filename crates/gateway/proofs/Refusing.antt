@@ -18,7 +18,7 @@ use Rattle.base64url.specs.Answers.{decodeOrder, decodeRefusal, decodeBuffer}
 use Rattle.headers.specs.Headers.{textOrder, objectOrder}
 use Rattle.jwe.specs.Judge.{refusal}
 use Rattle.aad.specs.Aad.{aadText, aadOrder, aadRefusal, aadBuffer}
-use Rattle.jwe_write.specs.Write.{Raw, compactText, rulesOrder, writeOrder, writeRefusal}
+use Rattle.jwe_write.specs.Write.{Raw, compactText, writeOrder, writeRefusal}
 use Rattle.jwe_write.specs.Answers.{writeBuffer}
 use Rattle.meets.proofs.Refused.{refusal-numbered}
 use Rattle.gateway.specs.Numbers.{readNumbers, decodeNumbers, aadNumbers, writeNumbers}
@@ -74,7 +74,7 @@ aad-changes-nothing header aad out n =
 pub writing-changes-nothing : (c : Raw) (known out : List ℕ) → (writeRefusal c known (length out) ≡ 0 → ⊥) →
     ChangesNothing writeNumbers (writeRefusal c known (length out))
     (octetsWritten (writeRefusal c known (length out)) (compactText c)) out (writeBuffer c known out)
-unfolding writeRefusal writeOrder textOrder objectOrder rulesOrder
+unfolding writeRefusal writeOrder textOrder objectOrder
 writing-changes-nothing c known out n =
     changes-nothing (writeRefusal c known (length out)) (compactText c) out writeNumbers
     (first-listed (writeOrder c known (length out)) n) n

@@ -8,8 +8,6 @@ use native.Mathlib.Omega.{arith}
 use lib.Dec.{eqb}
 use borrow.Author.Tests.{eqb-true, eqb-false}
 use Rattle.rows.specs.Rows.{Entry}
-use Rattle.jose.specs.Judged.{judgedOf}
-use Rattle.jose.specs.declared.judge.Judged.the-variants as ruled
 use Rattle.prelude.specs.Refusals.{Test, first, stageOf}
 use Rattle.prelude.proofs.Refusals.{nonzero, first-stop}
 use Rattle.headers.specs.Headers.{tooLong, unread, textOrder, objectOrder}
@@ -33,24 +31,6 @@ module _ (n refusal passes : ℕ) where
           (refusal ≡ n) × (0 < n)
       cases true t e = let z : _≡_ {A = ℕ} 0 1 = cc in absurd (omega arith)
       cases false t e = let same : refusal ≡ n = cc in (same, omega (arith, eqb-false refusal 0 t))
-
--- The answer of the rules.
-module _ (n k p : ℕ) where
-  pub ruled-mode : ruled.Mode n ≡ judgedOf k p → (k ≡ 0) × (n ≡ p)
-  unfolding judgedOf
-  ruled-mode e = cases (eqb k 0) refl e
-    where
-      cases : (b : Bool) → eqb k 0 ≡ b → ruled.Mode n ≡ cond b (ruled.Mode p) (ruled.Refused k) → (k ≡ 0) × (n ≡ p)
-      cases true t e = (eqb-true k 0 t, cc)
-      cases false t e = let z : _≡_ {A = ℕ} 0 1 = cc in absurd (omega arith)
-
-  pub ruled-refused : ruled.Refused n ≡ judgedOf k p → (k ≡ n) × (0 < n)
-  unfolding judgedOf
-  ruled-refused e = cases (eqb k 0) refl e
-    where
-      cases : (b : Bool) → eqb k 0 ≡ b → ruled.Refused n ≡ cond b (ruled.Mode p) (ruled.Refused k) → (k ≡ n) × (0 < n)
-      cases true t e = let z : _≡_ {A = ℕ} 0 1 = cc in absurd (omega arith)
-      cases false t e = let same : k ≡ n = cc in (same, omega (arith, eqb-false k 0 t))
 
 pub text-nonzero : (header : List ℕ) → nonzero (textOrder header) ≡ true
 unfolding textOrder

@@ -3,3 +3,5 @@ pub mod Asked
 pub mod Elements
 pub mod InTable
 pub mod Walks
+-- Rules asked in order.
+pub mod Order

@@ -93,14 +93,34 @@ keyless m = eqb m 3 || eqb m 5
 abbrev pub wrongKey : ℕ → Bool → Bool
 wrongKey m noKey = xor (keyless m) noKey
 
--- Refusals 12 to 18 of a recipient with these entries, whose key is empty or not.
+-- Rules by their numbers
+
+-- Whether a recipient with these entries, whose key is wrong or not, breaks the rule of a number. No other number is a rule's.
+abbrev pub breaks : List (List ℕ) → List ℕ → List ℕ → List Entry → Bool → ℕ → Bool
+breaks known header message es badKey n =
+    cond (eqb n 12) (repeated true header message es)
+    (cond (eqb n 13) (incomplete es)
+    (cond (eqb n 14) (any wrongKind es)
+    (cond (eqb n 15) (any (unlisted header message) es)
+    (cond (eqb n 16) (any unprotected es)
+    (cond (eqb n 17) (any (critical known header message es) es)
+    (cond (eqb n 18) badKey false))))))
+
+-- The tests of some rules, in order, of a recipient whose key is empty or not.
+abbrev pub rulesOrder : List (List ℕ) → List ℕ → List ℕ → List Entry → Bool → List ℕ → List Test
+rulesOrder known header message es noKey [] = []
+rulesOrder known header message es noKey (n ∷ ns) =
+    n if breaks known header message es (wrongKey (modeIn header message es) noKey) n
+    ∷ rulesOrder known header message es noKey ns
+
+-- All of them.
+abbrev pub recipientRules : List ℕ
+recipientRules = 12 ∷ 13 ∷ 14 ∷ 15 ∷ 16 ∷ 17 ∷ 18 ∷ []
+
+-- Those that can be broken where only a protected header is there.
+abbrev pub protectedRules : List ℕ
+protectedRules = 13 ∷ 14 ∷ 15 ∷ 17 ∷ 18 ∷ []
+
+-- Refusals 12 to 18 of a recipient.
 unfoldable pub recipientOrder : List (List ℕ) → List ℕ → List ℕ → List Entry → Bool → List Test
-recipientOrder known header message es noKey =
-    12 if repeated true header message es
-    ∷ 13 if incomplete es
-    ∷ 14 if any wrongKind es
-    ∷ 15 if any (unlisted header message) es
-    ∷ 16 if any unprotected es
-    ∷ 17 if any (critical known header message es) es
-    ∷ 18 if wrongKey (modeIn header message es) noKey
-    ∷ []
+recipientOrder known header message es noKey = rulesOrder known header message es noKey recipientRules

@@ -6,15 +6,15 @@ ghost use lib.ListN.{length};
 ghost use Rattle.names.specs.Names.{names, filled};
 ghost use Rattle.rows.specs.Prints.{Printed};
 ghost use Rattle.rows.specs.Tables.{entriesOf, width};
-ghost use Rattle.prelude.specs.Refusals.{first};
-ghost use Rattle.jose.specs.HeaderRules.{wrongKey, recipientOrder, modeIn};
-ghost use Rattle.jose.specs.Judged.{judgedOf};
+ghost use Rattle.prelude.specs.Refusals.{first, stageOf};
+ghost use Rattle.jose.specs.HeaderRules.{wrongKey, modeIn, breaks, rulesOrder};
+use prelude::Stage;
 
-// What judging answers: the mode of the algorithm, or document 01's 12 to 18.
-pub enum Judged {
-    Mode(u32),
-    Refused(u32),
-}
+// The rules on a recipient by their numbers, in document 01's order; and those that can be broken where only a protected header
+// is there.
+pub const RECIPIENT: [u32; 7] = [12, 13, 14, 15, 16, 17, 18];
+
+pub const PROTECTED: [u32; 5] = [13, 14, 15, 17, 18];
 
 // Modes 3 and 5 have no key of their own, the others do.
 fn wrong_key(mode: u32, no_key: bool) -> bool
@@ -29,41 +29,64 @@ fn wrong_key(mode: u32, no_key: bool) -> bool
     no_key
 }
 
-// One recipient, whose key is empty or not: the mode, or the first refusal.
+// Whether one recipient, whose key is wrong or not, breaks the rule of a number.
+fn breaks(
+    rule: u32,
+    header: &[u8],
+    message: &[u8],
+    known: &[u8],
+    table: &[u32],
+    count: usize,
+    bad_key: bool,
+) -> bool
+    requires { ⌜ filled (now known) ≡ true ⌝ }
+    requires { ⌜ count * width ≤ length (now table) ⌝ }
+    requires { ⌜ Printed (now header) (now message) (entriesOf count (now table)) ⌝ }
+    ensures { λ r. ⌜ r
+        ≡ breaks (names (now (known .entry))) (now (header .entry)) (now (message .entry))
+        (entriesOf count (now (table .entry))) «bad_key» rule ⌝ }
+{
+    match rule {
+        12 => rows::repeat::clashes(header, message, table, count, true),
+        13 => crate::rules::incomplete(table, count),
+        14 => crate::rules::wrong_kind(table, count),
+        15 => crate::rules::unlisted(header, message, table, count),
+        16 => crate::rules::unprotected(table, count),
+        17 => crate::crit::wrong_crit(header, message, known, table, count),
+        18 => bad_key,
+        _ => false,
+    }
+}
+
+// One recipient, whose key is empty or not, judged by some rules in order: the mode of its algorithm, or the number of the first
+// that it breaks.
 pub fn judge(
+    rules: &[u32],
     header: &[u8],
     message: &[u8],
     known: &[u8],
     table: &[u32],
     count: usize,
     no_key: bool,
-) -> Judged
+) -> Stage
     requires { ⌜ filled (now known) ≡ true ⌝ }
     requires { ⌜ count * width ≤ length (now table) ⌝ }
     requires { ⌜ Printed (now header) (now message) (entriesOf count (now table)) ⌝ }
-    ensures { λ r. ⌜ r ≡ judgedOf (first (recipientOrder (names (now (known .entry))) (now (header .entry)) (now (message .entry)) (entriesOf count (now (table .entry))) «no_key»)) (modeIn (now (header .entry)) (now (message .entry)) (entriesOf count (now (table .entry)))) ⌝ }
+    ensures { λ r. ⌜ r
+        ≡ stageOf
+        (first (rulesOrder (names (now (known .entry))) (now (header .entry)) (now (message .entry))
+        (entriesOf count (now (table .entry))) «no_key» (now (rules .entry))))
+        (modeIn (now (header .entry)) (now (message .entry)) (entriesOf count (now (table .entry)))) ⌝ }
 {
-    if rows::repeat::clashes(header, message, table, count, true) {
-        return Judged::Refused(12);
-    }
-    if crate::rules::incomplete(table, count) {
-        return Judged::Refused(13);
-    }
-    if crate::rules::wrong_kind(table, count) {
-        return Judged::Refused(14);
-    }
-    if crate::rules::unlisted(header, message, table, count) {
-        return Judged::Refused(15);
-    }
-    if crate::rules::unprotected(table, count) {
-        return Judged::Refused(16);
-    }
-    if crate::crit::wrong_crit(header, message, known, table, count) {
-        return Judged::Refused(17);
-    }
     let mode = crate::rules::mode(header, message, table, count);
-    if wrong_key(mode, no_key) {
-        return Judged::Refused(18);
+    let bad_key = wrong_key(mode, no_key);
+    let mut i: usize = 0;
+    while i < rules.len() {
+        let rule = rules[i];
+        if breaks(rule, header, message, known, table, count, bad_key) {
+            return Stage::Refused(rule);
+        }
+        i += 1;
     }
-    Judged::Mode(mode)
+    Stage::Passed(mode as usize)
 }

@@ -8,8 +8,6 @@ pub mod OwnHeaders
 pub mod JsonHeaders
 -- The places of components.
 pub mod JsonPlaces
--- What judging one recipient tells.
-pub mod JsonRules
 -- From the own headers on.
 pub mod JsonHeads
 -- From the protected header on.

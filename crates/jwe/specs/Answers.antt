@@ -13,8 +13,6 @@ use Rattle.prelude.specs.declared.Stage.{Stage}
 use Rattle.prelude.specs.declared.Stage.the-variants as stage
 use Rattle.rows.specs.Tables.{flat}
 use Rattle.prelude.specs.Refusals.{Test, first}
-use Rattle.jose.specs.declared.judge.Judged as jose
-use Rattle.jose.specs.declared.judge.Judged.the-variants as ruled
 use Rattle.jwe.specs.Judge.{Outcome, accepted}
 use Rattle.jwe.specs.Compact.{fourStops, compactComponents}
 use Rattle.jwe.specs.declared.Components.{Components}
@@ -90,10 +88,6 @@ Judges message order x (Refused n) text₀ text table₀ table =
 abbrev pub handed : Stage → Judged
 handed (stage.Passed n) = Refused 0
 handed (stage.Refused n) = Refused n
-
-abbrev pub ruledOut : jose.Judged → Judged
-ruledOut (ruled.Mode m) = Refused 0
-ruledOut (ruled.Refused n) = Refused n
 
 -- The refusal of a message; 0 where it is accepted.
 abbrev pub refusedBy : Judged → ℕ

@@ -23,8 +23,6 @@ use Rattle.shape.specs.Answers.{recipientWidth}
 use Rattle.jwe.specs.General.{ownEntries, parameters, isHollow, protectedOrder, headersOrder, recipientsOrder}
 use Rattle.jwe.specs.Judge.{Outcome, accepted, asked}
 use Rattle.jwe.specs.Answers.{numbers}
-use Rattle.jose.specs.declared.judge.Judged as jose
-use Rattle.jose.specs.declared.judge.Judged.the-variants as recipient
 use Rattle.jwe.specs.declared.judged.Judged.{Judged}
 use Rattle.jwe.specs.declared.judged.Judged.the-variants as message
 
@@ -134,8 +132,3 @@ Heads text order x (message.Accepted r) table₀ table =
     (first order ≡ 0) × (numbers r ≡ accepted text x) × (table ≡ written 0 (flat (x .entries)) table₀)
 Heads text order x (message.Refused n) table₀ table =
     (first order ≡ n) × (0 < n) × (length table ≡ length table₀)
-
--- The refusal of a recipient, handed up.
-abbrev pub refusedOf : jose.Judged → Stage
-refusedOf (recipient.Mode m) = Refused 0
-refusedOf (recipient.Refused n) = Refused n

@@ -15,7 +15,6 @@ use crate::Components;
 use crate::Result;
 use crate::judged::Judged;
 use crate::judged::handed;
-use crate::judged::ruled_out;
 use prelude::Place;
 use prelude::Stage;
 
@@ -113,9 +112,10 @@ fn judge_header(
     let Stage::Passed(count) = collected else {
         return handed(collected);
     };
-    let judged = jose::judge::judge(&text[..n], message, known, table, count, q.key.len == 0);
-    let jose::judge::Judged::Mode(mode) = judged else {
-        return ruled_out(judged);
+    let rules = jose::judge::RECIPIENT;
+    let judged = jose::judge::judge(&rules, &text[..n], message, known, table, count, q.key.len == 0);
+    let Stage::Passed(mode) = judged else {
+        return handed(judged);
     };
     if 1 <= recipient {
         return Judged::Refused(19);
@@ -124,7 +124,7 @@ fn judge_header(
         number: 0,
         form: 0,
         recipients: 1,
-        mode,
+        mode: mode as u32,
         components: q,
         header: n,
         parameters: count,

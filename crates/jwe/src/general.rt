@@ -17,7 +17,6 @@ ghost use Rattle.rows.specs.Prints.{Printed};
 ghost use Rattle.rows.specs.Tables.{flat, entriesOf, collectedTable, headerTable, recipientTable, width};
 ghost use Rattle.prelude.specs.Refusals.{first, stageOf};
 ghost use Rattle.jose.specs.HeaderRules.{recipientOrder, modeIn};
-ghost use Rattle.jose.specs.Judged.{judgedOf};
 ghost use Rattle.headers.specs.Components.{misspelled};
 ghost use Rattle.headers.specs.Headers.{headerText, protectedEntries, headerEntries, objectOrder};
 ghost use Rattle.headers.specs.Answers.{placeOf, headerBuffer};
@@ -28,7 +27,7 @@ ghost use Rattle.jwe.specs.General.{allPlaces, jsonOrder};
 ghost use Rattle.jwe.specs.Judge.{jsonOutcome};
 ghost use Rattle.jwe.specs.Answers.{componentsOf, Judges};
 ghost use Rattle.jwe.specs.Stages.{recipientAt, recipientsOf, Owned, LeavesOwn, textTests, protectedTests, ownTests, ruleTests};
-ghost use Rattle.jwe.specs.Stages.{HeaderKnown, HeadersKnown, headedOrder, shapedOrder, headedOutcome, shapedOutcome, Heads, refusedOf, ownTable};
+ghost use Rattle.jwe.specs.Stages.{HeaderKnown, HeadersKnown, headedOrder, shapedOrder, headedOutcome, shapedOutcome, Heads, ownTable};
 use crate::Components;
 use crate::Result;
 use crate::judged::Judged;
@@ -233,26 +232,17 @@ fn rules(
     ensures { λ r. ⌜ r ≡ stageOf (first (ruleTests (names (now (known .entry))) (now (header .entry)) (now (message .entry)) (entriesOf front (now (table .entry))) (recipientsOf number (now (of .entry))))) number ⌝ }
     ensures { λ _. ⌜ entriesOf front (now (table .exit)) ≡ entriesOf front (now (table .entry)) ⌝ }
 {
+    let list = jose::judge::RECIPIENT;
     let mut i: usize = 0;
     while i < number {
         let count = gather(own, counts, i, table, front);
-        let judged = jose::judge::judge(header, message, known, table, count, key(of, i).len == 0);
-        let jose::judge::Judged::Mode(_) = judged else {
-            return refused(judged);
+        let judged = jose::judge::judge(&list, header, message, known, table, count, key(of, i).len == 0);
+        let Stage::Passed(_) = judged else {
+            return judged;
         };
         i += 1;
     }
     Stage::Passed(number)
-}
-
-// The refusal of a recipient, handed up.
-fn refused(judged: jose::judge::Judged) -> Stage
-    ensures { λ r. ⌜ r ≡ refusedOf judged ⌝ }
-{
-    let jose::judge::Judged::Refused(n) = judged else {
-        return Stage::Refused(0);
-    };
-    Stage::Refused(n)
 }
 
 // 1 flattened, 2 general.

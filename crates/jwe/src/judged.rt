@@ -1,6 +1,6 @@
 // What judging a message answers.
 ghost use mathlib.Core.Path.{_≡_};
-ghost use Rattle.jwe.specs.Answers.{handed, ruledOut};
+ghost use Rattle.jwe.specs.Answers.{handed};
 use crate::Result;
 use prelude::Stage;
 
@@ -14,16 +14,6 @@ pub(crate) fn handed(stage: Stage) -> Judged
     ensures { λ r. ⌜ r ≡ handed stage ⌝ }
 {
     let Stage::Refused(n) = stage else {
-        return Judged::Refused(0);
-    };
-    Judged::Refused(n)
-}
-
-// That of the rules on a recipient, likewise.
-pub(crate) fn ruled_out(judged: jose::judge::Judged) -> Judged
-    ensures { λ r. ⌜ r ≡ ruledOut judged ⌝ }
-{
-    let jose::judge::Judged::Refused(n) = judged else {
         return Judged::Refused(0);
     };
     Judged::Refused(n)

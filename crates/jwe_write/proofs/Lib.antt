@@ -1,5 +1,3 @@
--- The rules on a recipient whose parameters are those of one header.
-pub mod Rules
 -- The message: its length, and what is still to be written of it.
 pub mod Message
 -- The refusals, stage by stage, and the answers.

@@ -1,5 +1,5 @@
 -- The writer's first refusal, stage by stage: that of the first stage that refuses; and the answers by it.
-use mathlib.Core.Path.{_≡_, ap, sym, _∙_}
+use mathlib.Core.Path.{_≡_, refl, ap, sym, _∙_}
 use mathlib.Core.Bool.{Bool, true, false, not, cond}
 use mathlib.Core.List.{List, [], _∷_, _++_, append-assoc}
 use Prim.Native.Nat.{ℕ, _≤_, _<_}
@@ -19,10 +19,9 @@ use Rattle.json.specs.declared.Found.{Found}
 use Rattle.headers.specs.Headers.{unread, textOrder, protectedEntries, objectOrder}
 use Rattle.headers.proofs.Texts.{noValue, by-reading}
 use Rattle.headers.proofs.Stages.{text-nonzero, object-nonzero, stopped}
-use Rattle.jwe_write.specs.Write.{Raw, compactText, rulesOrder, parametersOrder, writeOrder, writeRefusal}
+use Rattle.jwe_write.specs.Write.{Raw, compactText, writerRules, parametersOrder, writeOrder, writeRefusal}
 use Rattle.jwe_write.specs.Answers.{WritesCompact}
 use Rattle.jwe_write.specs.declared.Written.the-variants.{Octets, Refused}
-use Rattle.jwe_write.proofs.Rules.{rules-nonzero}
 
 -- 6 and 7 on a header, by its length and its reading
 
@@ -49,7 +48,7 @@ module _ (header : List ℕ) where
 parameters-nonzero : (known : List (List ℕ)) (header : List ℕ) (noKey : Bool) → nonzero (parametersOrder known header noKey) ≡ true
 parameters-nonzero known header noKey =
     nonzero-append (objectOrder header (protectedEntries header)) _ (object-nonzero header (protectedEntries header))
-    (rules-nonzero known header noKey)
+    refl
 
 module _ (c : Raw) (known : List ℕ) (room : ℕ) where
   abbrev texts : List Test
@@ -68,7 +67,7 @@ module _ (c : Raw) (known : List ℕ) (room : ℕ) where
       let es = protectedEntries (c .header) in
       ap (λ (ts : List Test). first (3 if not (sound known) ∷ (texts ++ ts)))
       (sym (append-assoc (objectOrder (c .header) es)
-      (rulesOrder (names known) (c .header) es (eqb (length (c .key)) 0)) sizes))
+      (writerRules (names known) (c .header) es (eqb (length (c .key)) 0)) sizes))
 
   pub refusal-names : sound known ≡ false → writeRefusal c known room ≡ 3
   refusal-names e = as-coded ∙ first-fails (3 if not (sound known)) (texts ++ (rules ++ sizes)) (ap not e)

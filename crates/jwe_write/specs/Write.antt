@@ -5,10 +5,9 @@ use Prim.Native.Nat.{ℕ}
 use lib.ListN.{length}
 use lib.Dec.{eqb, ltb}
 use Rattle.names.specs.Names.{names, sound}
-use Rattle.prelude.specs.Any.{any}
 use Rattle.rows.specs.Rows.{Entry}
 use Rattle.prelude.specs.Refusals.{Test, _if_, first}
-use Rattle.jose.specs.HeaderRules.{incomplete, wrongKind, unlisted, critical, wrongKey, modeIn}
+use Rattle.jose.specs.HeaderRules.{rulesOrder, protectedRules}
 use Rattle.prelude.specs.Limits.{longest}
 use Rattle.headers.specs.Components.{dotted}
 use Rattle.headers.specs.Headers.{textOrder, protectedEntries, objectOrder}
@@ -28,21 +27,16 @@ raw header key iv ciphertext tag = record { header = header; key = key; iv = iv;
 unfoldable pub compactText : Raw → List ℕ
 compactText c = dotted (c .header) (c .key) (c .iv) (c .ciphertext) (c .tag)
 
--- The reader's rules on a recipient (12 to 18), whose parameters are those of one protected header: 12 and 16 cannot fail.
-unfoldable pub rulesOrder : List (List ℕ) → List ℕ → List Entry → Bool → List Test
-rulesOrder known header es noKey =
-    13 if incomplete es
-    ∷ 14 if any wrongKind es
-    ∷ 15 if any (unlisted header header) es
-    ∷ 17 if any (critical known header header es) es
-    ∷ 18 if wrongKey (modeIn header header es) noKey
-    ∷ []
+-- The reader's rules on a recipient whose parameters are those of one protected header: 12 and 16 are not among them, since they
+-- cannot be broken.
+abbrev pub writerRules : List (List ℕ) → List ℕ → List Entry → Bool → List Test
+writerRules known header es noKey = rulesOrder known header header es noKey protectedRules
 
 -- Those of the header's object and its parameters, 8, 9 and 13 to 18.
 abbrev pub parametersOrder : List (List ℕ) → List ℕ → Bool → List Test
 parametersOrder known header noKey =
     let es = protectedEntries header in
-    objectOrder header es ++ rulesOrder known header es noKey
+    objectOrder header es ++ writerRules known header es noKey
 
 -- All refusals in order, of what is given, a list of known names and the length of the lent output: 3; 6; 7, 8, 9; 13, 14,
 -- 15, 17, 18; 2; 1.
@@ -52,7 +46,7 @@ writeOrder c known room =
     3 if not (sound known)
     ∷ (textOrder (c .header)
     ++ (objectOrder (c .header) es
-    ++ (rulesOrder (names known) (c .header) es (eqb (length (c .key)) 0)
+    ++ (writerRules (names known) (c .header) es (eqb (length (c .key)) 0)
     ++ (2 if ltb longest (length (compactText c))
     ∷ 1 if ltb room (length (compactText c))
     ∷ []))))

@@ -13,9 +13,8 @@ ghost use Rattle.rows.specs.Tables.{entriesOf, width};
 ghost use Rattle.prelude.specs.Refusals.{first};
 ghost use Rattle.prelude.specs.Ascii.{fullStop};
 ghost use Rattle.headers.specs.Headers.{textOrder, protectedEntries};
-ghost use Rattle.jwe_write.specs.Write.{raw, compactText, rulesOrder, parametersOrder};
+ghost use Rattle.jwe_write.specs.Write.{raw, compactText, writerRules, parametersOrder};
 ghost use Rattle.jwe_write.specs.Answers.{WritesCompact};
-use jose::judge::Judged;
 use json::Found;
 use prelude::Stage;
 
@@ -46,10 +45,11 @@ fn rules_refusal(header: &[u8], known: &[u8], table: &[u32], count: usize, no_ke
     requires { ⌜ filled (now known) ≡ true ⌝ }
     requires { ⌜ count * width ≤ length (now table) ⌝ }
     requires { ⌜ entriesOf count (now table) ≡ protectedEntries (now header) ⌝ }
-    ensures { λ r. ⌜ r ≡ first (rulesOrder (names (now (known .entry))) (now (header .entry)) (protectedEntries (now (header .entry))) «no_key») ⌝ }
+    ensures { λ r. ⌜ r ≡ first (writerRules (names (now (known .entry))) (now (header .entry)) (protectedEntries (now (header .entry))) «no_key») ⌝ }
 {
-    let judged = jose::judge::judge(header, header, known, table, count, no_key);
-    let Judged::Refused(n) = judged else {
+    let rules = jose::judge::PROTECTED;
+    let judged = jose::judge::judge(&rules, header, header, known, table, count, no_key);
+    let Stage::Refused(n) = judged else {
         return 0;
     };
     n

@@ -22,7 +22,7 @@ use Rattle.jose.specs.HeaderRules.{critical}
 use Rattle.headers.specs.Headers.{textOrder, outermost, protectedEntries, objectOrder}
 use Rattle.walk.specs.Walk.{walkOrder}
 use Rattle.aad.specs.Aad.{aadText, aadOrder, aadRefusal}
-use Rattle.jwe_write.specs.Write.{Raw, compactText, rulesOrder, writeOrder, writeRefusal}
+use Rattle.jwe_write.specs.Write.{Raw, compactText, writeOrder, writeRefusal}
 use Rattle.meets.specs.Members.{membersOf}
 use Rattle.meets.specs.Rules.{EveryNamed, Critical}
 use Rattle.meets.specs.Meets.{Protected}
@@ -106,7 +106,7 @@ none-where (x ∷ key) = (
 
 module _ (c : Raw) (known : List ℕ) (room : ℕ) where
   write-refuses : Refuses (writeTable c known room) (writeRefusal c known room)
-  unfolding writeTable writeRefusal writeOrder rulesOrder textOrder objectOrder
+  unfolding writeTable writeRefusal writeOrder textOrder objectOrder
   write-refuses =
       let header = c .header in
       let es = protectedEntries header in

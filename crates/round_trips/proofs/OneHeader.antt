@@ -15,7 +15,7 @@ use Rattle.prelude.specs.Refusals.{first}
 use Rattle.jose.specs.HeaderRules.{levels, unlisted, unprotected, spelledElement, unknown, sameElement, nameSays}
 use Rattle.jose.specs.HeaderRules.{misplaced, isEmpty, wrongCrit, critical, modeIn, recipientOrder}
 use Rattle.headers.specs.Headers.{outermost, protectedEntries}
-use Rattle.jwe_write.specs.Write.{rulesOrder}
+use Rattle.jwe_write.specs.Write.{writerRules}
 
 -- Tests that agree on each of a list agree on the list.
 any-same : {A : Type 0} (f g : A → Bool) → ((x : A) → f x ≡ g x) → (xs : List A) → any f xs ≡ any g xs
@@ -96,8 +96,8 @@ module _ (header message : List ℕ) where
 -- The reader's rules are the writer's.
 pub rules-same : (known : List (List ℕ)) (header message : List ℕ) (noKey : Bool) →
     let es = protectedEntries header in
-    first (recipientOrder known header message es noKey) ≡ first (rulesOrder known header es noKey)
-unfolding protectedEntries entriesIn recipientOrder rulesOrder first
+    first (recipientOrder known header message es noKey) ≡ first (writerRules known header es noKey)
+unfolding protectedEntries entriesIn recipientOrder first
 rules-same known header message noKey =
     let ms = outermost header in
     rw (

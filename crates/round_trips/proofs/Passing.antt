@@ -22,7 +22,7 @@ use Rattle.headers.specs.Headers.{headerText, textOrder, protectedEntries, obje
 use Rattle.jwe.specs.Compact.{fourStops, compactComponents, compactOrder}
 use Rattle.jwe.specs.General.{jsonOrder}
 use Rattle.jwe.specs.Judge.{order, refusal}
-use Rattle.jwe_write.specs.Write.{Raw, compactText, rulesOrder, writeOrder, writeRefusal}
+use Rattle.jwe_write.specs.Write.{Raw, compactText, writerRules, writeOrder, writeRefusal}
 use Rattle.meets.proofs.Deciding.{first-none, or-false}
 use Rattle.meets.proofs.InOrder.{first-append}
 use Rattle.meets.proofs.FiveParts.{parts-placed}
@@ -33,7 +33,7 @@ use Rattle.round_trips.proofs.OneHeader.{rules-same}
 pub record HeaderPasses (known : List (List ℕ)) (header : List ℕ) (noKey : Bool) : Type 0 where
   pub text : first (textOrder header) ≡ 0
   pub object : first (objectOrder header (protectedEntries header)) ≡ 0
-  pub rules : first (rulesOrder known header (protectedEntries header) noKey) ≡ 0
+  pub rules : first (writerRules known header (protectedEntries header) noKey) ≡ 0
 
 -- The writer
 
@@ -45,14 +45,14 @@ pub record WritePasses (c : Raw) (known : List ℕ) (room : ℕ) : Type 0 where
 
 module _ (c : Raw) (known : List ℕ) (room : ℕ) where
   pub write-decided : (writeRefusal c known room ≡ 0) ↔ WritePasses c known room
-  unfolding writeRefusal writeOrder textOrder objectOrder rulesOrder any
+  unfolding writeRefusal writeOrder textOrder objectOrder any
   write-decided =
       let es = protectedEntries (c .header) in
       let size = length (compactText c) in
       let list : List Test = 3 if not (sound known) ∷ [] in
       let text = textOrder (c .header) in
       let object = objectOrder (c .header) es in
-      let rules = rulesOrder (names known) (c .header) es (eqb (length (c .key)) 0) in
+      let rules = writerRules (names known) (c .header) es (eqb (length (c .key)) 0) in
       let sizes : List Test = 2 if ltb longest size ∷ 1 if ltb room size ∷ [] in
       let l = first-none list refl in
       let a = first-append list (text ++ (object ++ (rules ++ sizes))) refl in

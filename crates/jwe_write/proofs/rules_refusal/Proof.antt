@@ -6,14 +6,12 @@ use Rattle.names.specs.Names.{names}
 use Rattle.rows.specs.Rows.{Entry}
 use Rattle.rows.specs.Prints.{Printed}
 use Rattle.rows.proofs.Printing.{entries-printed}
-use Rattle.prelude.specs.Refusals.{first}
+use Rattle.prelude.specs.Refusals.{first, stageOf}
 use Rattle.jose.specs.Registered.{registered}
-use Rattle.jose.specs.HeaderRules.{recipientOrder, modeIn}
-use Rattle.jose.specs.Judged.{judgedOf}
+use Rattle.jose.specs.HeaderRules.{modeIn}
 use Rattle.headers.specs.Headers.{outermost, protectedEntries}
-use Rattle.headers.proofs.Stages.{ruled-mode, ruled-refused}
-use Rattle.jwe_write.specs.Write.{rulesOrder}
-use Rattle.jwe_write.proofs.Rules.{rules-alike}
+use Rattle.headers.proofs.Stages.{passed-is, refused-is}
+use Rattle.jwe_write.specs.Write.{writerRules}
 use borrow.Author.Needs.{needs}
 use Rattle.jwe_write.proofs.rules_refusal.Statement.{statement}
 use Rattle.jwe_write.proofs.rules_refusal.Tie as tie
@@ -23,7 +21,7 @@ rules-answer : (c : tie.After-judge) →
     let given = c .before .before .before .before .args in
     let h = given .header .now in
     c .judge .result
-    ≡ judgedOf (first (rulesOrder (names (given .known .now)) h (protectedEntries h) (given .no-key)))
+    ≡ stageOf (first (writerRules (names (given .known .now)) h (protectedEntries h) (given .no-key)))
     (modeIn h h (protectedEntries h))
 rules-answer c =
     let start = c .before .before .before .before in
@@ -31,9 +29,8 @@ rules-answer c =
     let known = names (given .known .now) in
     let h = given .header .now in
     c .judge .ensures
-    ∙ ap (λ (es : List Entry). judgedOf (first (recipientOrder known h h es (given .no-key))) (modeIn h h es))
+    ∙ ap (λ (es : List Entry). stageOf (first (writerRules known h es (given .no-key))) (modeIn h h es))
     (start .pre .1 .1)
-    ∙ ap (λ (n : ℕ). judgedOf n (modeIn h h (protectedEntries h))) (rules-alike known h (given .no-key))
 
 judge-requires : tie.Need-judge-requires
 unfolding protectedEntries
@@ -54,12 +51,12 @@ enum-told c = search needs
 returns : tie.Need-returns
 returns c =
     let told = c .enum-told .given in
-    sym (ruled-mode (told .0 .0) _ _ (sym (told .1) ∙ rules-answer (c .before .before)) .0)
+    sym (passed-is (told .0 .0) _ _ (sym (told .1) ∙ rules-answer (c .before .before)) .0)
 
 returns-2 : tie.Need-returns-2
 returns-2 c =
     let told = c .before .judged .given in
-    sym (ruled-refused (told .0 .0) _ _ (sym (told .1) ∙ rules-answer (c .before .before .before)) .0)
+    sym (refused-is (told .0 .0) _ _ (sym (told .1) ∙ rules-answer (c .before .before .before)) .0)
 
 pub rules-refusal-spec : {M : Type 1} → statement M
 rules-refusal-spec = tie.close (tie.spec judge-requires enum-known-judged enum-told returns returns-2)

@@ -15,15 +15,14 @@ use Rattle.rows.proofs.Printing.{entries-printed}
 use Rattle.jose.specs.Registered.{registered}
 use Rattle.prelude.specs.Refusals.{first, stageOf}
 use Rattle.jose.specs.HeaderRules.{recipientOrder, modeIn}
-use Rattle.jose.specs.Judged.{judgedOf}
 use Rattle.headers.specs.Components.{misspelled, places}
 use Rattle.headers.specs.Headers.{headerText, textOrder, outermost, protectedEntries, objectOrder}
 use Rattle.headers.specs.Answers.{placeOf, headerBuffer}
-use Rattle.headers.proofs.Stages.{refused-is, ruled-mode, ruled-refused}
+use Rattle.headers.proofs.Stages.{passed-is, refused-is}
 use Rattle.headers.proofs.Collected.{Kept, kept-passed, table-length}
 use Rattle.jwe.specs.Compact.{compactComponents, compactOrder}
 use Rattle.jwe.specs.Judge.{compactOutcome}
-use Rattle.jwe.specs.Answers.{handed, ruledOut}
+use Rattle.jwe.specs.Answers.{handed}
 use Rattle.jwe.specs.declared.Components.{Components}
 use Rattle.jwe.proofs.Splitting.{none-first, asked-are}
 use Rattle.jwe.proofs.CompactOrder.{header, entries, rules}
@@ -109,7 +108,7 @@ kept c =
 rules-answer : (c : tie.After-judge) →
     let start = start-of (told-of (c .before .before .before .before)) in
     c .judge .result
-    ≡ judgedOf (first (rules (message start) (names (start .args .known .now)) (start .args .recipient)))
+    ≡ stageOf (first (rules (message start) (names (start .args .known .now)) (start .args .recipient)))
     (modeIn (header (message start)) (message start) (entries (message start)))
 rules-answer c =
     let start = start-of (told-of (c .before .before .before .before)) in
@@ -117,10 +116,10 @@ rules-answer c =
     let m = message start in
     c .judge .ensures
     ∙ ap₂ (λ (h : List ℕ) (es : List Entry).
-    judgedOf (first (recipientOrder known h m es (eqb (start .args .q .key .len) 0))) (modeIn h m es))
+    stageOf (first (recipientOrder known h m es (eqb (start .args .q .key .len) 0))) (modeIn h m es))
     (read (told-of (c .before .before .before .before)) .front) (kept (c .before .before .before .before) .entries)
     ∙ ap (λ (q : Components).
-    judgedOf (first (recipientOrder known (header m) m (entries m) (eqb (q .key .len) 0)))
+    stageOf (first (recipientOrder known (header m) m (entries m) (eqb (q .key .len) 0)))
     (modeIn (header m) m (entries m)))
     (start .pre .1 .0)
 
@@ -220,8 +219,8 @@ enum-known-judged c = search needs
 enum-told-3 : tie.Need-enum-told-3
 enum-told-3 c = search needs
 
-ruled-out-requires : tie.Need-ruled-out-requires
-ruled-out-requires c κs = search needs
+handed-requires-3 : tie.Need-handed-requires-3
+handed-requires-3 c κs = search needs
 
 same-length-4 : tie.Need-same-length-4
 same-length-4 c = read (told-of (c .before .before .before .before .before .before .before)) .same
@@ -236,11 +235,11 @@ returns-3 c =
     let told = c .before .enum-told3 .given in
     let text = read (told-of known) in
     let table = kept known in
-    let r = ruled-refused (told .0 .0) _ _ (sym (told .1) ∙ rules-answer (c .before .before .before)) in
+    let r = refused-is (told .0 .0) _ _ (sym (told .1) ∙ rules-answer (c .before .before .before)) in
     refuses _ _ _ _ _ _ _ (told .0 .0)
     (first-rule (message start) _ _ (start .pre .0) (spelled start) (text .passes) (table .passes) (told .0 .0) (r .0)
     (r .1))
-    (r .1) (text .same) (table .same) (c .ruled-out .result) (c .ruled-out .ensures ∙ ap ruledOut (told .1))
+    (r .1) (text .same) (table .same) (c .handed3 .result) (c .handed3 .ensures ∙ ap handed (told .1))
 
 same-length-6 : tie.Need-same-length-6
 same-length-6 c = read (told-of (c .before .before .before .before .before .before .before .before)) .same
@@ -255,7 +254,7 @@ returns-4 c =
     let text = read (told-of known) in
     let table = kept known in
     let mode = c .before .before .judged .given in
-    let r = ruled-mode (mode .0 .0) _ _ (sym (mode .1) ∙ rules-answer (c .before .before .before .before)) in (
+    let r = passed-is (mode .0 .0) _ _ (sym (mode .1) ∙ rules-answer (c .before .before .before .before)) in (
       first-19 (message start) _ _ (start .pre .0) (spelled start) (text .passes) (table .passes) (r .0)
           (c .if1 .taken),
       omega arith,
@@ -277,7 +276,7 @@ returns-5 c =
     let text = read (told-of known) in
     let table = kept known in
     let mode = c .before .before .judged .given in
-    let r = ruled-mode (mode .0 .0) _ _ (sym (mode .1) ∙ rules-answer (c .before .before .before .before)) in (
+    let r = passed-is (mode .0 .0) _ _ (sym (mode .1) ∙ rules-answer (c .before .before .before .before)) in (
       first-none (message start) _ _ (start .pre .0) (spelled start) (text .passes) (table .passes) (r .0)
           (c .if1 .left),
       accepted-are (message start) _ _ _ _ (start .pre .1 .0) (r .1) (text .size) (table .size),
@@ -309,7 +308,7 @@ judge-header-spec =
     judge-requires
     enum-known-judged
     enum-told-3
-    ruled-out-requires
+    handed-requires-3
     same-length-4
     same-length-5
     returns-3

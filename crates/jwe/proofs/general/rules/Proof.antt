@@ -16,14 +16,12 @@ use Rattle.rows.specs.Tables.{entriesOf}
 use Rattle.rows.proofs.Printing.{printed-append}
 use Rattle.prelude.specs.Refusals.{Test, first, stageOf}
 use Rattle.jose.specs.HeaderRules.{recipientOrder, modeIn}
-use Rattle.jose.specs.Judged.{judgedOf}
 use Rattle.prelude.proofs.Refusals.{nonzero}
 use Rattle.shape.specs.Shape.{Recipient}
 use Rattle.jwe.specs.General.{ownEntries}
-use Rattle.jwe.specs.Stages.{recipientAt, recipientsOf, ruleTests, refusedOf}
+use Rattle.jwe.specs.Stages.{recipientAt, recipientsOf, ruleTests}
 use Rattle.jwe.proofs.JsonOrder.{rules-nonzero}
 use Rattle.jwe.proofs.JsonHeaders.{refuses, passes}
-use Rattle.jwe.proofs.JsonRules.{mode-is, rule-refused}
 use Rattle.jwe.proofs.RecipientRows.{one-passes, one-refuses, all-pass}
 use Rattle.jwe.proofs.OwnHeaders.{gathered, gathered-length, gathered-room, gathered-front, own-printed}
 use borrow.Author.Needs.{needs}
@@ -96,7 +94,7 @@ answered : (c : tie.After-judge Inv-loop μ-loop) →
     .before .loop .i * 3) (args .of .now)) in
     let last = c .before .before .before .before .before .before .gather .last .1 .1 .1 .0 in
     c .judge .result
-    ≡ judgedOf (first (tests (names (args .known .now)) (args .header .now) (args .message .now) es r))
+    ≡ stageOf (first (tests (names (args .known .now)) (args .header .now) (args .message .now) es r))
     (modeIn (args .header .now) (args .message .now) (entriesOf (c .before .before .before .before .before
     .before .gather .result) last))
 answered c =
@@ -108,7 +106,7 @@ answered c =
     let mode = modeIn header message (entriesOf (c .before .before .before .before .before
     .before .gather .result) (c .before .before .before .before .before .before .gather .last .1 .1 .1 .0)) in
     c .judge .ensures
-    ∙ ap₂ (λ (ps : List Entry) (b : Bool). judgedOf (first (recipientOrder known header message ps b)) mode)
+    ∙ ap₂ (λ (ps : List Entry) (b : Bool). stageOf (first (recipientOrder known header message ps b)) mode)
     (copied (c .before .before .before .before .before .before) .0)
     (ap (λ (q : Place). eqb (q .size) 0) (c .before .before .key .ensures))
 

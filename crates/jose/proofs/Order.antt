@@ -1,0 +1,50 @@
+-- Rules asked in order: what is known of the first that is broken once those before a place have passed.
+use mathlib.Core.Path.{_≡_, refl, ap, sym, _∙_}
+use mathlib.Core.Bool.{Bool, true, false, cond, true≢false}
+use mathlib.Core.List.{List, [], _∷_}
+use Prim.Native.Nat.{ℕ, _+_, _≤_, _<_}
+use lib.ListN.{length, drop, getD, drop-of-length-le}
+use borrow.Author.Tests.{eq-eqb, ne-eqb}
+use Rattle.prelude.specs.Refusals.{Test, _if_, first, stageOf}
+use Rattle.prelude.specs.declared.Stage.{Stage}
+use Rattle.prelude.specs.declared.Stage.the-variants.{Passed, Refused}
+use Rattle.prelude.proofs.Lists.{drop-next}
+use Rattle.prelude.proofs.Refusals.{first-fails, first-passes}
+use Rattle.rows.specs.Rows.{Entry}
+use Rattle.jose.specs.HeaderRules.{wrongKey, modeIn, breaks, rulesOrder}
+
+module _ (known : List (List ℕ)) (header message : List ℕ) (es : List Entry) (noKey : Bool) where
+  abbrev broken : ℕ → Bool
+  broken = breaks known header message es (wrongKey (modeIn header message es) noKey)
+
+  abbrev ordered : List ℕ → ℕ
+  ordered rules = first (rulesOrder known header message es noKey rules)
+
+  abbrev answer : ℕ → Stage
+  answer n = stageOf n (modeIn header message es)
+
+  module _ (rules : List ℕ) (i : ℕ) (before : ordered (drop i rules) ≡ ordered rules) where
+    module _ (more : i < length rules) where
+      next : ordered rules
+          ≡ first (getD rules i 0 if broken (getD rules i 0) ∷ rulesOrder known header message es noKey (drop (i + 1) rules))
+      next = sym before ∙ ap ordered (drop-next rules i (i + 1) refl more)
+
+      -- The rule there is kept.
+      pub rule-kept : broken (getD rules i 0) ≡ false → ordered (drop (i + 1) rules) ≡ ordered rules
+      rule-kept e = sym (next ∙ first-passes _ _ e)
+
+      -- It is broken. Then it is a rule's number, and not 0.
+      pub rule-broken : broken (getD rules i 0) ≡ true → Refused (getD rules i 0) ≡ answer (ordered rules)
+      unfolding stageOf
+      rule-broken e =
+          let n = getD rules i 0 in
+          let some : n ≡ 0 → ⊥ = λ z. true≢false (sym e ∙ ap broken z) in
+          sym (ap answer (next ∙ first-fails _ _ e)
+          ∙ ap (λ (b : Bool). cond b (Passed (modeIn header message es)) (Refused n)) (ne-eqb n 0 some))
+
+    -- None is left.
+    pub rules-kept : length rules ≤ i → Passed (modeIn header message es) ≡ answer (ordered rules)
+    unfolding stageOf first
+    rules-kept over =
+        let none : ordered rules ≡ 0 = sym before ∙ ap ordered (drop-of-length-le rules over) in
+        sym (ap answer none)
