@@ -13,11 +13,18 @@ use Rattle.prelude.proofs.Refusals.{first-fails, first-passes}
 use Rattle.rows.specs.Rows.{Entry}
 use Rattle.jose.specs.HeaderRules.{wrongKey, modeIn, breaks, rulesOrder}
 
+-- A number that is no rule's is not broken.
+pub no-rule : (known : List (List ℕ)) (header message : List ℕ) (es : List Entry) (badKey : Bool) (n : ℕ) →
+    (n ≡ 12 → ⊥) → (n ≡ 13 → ⊥) → (n ≡ 14 → ⊥) → (n ≡ 15 → ⊥) → (n ≡ 16 → ⊥) → (n ≡ 17 → ⊥) → (n ≡ 18 → ⊥) →
+    breaks known header message es badKey n ≡ false
+no-rule known header message es badKey n a b c d e f g =
+    simp (ne-eqb n 12 a, ne-eqb n 13 b, ne-eqb n 14 c, ne-eqb n 15 d, ne-eqb n 16 e, ne-eqb n 17 f, ne-eqb n 18 g)
+
 module _ (known : List (List ℕ)) (header message : List ℕ) (es : List Entry) (noKey : Bool) where
-  abbrev broken : ℕ → Bool
+  abbrev pub broken : ℕ → Bool
   broken = breaks known header message es (wrongKey (modeIn header message es) noKey)
 
-  abbrev ordered : List ℕ → ℕ
+  abbrev pub ordered : List ℕ → ℕ
   ordered rules = first (rulesOrder known header message es noKey rules)
 
   abbrev answer : ℕ → Stage

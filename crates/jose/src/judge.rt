@@ -7,14 +7,14 @@ ghost use Rattle.names.specs.Names.{names, filled};
 ghost use Rattle.rows.specs.Prints.{Printed};
 ghost use Rattle.rows.specs.Tables.{entriesOf, width};
 ghost use Rattle.prelude.specs.Refusals.{first, stageOf};
-ghost use Rattle.jose.specs.HeaderRules.{wrongKey, modeIn, breaks, rulesOrder};
+ghost use Rattle.jose.specs.HeaderRules.{wrongKey, modeIn, breaks, rulesOrder, protectedRules, recipientOrder};
 use prelude::Stage;
 
 // The rules on a recipient by their numbers, in document 01's order; and those that can be broken where only a protected header
 // is there.
-pub const RECIPIENT: [u32; 7] = [12, 13, 14, 15, 16, 17, 18];
+const RECIPIENT: [u32; 7] = [12, 13, 14, 15, 16, 17, 18];
 
-pub const PROTECTED: [u32; 5] = [13, 14, 15, 17, 18];
+const PROTECTED: [u32; 5] = [13, 14, 15, 17, 18];
 
 // Modes 3 and 5 have no key of their own, the others do.
 fn wrong_key(mode: u32, no_key: bool) -> bool
@@ -60,7 +60,7 @@ fn breaks(
 
 // One recipient, whose key is empty or not, judged by some rules in order: the mode of its algorithm, or the number of the first
 // that it breaks.
-pub fn judge(
+fn judge_by(
     rules: &[u32],
     header: &[u8],
     message: &[u8],
@@ -89,4 +89,47 @@ pub fn judge(
         i += 1;
     }
     Stage::Passed(mode as usize)
+}
+
+// 12 to 18 on one recipient, whose key is empty or not.
+pub fn judge(
+    header: &[u8],
+    message: &[u8],
+    known: &[u8],
+    table: &[u32],
+    count: usize,
+    no_key: bool,
+) -> Stage
+    requires { ⌜ filled (now known) ≡ true ⌝ }
+    requires { ⌜ count * width ≤ length (now table) ⌝ }
+    requires { ⌜ Printed (now header) (now message) (entriesOf count (now table)) ⌝ }
+    ensures { λ r. ⌜ r
+        ≡ stageOf
+        (first (recipientOrder (names (now (known .entry))) (now (header .entry)) (now (message .entry))
+        (entriesOf count (now (table .entry))) «no_key»))
+        (modeIn (now (header .entry)) (now (message .entry)) (entriesOf count (now (table .entry)))) ⌝ }
+{
+    let rules = RECIPIENT;
+    judge_by(&rules, header, message, known, table, count, no_key)
+}
+
+// 13, 14, 15, 17 and 18 on one recipient of which only a protected header is there.
+pub fn judge_protected(
+    header: &[u8],
+    known: &[u8],
+    table: &[u32],
+    count: usize,
+    no_key: bool,
+) -> Stage
+    requires { ⌜ filled (now known) ≡ true ⌝ }
+    requires { ⌜ count * width ≤ length (now table) ⌝ }
+    requires { ⌜ Printed (now header) (now header) (entriesOf count (now table)) ⌝ }
+    ensures { λ r. ⌜ r
+        ≡ stageOf
+        (first (rulesOrder (names (now (known .entry))) (now (header .entry)) (now (header .entry))
+        (entriesOf count (now (table .entry))) «no_key» protectedRules))
+        (modeIn (now (header .entry)) (now (header .entry)) (entriesOf count (now (table .entry)))) ⌝ }
+{
+    let rules = PROTECTED;
+    judge_by(&rules, header, header, known, table, count, no_key)
 }

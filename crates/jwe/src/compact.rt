@@ -112,8 +112,7 @@ fn judge_header(
     let Stage::Passed(count) = collected else {
         return handed(collected);
     };
-    let rules = jose::judge::RECIPIENT;
-    let judged = jose::judge::judge(&rules, &text[..n], message, known, table, count, q.key.len == 0);
+    let judged = jose::judge::judge(&text[..n], message, known, table, count, q.key.len == 0);
     let Stage::Passed(mode) = judged else {
         return handed(judged);
     };

@@ -232,11 +232,10 @@ fn rules(
     ensures { λ r. ⌜ r ≡ stageOf (first (ruleTests (names (now (known .entry))) (now (header .entry)) (now (message .entry)) (entriesOf front (now (table .entry))) (recipientsOf number (now (of .entry))))) number ⌝ }
     ensures { λ _. ⌜ entriesOf front (now (table .exit)) ≡ entriesOf front (now (table .entry)) ⌝ }
 {
-    let list = jose::judge::RECIPIENT;
     let mut i: usize = 0;
     while i < number {
         let count = gather(own, counts, i, table, front);
-        let judged = jose::judge::judge(&list, header, message, known, table, count, key(of, i).len == 0);
+        let judged = jose::judge::judge(header, message, known, table, count, key(of, i).len == 0);
         let Stage::Passed(_) = judged else {
             return judged;
         };

@@ -47,8 +47,7 @@ fn rules_refusal(header: &[u8], known: &[u8], table: &[u32], count: usize, no_ke
     requires { ⌜ entriesOf count (now table) ≡ protectedEntries (now header) ⌝ }
     ensures { λ r. ⌜ r ≡ first (writerRules (names (now (known .entry))) (now (header .entry)) (protectedEntries (now (header .entry))) «no_key») ⌝ }
 {
-    let rules = jose::judge::PROTECTED;
-    let judged = jose::judge::judge(&rules, header, header, known, table, count, no_key);
+    let judged = jose::judge::judge_protected(header, known, table, count, no_key);
     let Stage::Refused(n) = judged else {
         return 0;
     };

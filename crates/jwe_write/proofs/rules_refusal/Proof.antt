@@ -17,10 +17,10 @@ use Rattle.jwe_write.proofs.rules_refusal.Statement.{statement}
 use Rattle.jwe_write.proofs.rules_refusal.Tie as tie
 
 -- what the rules answer, on the entries of the definition
-rules-answer : (c : tie.After-judge) →
+rules-answer : (c : tie.After-judge-protected) →
     let given = c .before .before .before .before .args in
     let h = given .header .now in
-    c .judge .result
+    c .judge-protected .result
     ≡ stageOf (first (writerRules (names (given .known .now)) h (protectedEntries h) (given .no-key)))
     (modeIn h h (protectedEntries h))
 rules-answer c =
@@ -28,13 +28,13 @@ rules-answer c =
     let given = start .args in
     let known = names (given .known .now) in
     let h = given .header .now in
-    c .judge .ensures
+    c .judge-protected .ensures
     ∙ ap (λ (es : List Entry). stageOf (first (writerRules known h es (given .no-key))) (modeIn h h es))
     (start .pre .1 .1)
 
-judge-requires : tie.Need-judge-requires
+judge-protected-requires : tie.Need-judge-protected-requires
 unfolding protectedEntries
-judge-requires c κs =
+judge-protected-requires c κs =
     let start = c .before .before .before in
     let h = start .args .header .now in
     let printed : Printed h h (protectedEntries h) = entries-printed registered h h h 0 (outermost h) refl in (
@@ -59,4 +59,4 @@ returns-2 c =
     sym (refused-is (told .0 .0) _ _ (sym (told .1) ∙ rules-answer (c .before .before .before)) .0)
 
 pub rules-refusal-spec : {M : Type 1} → statement M
-rules-refusal-spec = tie.close (tie.spec judge-requires enum-known-judged enum-told returns returns-2)
+rules-refusal-spec = tie.close (tie.spec judge-protected-requires enum-known-judged enum-told returns returns-2)

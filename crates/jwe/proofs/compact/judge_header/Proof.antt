@@ -24,6 +24,7 @@ use Rattle.jwe.specs.Compact.{compactComponents, compactOrder}
 use Rattle.jwe.specs.Judge.{compactOutcome}
 use Rattle.jwe.specs.Answers.{handed}
 use Rattle.jwe.specs.declared.Components.{Components}
+use Rattle.jwe.proofs.SmallOutcomes.{mode-low}
 use Rattle.jwe.proofs.Splitting.{none-first, asked-are}
 use Rattle.jwe.proofs.CompactOrder.{header, entries, rules}
 use Rattle.jwe.proofs.CompactOrder.{first-text, first-object, first-rule, first-19, first-none}
@@ -262,6 +263,14 @@ returns-4 c =
       table .same,
     )
 
+-- a mode is at most 5
+cast-t24 : tie.Need-cast-t24
+cast-t24 c =
+    let m = message (start-of (told-of (c .before .before .before .before .before .before .before .before))) in
+    let mode = c .before .before .judged .given in
+    let r = passed-is (mode .0 .0) _ _ (sym (mode .1) ∙ rules-answer (c .before .before .before .before)) in
+    omega (arith, r .1, mode-low (header m) m (entries m))
+
 same-length-8 : tie.Need-same-length-8
 same-length-8 c = read (told-of (c .before .before .before .before .before .before .before .before)) .same
 
@@ -315,6 +324,7 @@ judge-header-spec =
     same-length-6
     same-length-7
     returns-4
+    cast-t24
     same-length-8
     same-length-9
     returns-5)

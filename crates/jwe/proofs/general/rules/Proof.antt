@@ -17,6 +17,7 @@ use Rattle.rows.proofs.Printing.{printed-append}
 use Rattle.prelude.specs.Refusals.{Test, first, stageOf}
 use Rattle.jose.specs.HeaderRules.{recipientOrder, modeIn}
 use Rattle.prelude.proofs.Refusals.{nonzero}
+use Rattle.headers.proofs.Stages.{passed-is, refused-is}
 use Rattle.shape.specs.Shape.{Recipient}
 use Rattle.jwe.specs.General.{ownEntries}
 use Rattle.jwe.specs.Stages.{recipientAt, recipientsOf, ruleTests}
@@ -154,32 +155,25 @@ enum-told c = search needs
 enum-told-2 : tie.Need-enum-told-2 Inv-loop μ-loop
 enum-told-2 c = search needs
 
-refused-requires : tie.Need-refused-requires Inv-loop μ-loop
-refused-requires c κs = search needs
-
 same-length : tie.Need-same-length Inv-loop μ-loop
-same-length c = copied (c .before .before .before .before .before .before .before .before .before) .1 .1 .0
+same-length c = copied (c .before .before .before .before .before .before .before .before) .1 .1 .0
 
 returns : tie.Need-returns Inv-loop μ-loop
 returns c =
     let args = c .before .before .before .before .before .before .before .before .before .before .before .before
-    .before .before .before .before .before .before .before .before .args in
+    .before .before .before .before .before .before .before .args in
     let known = names (args .known .now) in
     let header = args .header .now in
     let message = args .message .now in
     let es = entriesOf (args .front) (args .table .now) in
-    let loop = c .before .before .before .before .before .before .before .before .before .before .before
-    .before .loop in
+    let loop = c .before .before .before .before .before .before .before .before .before .before .before .loop in
     let r = recipientAt (drop (loop .i * 3) (args .of .now)) in
-    let refusal = c .before .enum-told2 .given .1 in
-    let told = rule-refused _ (first (tests known header message es r)) _ (sym refusal ∙ answered (c .before .before
-    .before)) in
+    let refusal = c .enum-told2 .given .1 in
+    let told = refused-is _ (first (tests known header message es r)) _ (sym refusal ∙ answered (c .before .before)) in
     let all = one-refuses (tests known header message es) (sound known header message es) _ (args .number) (loop .i)
-    (args .of .now) (loop .inv .1 .1 .1) (c .before .before .before .before .before .before .before .before .before
-    .before .before .loop-test .taken) (told .0) (told .1) in (
-      c .refused .ensures ∙ ap refusedOf refusal ∙ refuses (args .number) (told .1)
-          ∙ ap (λ (n : ℕ). stageOf n (args .number)) (sym all),
-      copied (c .before .before .before .before .before .before .before .before .before) .1 .1 .1,
+    (args .of .now) (loop .inv .1 .1 .1) (c .before .before .before .before .before .before .before .before .before .before .loop-test .taken) (told .0) (told .1) in (
+      refusal ∙ refuses (args .number) (told .1) ∙ ap (λ (n : ℕ). stageOf n (args .number)) (sym all),
+      copied (c .before .before .before .before .before .before .before .before) .1 .1 .1,
     )
 
 add-i : tie.Need-add-i Inv-loop μ-loop
@@ -199,8 +193,8 @@ loop-again c =
     let loop = c .before .before .before .before .before .before .before .before .before .before .before .loop in
     let r = recipientAt (drop (loop .i * 3) (args .of .now)) in
     let has = copied (c .before .before .before .before .before .before .before .before) in
-    let passed = mode-is _ (first (tests known header message es r)) _ (sym (c .enum-told .given .1) ∙ answered (c
-    .before .before)) in (
+    let passed = passed-is _ (first (tests known header message es r)) _ (sym (c .enum-told .given .1) ∙ answered (c
+    .before .before)) .0 in (
       omega arith,
       (
         has .1 .1 .0,
@@ -240,7 +234,6 @@ rules-spec =
     judge-requires
     enum-told
     enum-told-2
-    refused-requires
     same-length
     returns
     add-i
