@@ -14,7 +14,8 @@ use Rattle.grammar.specs.Places.{startOf, sizeOf, kindOf, kind, placed, 
 use Rattle.grammar.specs.Strings.{paired}
 use Rattle.grammar.specs.Utf8.{utf8}
 use Rattle.grammar.specs.Reader.{octetAt, skipSpace, Answer, nothing, found, valueAt, wholly, readText}
-use Rattle.grammar.specs.Readings.{Reading, Shown, Everywhere}
+use Rattle.grammar.specs.Readings.{Reading}
+use Rattle.grammar.specs.Shown.{Shown, Everywhere}
 use Rattle.grammar.proofs.Parse.{At, Got, failed, got, true→T, scan, run, lead, lead-nested, Node, value}
 use Rattle.grammar.proofs.Scan.{T→true, scan-octets, scan-halts, scanned}
 use Rattle.grammar.proofs.Complete.{node}

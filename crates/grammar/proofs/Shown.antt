@@ -16,7 +16,7 @@ use Rattle.grammar.specs.Places.{leading, trailing, place, placeName, Pl
 use Rattle.grammar.specs.Places.{placedEntries, Member, elementOf, members, elements}
 use Rattle.grammar.specs.Strings.{paired, everyLabel, every, everyEntries}
 use Rattle.grammar.specs.Reader.{step, found, valueAt, rowsIn, membersAt, elementsOf, elementsAt}
-use Rattle.grammar.specs.Readings.{Shown, Everywhere, EverywhereIn}
+use Rattle.grammar.specs.Shown.{Shown, Everywhere, EverywhereIn}
 use Rattle.grammar.proofs.Parse.{At, at, Got, scan, Node, bracketed, start, begin, lead, value}
 use Rattle.grammar.proofs.Scan.{both-T, halts, isNumber, scan-octets}
 use Rattle.grammar.proofs.Complete.{node, sign-onto, sign-halts}

@@ -10,7 +10,8 @@ use Rattle.grammar.specs.Grammar.{quote, colon, comma, octets, leavesSig
 use Rattle.grammar.specs.Grammar.{curly, square, opening, closing, Label, Value, nested, empty, string, number}
 use Rattle.grammar.specs.Grammar.{literal, Entries, last, more, leavesLabel, leavesValue, leavesEntries}
 use Rattle.grammar.specs.Places.{leading, trailing, place}
-use Rattle.grammar.specs.Readings.{Reading, octetsAt, NameStands, StringsStand, StringsStandIn}
+use Rattle.grammar.specs.Readings.{Reading, octetsAt}
+use Rattle.grammar.specs.Shown.{NameStands, StringsStand, StringsStandIn}
 use Rattle.grammar.proofs.Positions.{Rest, rest-along, rest-next}
 use Rattle.grammar.proofs.Decide.{rest-value}
 

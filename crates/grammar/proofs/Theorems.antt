@@ -11,7 +11,8 @@ use Rattle.grammar.specs.Utf8.{Utf8, utf8, points, encode, encodes}
 use Rattle.grammar.specs.Strings.{every, says, undone, SayAlike, HasOctets}
 use Rattle.grammar.specs.Spellings.{alike, has, sayable}
 use Rattle.grammar.specs.Reader.{skipSpace, nothing, found, readText}
-use Rattle.grammar.specs.Readings.{Reading, Shown, Everywhere, StringsStand}
+use Rattle.grammar.specs.Readings.{Reading}
+use Rattle.grammar.specs.Shown.{Shown, Everywhere, StringsStand}
 use Rattle.grammar.proofs.Unambiguous as Unambiguous
 use Rattle.grammar.proofs.Utf8Test as Utf
 use Rattle.grammar.proofs.Decide as Decide

@@ -4,6 +4,7 @@ pub mod Places
 pub mod Utf8
 pub mod Strings
 pub mod Spellings
-pub mod Reader
 pub mod Readings
+pub mod Reader
+pub mod Shown
 pub mod Bounds

@@ -5,7 +5,8 @@ use Prim.Native.Nat.{ℕ}
 use Rattle.grammar.specs.Grammar.{Value, nested, empty, string, number, literal}
 use Rattle.grammar.specs.Places.{Placed, item, placed, placedText, kind, kindOf, startOf, partsOf, members}
 use Rattle.grammar.specs.Reader.{membersAt}
-use Rattle.grammar.specs.Readings.{Reading, Shown, Everywhere}
+use Rattle.grammar.specs.Readings.{Reading}
+use Rattle.grammar.specs.Shown.{Shown, Everywhere}
 use Rattle.grammar.proofs.Theorems.{read-complete, read-shows}
 use Rattle.headers.specs.Headers.{outermost}
 

@@ -7,6 +7,7 @@ use mathlib.Core.List.{List, [], _∷_, _++_}
 use Prim.Native.Nat.{ℕ, zero, suc, _+_, _≤_}
 use lib.ListN.{length, getD}
 use Rattle.prelude.specs.Ascii.{ascii}
+use Rattle.prelude.specs.Limits.{levels}
 use Rattle.prelude.specs.Buffer.{written}
 use Rattle.base64url.specs.Base64url.{encoded}
 use Rattle.grammar.specs.Grammar.{octets, leavesChars, leavesValue, Text, leaves}
@@ -33,7 +34,7 @@ use Rattle.meets.specs.Handed as handed
 -- A text has exactly one reading, spaces aside: one that is asked for, and every tree whose leaves are the text, whatever
 -- its levels and whatever it keeps, is it, spaces aside, and puts every name and value at its places.
 pub record ExactlyOne (s : List ℕ) : Type 0 where
-  pub reading : Reading 12 s
+  pub reading : Reading levels s
   pub only : (t : Text) → leaves t ≡ s →
       (emptiedText t ≡ emptiedText (reading .text)) × (placedText t ≡ placedText (reading .text))
 
@@ -198,7 +199,7 @@ pub record RowsShow (header message : List ℕ) (h : Headers) (x : Rows) : Type 
 -- There is no protected header: the message is JSON and its top level has no such member.
 abbrev pub NoProtected : List ℕ → Type 0
 NoProtected message =
-    (r : Reading 12 message) × NoMember message (ascii "protected") (partsOf (placedText (r .text)))
+    (r : Reading levels message) × NoMember message (ascii "protected") (partsOf (placedText (r .text)))
 
 -- What is handed out for recipient n of a message that meets the rules, with what was known and lent.
 pub record HandsOut (known : List ℕ) (buffer list : List ℕ) {names : List (List ℕ)} {message : List ℕ}

@@ -12,7 +12,8 @@ use Rattle.base64url.specs.Base64url.{encoded}
 use Rattle.names.specs.Names.{names}
 use Rattle.grammar.specs.Places.{Placed, Parts, placedText, partsOf, Member}
 use Rattle.grammar.specs.Reader.{opensObject}
-use Rattle.grammar.specs.Readings.{Reading, octetsAt, Shown, EverywhereIn}
+use Rattle.grammar.specs.Readings.{Reading, octetsAt}
+use Rattle.grammar.specs.Shown.{Shown, EverywhereIn}
 use Rattle.grammar.proofs.Theorems.{one-reading, read-shows}
 use Rattle.rows.specs.Rows.{Entry, repeated}
 use Rattle.prelude.specs.Refusals.{first}

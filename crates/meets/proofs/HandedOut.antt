@@ -7,7 +7,8 @@ use lib.ListN.{length, length-append}
 use Rattle.grammar.specs.Places.{Member, Placed, item, placedText, kindOf, startOf, partsOf, members}
 use Rattle.grammar.specs.Reader.{elementsAt}
 use Rattle.grammar.specs.Places.{elements}
-use Rattle.grammar.specs.Readings.{Reading, Shown, Everywhere}
+use Rattle.grammar.specs.Readings.{Reading}
+use Rattle.grammar.specs.Shown.{Shown, Everywhere}
 use Rattle.rows.specs.Rows.{Entry, entriesIn}
 use Rattle.rows.specs.Tables.{listed, six}
 use Rattle.headers.specs.Headers.{headerText, outermost, protectedEntries}

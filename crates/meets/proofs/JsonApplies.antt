@@ -12,7 +12,8 @@ use Rattle.prelude.specs.Ascii.{ascii}
 use Rattle.grammar.specs.Places.{Place, Placed, Parts, placedText, startOf, kindOf, partsOf, Element, elementOf, elements}
 use Rattle.grammar.specs.Reader.{elementsAt}
 use Rattle.grammar.specs.Bounds.{Every}
-use Rattle.grammar.specs.Readings.{Reading, Shown, Everywhere, EverywhereIn}
+use Rattle.grammar.specs.Readings.{Reading}
+use Rattle.grammar.specs.Shown.{Shown, Everywhere, EverywhereIn}
 use Rattle.grammar.proofs.Theorems.{read-shows}
 use Rattle.prelude.specs.Any.{any}
 use Rattle.rows.specs.Rows.{Entry, valueOf, repeated}

@@ -17,7 +17,8 @@ use Rattle.parts.proofs.Laws.{part-fits}
 use Rattle.grammar.specs.Places.{Place, Placed, item, Parts, startOf, sizeOf, kindOf, Member}
 use Rattle.grammar.specs.Reader.{octetAt, step, skipSpace, rowsAt, rowsIn, membersAt}
 use Rattle.grammar.specs.Bounds as bounds
-use Rattle.grammar.specs.Readings.{octetsAt, Shown, EverywhereIn}
+use Rattle.grammar.specs.Readings.{octetsAt}
+use Rattle.grammar.specs.Shown.{Shown, EverywhereIn}
 use Rattle.json.proofs.Within.{value-within}
 use Rattle.prelude.specs.Any.{any}
 use Rattle.rows.specs.Rows.{Entry, valueOf}

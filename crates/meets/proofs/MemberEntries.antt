@@ -14,7 +14,8 @@ use Rattle.grammar.specs.Places.{kind, place, placeName, placed, placedEntries,
 use Rattle.grammar.specs.Places.{partsOf, members, Parts, done}
 use Rattle.grammar.specs.Places as places
 use Rattle.grammar.specs.Bounds.{Every}
-use Rattle.grammar.specs.Readings.{Shown, Everywhere, Reading}
+use Rattle.grammar.specs.Readings.{Reading}
+use Rattle.grammar.specs.Shown.{Shown, Everywhere}
 use Rattle.grammar.specs.Reader.{membersAt, skipSpace}
 use Rattle.grammar.specs.Spellings.{adds, next, undoFrom, undo, equal, has}
 use Rattle.names.specs.Names.{numberIn}

@@ -13,7 +13,7 @@ use borrow.Author.Tests.{eqb-true, eqb-false, ne-eqb}
 use Rattle.grammar.specs.Places.{Place, Placed, item, Parts, done, part, startOf, sizeOf, kindOf, partsOf, memberOf}
 use Rattle.grammar.specs.Places.{members, Element, elementOf, elements}
 use Rattle.grammar.specs.Bounds.{Every}
-use Rattle.grammar.specs.Readings.{Shown, Everywhere, EverywhereIn}
+use Rattle.grammar.specs.Shown.{Shown, Everywhere, EverywhereIn}
 use Rattle.prelude.specs.Any.{any}
 use Rattle.rows.specs.Rows.{Entry, entryOf, entriesIn, present, valueOf}
 use Rattle.grammar.specs.Reader.{membersAt}

@@ -20,7 +20,8 @@ use Rattle.grammar.specs.Places.{done, part, placed, placedEntries, placedText,
 use Rattle.grammar.specs.Strings.{says, HasOctets, everyLabel, every, everyEntries}
 use Rattle.grammar.specs.Utf8.{points, encodes}
 use Rattle.grammar.specs.Spellings.{undo, sayable}
-use Rattle.grammar.specs.Readings.{Reading, octetsAt, Everywhere, EverywhereIn, NameStands, StringsStand, StringsStandIn}
+use Rattle.grammar.specs.Readings.{Reading, octetsAt}
+use Rattle.grammar.specs.Shown.{Everywhere, EverywhereIn, NameStands, StringsStand, StringsStandIn}
 use Rattle.grammar.proofs.Theorems.{read-stands, read-says}
 use Rattle.grammar.proofs.Spellings.{undo-spelling}
 use Rattle.grammar.proofs.Scan.{both-T}

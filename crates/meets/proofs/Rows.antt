@@ -23,7 +23,8 @@ use Rattle.grammar.specs.Strings.{everyLabel, every, everyEntries}
 use Rattle.grammar.specs.Spellings.{sayable}
 use Rattle.grammar.specs.Reader.{octetAt, step, skipSpace, Answer, nothing, found, readText, rowsAt, rowsIn, valueAt}
 use Rattle.grammar.specs.Reader.{membersAt, elementsAt}
-use Rattle.grammar.specs.Readings.{Reading, Shown, Everywhere, EverywhereIn, StringsStand, StringsStandIn}
+use Rattle.grammar.specs.Readings.{Reading}
+use Rattle.grammar.specs.Shown.{Shown, Everywhere, EverywhereIn, StringsStand, StringsStandIn}
 use Rattle.grammar.proofs.Theorems.{read-sound, read-complete}
 use Rattle.grammar.proofs.Parse.{At, at, scan}
 use Rattle.grammar.proofs.Scan.{both-T, scan-octets}

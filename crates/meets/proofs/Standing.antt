@@ -20,7 +20,8 @@ use Rattle.grammar.specs.Places as places
 use Rattle.grammar.specs.Strings.{every}
 use Rattle.grammar.specs.Spellings.{sayable}
 use Rattle.grammar.specs.Reader.{skipSpace}
-use Rattle.grammar.specs.Readings.{Reading, Shown, Everywhere, StringsStand}
+use Rattle.grammar.specs.Readings.{Reading}
+use Rattle.grammar.specs.Shown.{Shown, Everywhere, StringsStand}
 use Rattle.grammar.proofs.Theorems.{read-complete, read-shows, read-stands, read-says}
 use Rattle.grammar.proofs.Positions.{Rest, rest-next}
 use Rattle.grammar.proofs.Decide.{rest-value}

@@ -7,6 +7,7 @@ use mathlib.Core.Option.{Option, none, some}
 use Prim.Native.Nat.{ℕ, zero, suc, _+_, _-_}
 use lib.ListN.{length}
 use Rattle.prelude.specs.Ascii.{ascii, fullStop}
+use Rattle.prelude.specs.Limits.{levels}
 use Rattle.base64url.specs.Base64url.{encoded}
 use Rattle.grammar.specs.Grammar.{Str, leavesChars}
 use Rattle.grammar.specs.Places.{Place, Placed, item, Parts, done, part, placedText, startOf, sizeOf, partsOf, Member, members}
@@ -66,7 +67,7 @@ RecipientAt s ps n rs =
 
 -- The rows of a decoded protected header.
 pub record ProtectedRows (header : List ℕ) (ms : List Member) : Type 0 where
-  pub reading : Reading 12 header
+  pub reading : Reading levels header
   pub rows : ms ≡ members (partsOf (placedText (reading .text)))
 
 -- A string's place without its quotation marks.
@@ -77,7 +78,7 @@ within v = record { start = startOf v + 1; size = sizeOf v - 2 }
 pub data Applies (message : List ℕ) (n : ℕ) (header : List ℕ) (x : Rows) : Type 0 where
   compact : (rest : List ℕ) → (encoded header ++ (fullStop ∷ rest) ≡ message) → ProtectedRows header (x .protected)
       → (x .shared ≡ []) → (x .own ≡ []) → Applies message n header x
-  json : (r : Reading 12 message)
+  json : (r : Reading levels message)
       → ((NoMember message (ascii "protected") (partsOf (placedText (r .text))) × (header ≡ []) × (x .protected ≡ []))
       ⊎ ((v : Placed) × MemberAt message (ascii "protected") v (partsOf (placedText (r .text)))
       × (octetsAt message (within v) ≡ encoded header) × ProtectedRows header (x .protected)))

@@ -5,7 +5,8 @@ use mathlib.Core.Logic.{_⊎_}
 use mathlib.Core.List.{List, [], _∷_, _++_, map}
 use Prim.Native.Nat.{ℕ, _≤_, _<_}
 use lib.ListN.{length}
-use Rattle.prelude.specs.Ascii.{ascii}
+use Rattle.prelude.specs.Ascii.{ascii, fullStop}
+use Rattle.prelude.specs.Limits.{longest, headerRoom, listRoom, levels, mostMembers, mostRecipients}
 use Rattle.prelude.specs.Buffer.{AllBelow}
 use Rattle.base64url.specs.Base64url.{encoded}
 use Rattle.names.specs.Names.{listOf, Limited}
@@ -14,7 +15,6 @@ use Rattle.grammar.specs.Grammar as grammar
 use Rattle.grammar.specs.Places.{kind}
 use Rattle.grammar.specs.Bounds.{Every}
 use Rattle.grammar.specs.Readings.{Reading}
-use Rattle.headers.specs.Components.{dotted}
 use Rattle.meets.specs.Members.{Member, membersOf, elementsOf, namesOf, IsString, Distinct, Named, Absent}
 use Rattle.meets.specs.Rules.{EveryNamed, Present, Rules}
 
@@ -24,13 +24,13 @@ Octets = AllBelow 256
 
 -- An object whose names are compared: at most 32 members, no name twice.
 pub record Object (ms : List Member) : Type 0 where
-  pub few : length ms ≤ 32
+  pub few : length ms ≤ mostMembers
   pub distinct : Distinct (namesOf ms)
 
 -- A decoded protected header: at most 4,096 octets, read as an object within 12 levels.
 pub record Protected (header : List ℕ) : Type 0 where
-  pub short : length header ≤ 4096
-  pub reading : Reading 12 header
+  pub short : length header ≤ headerRoom
+  pub reading : Reading levels header
 
 abbrev pub membersRead : {header : List ℕ} → Protected header → List Member
 membersRead p = membersOf (p .reading .text .value)
@@ -43,7 +43,10 @@ pub record Compact (known : List (List ℕ)) (message : List ℕ) : Type 0 where
   pub ciphertext : List ℕ
   pub tag : List ℕ
   pub octets : Octets header × Octets key × Octets iv × Octets ciphertext × Octets tag
-  pub spelled : dotted header key iv ciphertext tag ≡ message
+  pub spelled :
+      encoded header
+      ++ (fullStop ∷ (encoded key ++ (fullStop ∷ (encoded iv ++ (fullStop ∷ (encoded ciphertext ++ (fullStop ∷ encoded tag)))))))
+      ≡ message
   pub protected : Protected header
   pub object : Object (membersRead protected)
   pub rules : Rules known (record { protected = membersRead protected; shared = []; own = [] }) key
@@ -125,7 +128,7 @@ pub record Recipient (known : List (List ℕ)) (protected shared : List Member) 
   pub rules : Rules known (record { protected = protected; shared = shared; own = own }) key
 
 pub record Json (known : List (List ℕ)) (message : List ℕ) : Type 0 where
-  pub reading : Reading 12 message
+  pub reading : Reading levels message
   pub object : Object (membersOf (reading .text .value))
   pub shape : TopShape (membersOf (reading .text .value))
   pub header : List ℕ
@@ -147,7 +150,7 @@ pub record Json (known : List (List ℕ)) (message : List ℕ) : Type 0 where
   pub sharedObject : Object shared
   pub recipients : List (List Member)
   pub recipientsRead : RecipientsIn (membersOf (reading .text .value)) recipients
-  pub few : length recipients ≤ 8
+  pub few : length recipients ≤ mostRecipients
   pub each : Every (Recipient known protected shared) recipients
 
 -- The form is told by the first octet that is not space: a JSON message has an opening curly bracket there.
@@ -174,8 +177,8 @@ pub record Known (list : List ℕ) : Type 0 where
 
 -- What is lent is enough, and the message meets the rules and has the recipient.
 pub record Meets (message known : List ℕ) (recipient headerLent listLent : ℕ) : Type 0 where
-  pub room : (4096 ≤ headerLent) × (576 ≤ listLent)
-  pub size : length message ≤ 16777216
+  pub room : (headerRoom ≤ headerLent) × (listRoom ≤ listLent)
+  pub size : length message ≤ longest
   pub list : Known known
   pub form : Message (list .names) message
   pub asked : recipient < count form

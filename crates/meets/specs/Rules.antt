@@ -9,7 +9,7 @@ use Rattle.grammar.specs.Places.{kind}
 use Rattle.grammar.specs.Strings.{SayAlike, HasOctets}
 use Rattle.grammar.specs.Bounds.{Every}
 use Rattle.algorithms.specs.Algorithms.{algName, mode, algNames, encNames, zipNames}
-use Rattle.jose.specs.Registered.{registered}
+use Rattle.names.specs.Registered.{registered}
 use Rattle.algorithms.specs.declared.Alg.{Alg}
 use Rattle.meets.specs.Members.{Member, elementsOf, namesOf, Some, IsString, Among, Distinct, Apart}
 

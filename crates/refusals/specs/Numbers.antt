@@ -5,6 +5,7 @@ use mathlib.Core.List.{List, [], _∷_, _++_}
 use Prim.Native.Nat.{ℕ, _≤_, _<_}
 use lib.ListN.{length}
 use Rattle.prelude.specs.Ascii.{ascii, fullStop}
+use Rattle.prelude.specs.Limits.{longest, headerRoom, listRoom, levels, mostMembers, mostRecipients}
 use Rattle.base64url.specs.Base64url.{encoded}
 use Rattle.grammar.specs.Bounds.{Every}
 use Rattle.grammar.specs.Readings.{Reading}
@@ -18,7 +19,7 @@ use Rattle.refusals.specs.Table.{Table, pass, rule, given, fork}
 
 -- On an object whose names are compared: 8, over 32 members; 9, a name twice.
 abbrev pub objectTable : List Member → Table → Table
-objectTable ms rest = rule 8 (length ms ≤ 32) λ few. rule 9 (Distinct (namesOf ms)) λ once. rest
+objectTable ms rest = rule 8 (length ms ≤ mostMembers) λ few. rule 9 (Distinct (namesOf ms)) λ once. rest
 
 -- 12 to 18, on a recipient's headers and its key.
 unfoldable pub recipientTable : List (List ℕ) → Headers → List ℕ → Table → Table
@@ -62,7 +63,7 @@ Encodings f = Encoding (f .header) × Encoding (f .key) × Encoding (f .iv) × E
 -- 6 and 7 on a decoded protected header, and what is asked of its members.
 abbrev pub textTable : List ℕ → (List Member → Table) → Table
 textTable header rest =
-    rule 6 (length header ≤ 4096) λ short. rule 7 (Reading 12 header) λ r. rest (membersOf (r .text .value))
+    rule 6 (length header ≤ headerRoom) λ short. rule 7 (Reading levels header) λ r. rest (membersOf (r .text .value))
 
 unfoldable pub compactTable : List (List ℕ) → List ℕ → ℕ → Table
 compactTable known message recipient =
@@ -132,12 +133,12 @@ headersTable known ps rs k recipient protected =
 
 unfoldable pub jsonTable : List (List ℕ) → List ℕ → ℕ → Table
 jsonTable known message recipient =
-    rule 7 (Reading 12 message) λ r.
+    rule 7 (Reading levels message) λ r.
     let ps = membersOf (r .text .value) in
     objectTable ps
     (rule 10 (TopShape ps) λ shape.
     given ((rs : List (List Member)) × RecipientsIn ps rs) λ g.
-    rule 11 (length (g .0) ≤ 8) λ few.
+    rule 11 (length (g .0) ≤ mostRecipients) λ few.
     elementsTable (g .0)
     (rule 5 (AllSpelled ps (g .0)) λ c.
     fork (Present (ascii "protected") ps)
@@ -147,7 +148,7 @@ jsonTable known message recipient =
 -- All numbers, of a message, a list of known names, a recipient number and the lengths of the lent outputs.
 unfoldable pub numbersTable : List ℕ → List ℕ → ℕ → ℕ → ℕ → Table
 numbersTable message known recipient headerLent listLent =
-    rule 1 ((4096 ≤ headerLent) × (576 ≤ listLent)) λ room.
-    rule 2 (length message ≤ 16777216) λ size.
+    rule 1 ((headerRoom ≤ headerLent) × (listRoom ≤ listLent)) λ room.
+    rule 2 (length message ≤ longest) λ size.
     rule 3 (Known known) λ k.
     fork (OpensCurly message) (jsonTable (k .names) message recipient) (compactTable (k .names) message recipient)
