@@ -17,7 +17,7 @@ use Rattle.base64url.specs.declared.Decoded.the-variants.{Octets, Misspelled, S
 use Rattle.parts.specs.Parts.{part}
 use Rattle.grammar.specs.Places.{Place}
 use Rattle.grammar.specs.Reader.{Answer, nothing, found, readText}
-use Rattle.json.specs.Ends.{foundOf}
+use Rattle.json.specs.Inner.Ends.{foundOf}
 use Rattle.json.specs.declared.Found.{Found}
 use Rattle.json.specs.declared.Found.the-variants.{Value, Nothing}
 use Rattle.prelude.specs.Refusals.{first, stageOf}

@@ -6,7 +6,7 @@ ghost use lib.ListN.{length};
 ghost use Rattle.names.specs.Names.{names, filled};
 ghost use Rattle.grammar.specs.Grammar.{curly};
 ghost use Rattle.grammar.specs.Reader.{membersAt};
-ghost use Rattle.json.specs.Known.{Given, KnownIn};
+ghost use Rattle.json.specs.Inner.Known.{Given, KnownIn};
 ghost use Rattle.rows.specs.Rows.{entriesIn};
 ghost use Rattle.rows.specs.Tables.{collectedTable, headerTable, width};
 ghost use Rattle.prelude.specs.Limits.{headerRoom, levels, longest};

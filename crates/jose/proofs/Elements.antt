@@ -14,7 +14,7 @@ use Rattle.json.specs.declared.member.Member.the-variants.{Here, End}
 use Rattle.json.proofs.MemberRows.{rows-first, rows-spent, rows-none, rows-more, the-read}
 use Rattle.json.proofs.Within.{row-within}
 use Rattle.prelude.specs.Limits.{levels}
-use Rattle.jose.specs.Elements.{elementOf, elementsFrom}
+use Rattle.jose.specs.Inner.Elements.{elementOf, elementsFrom}
 
 element-read : (r : Row) (m : Member) → fiveOf r ≡ numbers m → elementOf r ≡ asElement m
 element-read r m e = cc

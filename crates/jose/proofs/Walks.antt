@@ -13,7 +13,7 @@ use Rattle.json.specs.declared.member.Row.{Row}
 use Rattle.json.specs.declared.member.Member.the-variants.{Here, End}
 use Rattle.prelude.specs.Any.{any, anyPair}
 use Rattle.prelude.specs.Limits.{levels}
-use Rattle.jose.specs.Elements.{elementOf, elementsFrom}
+use Rattle.jose.specs.Inner.Elements.{elementOf, elementsFrom}
 use Rattle.jose.proofs.Elements.{elements-spent, elements-none, elements-more}
 
 -- A question on elements that some test of each of them, with those after it, decides.

@@ -1,3 +1,3 @@
 pub mod Registered
 pub mod HeaderRules
-pub mod Elements
+pub mod Inner

@@ -11,7 +11,7 @@ ghost use Rattle.prelude.specs.Any.{any, anyPair};
 ghost use Rattle.rows.specs.Tables.{firstOf, entriesOf, width};
 ghost use Rattle.jose.specs.HeaderRules.{spelledElement, unknown, sameElement, nameSays, misplaced};
 ghost use Rattle.jose.specs.HeaderRules.{isEmpty, wrongCrit, critical};
-ghost use Rattle.jose.specs.Elements.{elementOf, elementsFrom};
+ghost use Rattle.jose.specs.Inner.Elements.{elementOf, elementsFrom};
 use json::Position;
 use json::member::Member;
 use json::member::Row;

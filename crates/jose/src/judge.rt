@@ -4,7 +4,7 @@ ghost use mathlib.Core.Bool.{true};
 ghost use Prim.Native.Nat.{_*_, _≤_};
 ghost use lib.ListN.{length};
 ghost use Rattle.names.specs.Names.{names, filled};
-ghost use Rattle.rows.specs.Prints.{Printed};
+ghost use Rattle.rows.specs.Inner.Prints.{Printed};
 ghost use Rattle.rows.specs.Tables.{entriesOf, width};
 ghost use Rattle.prelude.specs.Refusals.{first, stageOf};
 ghost use Rattle.jose.specs.HeaderRules.{wrongKey, modeIn, breaks, rulesOrder, protectedRules, recipientOrder};

@@ -20,13 +20,13 @@ use Rattle.grammar.specs.Utf8.{utf8}
 use Rattle.grammar.proofs.Endings.{either}
 use Rattle.grammar.proofs.Here.{octet-end}
 use Rattle.grammar.proofs.Turns.{value-is, value-object, value-array}
-use Rattle.skip.specs.Past.{pastNested}
+use Rattle.skip.specs.Inner.Past.{pastNested}
 use Rattle.skip.proofs.Law.{past-nested, kind-nested}
-use Rattle.json.specs.Ends.{valueIn}
+use Rattle.json.specs.Inner.Ends.{valueIn}
 use Rattle.json.specs.Members.{firstIn, nextFrom}
 use Rattle.json.specs.declared.Position.{Position}
 use Rattle.json.specs.declared.member.Row.{Row}
-use Rattle.json.specs.Known.{Given, Known, KnownEntry, KnownNext, KnownFrom, KnownIn}
+use Rattle.json.specs.Inner.Known.{Given, Known, KnownEntry, KnownNext, KnownFrom, KnownIn}
 use Rattle.json.proofs.Levels.{not-found, value-more}
 use Rattle.json.proofs.StringParts.{string-not}
 use Rattle.json.proofs.ValueParts.{name-refused, element-here}

@@ -8,7 +8,7 @@ use lib.Dec.{eqb}
 use Rattle.grammar.specs.Grammar.{isDigit, isNonzero, isMinus, isPoint, isE, isPlusMinus}
 use Rattle.grammar.specs.Reader.{End, refused, ended, andThen, octetAt, step, skip, perhapsAt, digitsAt, intAt}
 use Rattle.grammar.specs.Reader.{fractionAt, exponentAt, numberAt}
-use Rattle.json.specs.Ends.{endsOf}
+use Rattle.json.specs.Inner.Ends.{endsOf}
 use Rattle.json.specs.declared.Position.{Position}
 use Rattle.json.specs.declared.Ends.the-variants.{At, Refused}
 

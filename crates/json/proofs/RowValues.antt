@@ -13,7 +13,7 @@ use Rattle.grammar.specs.Reader.{octetAt, step, skipSpace, Answer, nothing, fou
 use Rattle.grammar.specs.Reader.{valueAfter, entryAt, rowsAfter, rowsAt, rowsIn, valueAt, membersAt, elementsOf}
 use Rattle.grammar.specs.Reader.{elementsAt}
 use Rattle.grammar.proofs.Endings.{either}
-use Rattle.json.specs.Known.{KnownIn}
+use Rattle.json.specs.Inner.Known.{KnownIn}
 use Rattle.json.proofs.Knowing.{value-known}
 
 -- A value of the kind k stands at a position.

@@ -15,7 +15,7 @@ use Rattle.grammar.specs.Grammar.{quote, backslash, letterU, among, isDigit, is
 use Rattle.grammar.specs.Strings.{hexDigit, hexMore, isHigh, isLow}
 use Rattle.grammar.specs.Reader.{End, refused, ended, Scan, between, escaping, digit, Turn, broken, closed, goOn}
 use Rattle.grammar.specs.Reader.{octetAt, step, skip, passOver, turn, afterUnit, afterChar, scanString, stringAt}
-use Rattle.json.specs.Ends.{hexAt, resumed, Beyond, escapeOf, Plain}
+use Rattle.json.specs.Inner.Ends.{hexAt, resumed, Beyond, escapeOf, Plain}
 use Rattle.json.specs.declared.string.Hex.{Hex}
 use Rattle.json.specs.declared.string.Escape.{Escape}
 use Rattle.json.specs.declared.string.Escape.the-variants.{Next, Wrong}

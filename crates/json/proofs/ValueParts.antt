@@ -16,7 +16,7 @@ use Rattle.grammar.specs.Reader.{End, refused, ended, octetAt, step, skipSpace,
 use Rattle.grammar.specs.Reader.{Answer, nothing, found, ofKind, Before, colonAt, beforeAt, valueAfter, entryAt}
 use Rattle.grammar.specs.Reader.{closeOr, afterEntry, entriesAt, isNumberStart, valueWith, valueAt}
 use Rattle.grammar.specs.Reader.{nestedWithin, wholly, readText}
-use Rattle.json.specs.Ends.{endsOf, foundOf, endsOfKind, valueIn}
+use Rattle.json.specs.Inner.Ends.{endsOf, foundOf, endsOfKind, valueIn}
 use Rattle.json.specs.declared.Position.{Position}
 use Rattle.json.specs.declared.Ends.{Ends}
 use Rattle.json.specs.declared.Found.the-variants.{Value, Nothing}

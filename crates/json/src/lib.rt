@@ -3,7 +3,7 @@
 ghost use mathlib.Core.Path.{_≡_};
 ghost use Rattle.grammar.specs.Grammar.{isSpace, isDigit};
 ghost use Rattle.grammar.specs.Reader.{octetAt, step, skip, skipSpace, opensObject, readText};
-ghost use Rattle.json.specs.Ends.{foundOf};
+ghost use Rattle.json.specs.Inner.Ends.{foundOf};
 
 pub mod member;
 mod number;

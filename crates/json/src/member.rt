@@ -8,7 +8,7 @@ ghost use Rattle.prelude.specs.Limits.{mostMembers};
 ghost use Rattle.grammar.specs.Grammar.{curly, square};
 ghost use Rattle.grammar.specs.Reader.{entryAt, valueAt, membersAt};
 ghost use Rattle.json.specs.Members.{firstIn, memberOf, nextFrom, fiveOf, flat, collectedOf, memberRoom, memberWidth};
-ghost use Rattle.json.specs.Known.{Given, Known, KnownEntry, KnownIn};
+ghost use Rattle.json.specs.Inner.Known.{Given, Known, KnownEntry, KnownIn};
 use crate::Ends;
 use crate::Found;
 use crate::Position;

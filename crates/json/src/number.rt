@@ -2,7 +2,7 @@
 ghost use mathlib.Core.Path.{_≡_};
 ghost use Rattle.grammar.specs.Grammar.{isDigit, isMinus, isPlusMinus};
 ghost use Rattle.grammar.specs.Reader.{perhapsAt, digitsAt, intAt, fractionAt, exponentAt, numberAt};
-ghost use Rattle.json.specs.Ends.{endsOf};
+ghost use Rattle.json.specs.Inner.Ends.{endsOf};
 use crate::Ends;
 use crate::Position;
 

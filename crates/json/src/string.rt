@@ -8,7 +8,7 @@ ghost use mathlib.Core.List.{[], _∷_};
 ghost use Rattle.grammar.specs.Grammar.{among, isUnescaped, isEscape, isHex};
 ghost use Rattle.grammar.specs.Strings.{hexDigit, isHigh, isLow};
 ghost use Rattle.grammar.specs.Reader.{octetAt, skip, between, escaping, digit, afterUnit, scanString, stringAt};
-ghost use Rattle.json.specs.Ends.{endsOf, hexAt, Small, resumed, Beyond, escapeOf, Plain};
+ghost use Rattle.json.specs.Inner.Ends.{endsOf, hexAt, Small, resumed, Beyond, escapeOf, Plain};
 use crate::Ends;
 use crate::Position;
 

@@ -2,8 +2,8 @@
 ghost use mathlib.Core.Path.{_≡_};
 ghost use Rattle.grammar.specs.Grammar.{curly, square};
 ghost use Rattle.grammar.specs.Reader.{wordAt, beforeAt, isNumberStart, valueAt, nestedWithin};
-ghost use Rattle.json.specs.Ends.{endsOf, valueIn, endsOfKind, foundOf};
-ghost use Rattle.json.specs.Known.{Given, Known};
+ghost use Rattle.json.specs.Inner.Ends.{endsOf, valueIn, endsOfKind, foundOf};
+ghost use Rattle.json.specs.Inner.Known.{Given, Known};
 use crate::Ends;
 use crate::Found;
 use crate::Position;

@@ -29,7 +29,7 @@ use Rattle.prelude.specs.declared.Stage.the-variants.{Passed, Refused}
 use Rattle.headers.proofs.Stages.{passed-is, refused-is}
 use Rattle.shape.specs.Shape.{inner, component, protected}
 use Rattle.jwe.specs.General.{isHollow}
-use Rattle.jwe.specs.Stages.{textTests, protectedTests}
+use Rattle.jwe.specs.Inner.Stages.{textTests, protectedTests}
 
 -- Where there is no protected header
 

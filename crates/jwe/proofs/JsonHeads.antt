@@ -15,7 +15,7 @@ use Rattle.prelude.specs.declared.Stage.the-variants.{Refused}
 use Rattle.shape.specs.Shape.{Recipient}
 use Rattle.jwe.specs.Judge.{Outcome, place, accepted}
 use Rattle.jwe.specs.Answers.{componentsOf, numbers, handed, Judges}
-use Rattle.jwe.specs.Stages.{ownTests, ruleTests, headedOrder, Heads}
+use Rattle.jwe.specs.Inner.Stages.{ownTests, ruleTests, headedOrder, Heads}
 use Rattle.jwe.specs.declared.Components.{Components}
 use Rattle.jwe.specs.declared.judged.Judged.{Judged}
 use Rattle.jwe.proofs.JsonOrder.{stop, skip, own-nonzero, rule-nonzero}

@@ -21,8 +21,8 @@ use Rattle.shape.specs.Recipients.{componentsIn}
 use Rattle.jwe.specs.General.{sharedEntries, ownEntries, parameters, anyMisspelled, isHollow}
 use Rattle.jwe.specs.General.{protectedOrder, headersOrder, recipientsOrder, jsonOrder}
 use Rattle.jwe.specs.Judge.{Outcome, asked, jsonOutcome}
-use Rattle.jwe.specs.Stages.{textTests, protectedTests, ownTests, ruleTests, headedOrder, shapedOrder}
-use Rattle.jwe.specs.Stages.{headedOutcome, shapedOutcome}
+use Rattle.jwe.specs.Inner.Stages.{textTests, protectedTests, ownTests, ruleTests, headedOrder, shapedOrder}
+use Rattle.jwe.specs.Inner.Stages.{headedOutcome, shapedOutcome}
 
 -- A stage, and what comes behind it
 

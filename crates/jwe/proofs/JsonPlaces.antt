@@ -11,7 +11,7 @@ use borrow.Author.Tests.{eq-eqb, ne-eqb}
 use Rattle.grammar.specs.Places.{Place}
 use Rattle.headers.specs.Components.{absent, Components}
 use Rattle.shape.specs.Shape.{inner}
-use Rattle.jwe.specs.Stages.{recipientAt}
+use Rattle.jwe.specs.Inner.Stages.{recipientAt}
 
 abbrev placed : ℕ → ℕ → Place
 placed start size = record { start = start; size = size }

@@ -11,7 +11,7 @@ use borrow.Author.Tests.{ltb-false}
 use Rattle.prelude.specs.Buffer.{written}
 use Rattle.prelude.proofs.Writing.{written-length, begins}
 use Rattle.rows.specs.Rows.{Entry, present, valueOf}
-use Rattle.rows.specs.Prints.{Printed}
+use Rattle.rows.specs.Inner.Prints.{Printed}
 use Rattle.rows.specs.Tables.{flat, entriesOf, collectedTable}
 use Rattle.rows.proofs.Entries.{entries-written, entries-more}
 use Rattle.rows.proofs.Printing.{entries-printed, printed-append}
@@ -26,8 +26,8 @@ use Rattle.shape.specs.Shape.{protected, unprotected, component, Recipient}
 use Rattle.jwe.specs.General.{sharedEntries, isHollow}
 use Rattle.jwe.specs.Judge.{Outcome, accepted}
 use Rattle.jwe.specs.Answers.{Judges}
-use Rattle.jwe.specs.Stages.{textTests, protectedTests, headedOrder, shapedOrder, headedOutcome, shapedOutcome}
-use Rattle.jwe.specs.Stages.{Heads}
+use Rattle.jwe.specs.Inner.Stages.{textTests, protectedTests, headedOrder, shapedOrder, headedOutcome, shapedOutcome}
+use Rattle.jwe.specs.Inner.Stages.{Heads}
 use Rattle.jwe.specs.declared.judged.Judged.{Judged}
 use Rattle.jwe.specs.declared.judged.Judged.the-variants.{Accepted, Refused}
 use Rattle.jwe.proofs.JsonOrder.{stop, skip, text-nonzero, protected-nonzero, object-nonzero, shaped-is}

@@ -23,11 +23,11 @@ use Rattle.headers.proofs.Stages.{passed-is}
 use Rattle.shape.specs.Shape.{protected, recipients, component, wrongTop, wrongElements, Recipient, recipientOf}
 use Rattle.shape.specs.Recipients.{topEntries, topOrder, elementsIn, elementEntries, elementOrder, elementsOrder}
 use Rattle.shape.specs.Recipients.{recipientsIn}
-use Rattle.shape.specs.Answers.{flatRecipients}
+use Rattle.shape.specs.Inner.Answers.{flatRecipients}
 use Rattle.jwe.specs.General.{allPlaces, anyMisspelled, jsonOrder}
 use Rattle.jwe.specs.Judge.{Outcome, accepted, jsonOutcome}
 use Rattle.jwe.specs.Answers.{Judges}
-use Rattle.jwe.specs.Stages.{recipientsOf, shapedOrder, shapedOutcome}
+use Rattle.jwe.specs.Inner.Stages.{recipientsOf, shapedOrder, shapedOutcome}
 use Rattle.jwe.specs.declared.judged.Judged.{Judged}
 use Rattle.jwe.specs.declared.judged.Judged.the-variants.{Accepted, Refused}
 use Rattle.jwe.proofs.JsonOrder.{json-rest, json-outcome}

@@ -15,13 +15,13 @@ use Rattle.rows.specs.Rows.{Entry}
 use Rattle.rows.specs.Tables.{flat, entriesOf, collectedTable}
 use Rattle.rows.proofs.Entries.{flat-of, flat-length, entries-length, entries-front}
 use Rattle.rows.proofs.Entries.{entries-written-from, entries-more}
-use Rattle.rows.specs.Prints.{Printed}
+use Rattle.rows.specs.Inner.Prints.{Printed}
 use Rattle.rows.proofs.Printing.{entries-printed}
 use Rattle.jose.specs.Registered.{registered}
 use Rattle.shape.specs.Shape.{Recipient}
 use Rattle.headers.specs.Headers.{membersOf, headerEntries}
 use Rattle.jwe.specs.General.{ownEntries}
-use Rattle.jwe.specs.Stages.{recipientAt, OwnAt, Owned}
+use Rattle.jwe.specs.Inner.Stages.{recipientAt, OwnAt, Owned}
 
 -- Entries are those of the numbers that they have.
 entries-take : (n : ℕ) (t u : List ℕ) → n * 8 ≤ length t → n * 8 ≤ length u → take (n * 8) t ≡ take (n * 8) u →

@@ -16,9 +16,9 @@ use Rattle.prelude.specs.Any.{any}
 use Rattle.prelude.specs.Refusals.{Test, first}
 use Rattle.prelude.proofs.Refusals.{nonzero}
 use Rattle.shape.specs.Shape.{Recipient}
-use Rattle.shape.specs.Answers.{flatRecipients}
+use Rattle.shape.specs.Inner.Answers.{flatRecipients}
 use Rattle.jwe.specs.Judge.{asked}
-use Rattle.jwe.specs.Stages.{recipientAt, recipientsOf}
+use Rattle.jwe.specs.Inner.Stages.{recipientAt, recipientsOf}
 use Rattle.jwe.proofs.JsonOrder.{stop, skip}
 
 pub recipients-length : (n : ℕ) (t : List ℕ) → length (recipientsOf n t) ≡ n

@@ -9,7 +9,7 @@ use borrow.Author.Tests.{ltb-false}
 use Rattle.prelude.specs.Buffer.{written}
 use Rattle.prelude.proofs.Writing.{written-length, begins}
 use Rattle.rows.specs.Rows.{Entry}
-use Rattle.rows.specs.Prints.{Printed}
+use Rattle.rows.specs.Inner.Prints.{Printed}
 use Rattle.prelude.specs.Refusals.{Test, first, stageOf}
 use Rattle.jose.specs.HeaderRules.{modeIn}
 use Rattle.headers.specs.Headers.{tooLong, textOrder}

@@ -2,4 +2,4 @@ pub mod Compact
 pub mod General
 pub mod Judge
 pub mod Answers
-pub mod Stages
+pub mod Inner

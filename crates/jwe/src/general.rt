@@ -1,7 +1,7 @@
 // The JSON serialization, general and flattened (RFC 7516, section 7.2). A table of entries holds eight numbers each,
 // one of
 // recipients three (where the own header stands, the key's start and length). What each function answers stands in
-// specs/Stages.
+// specs/Inner/Stages.
 ghost use mathlib.Core.Path.{_≡_};
 ghost use mathlib.Core.Bool.{true, false, cond};
 ghost use mathlib.Core.List.{_++_, map};
@@ -13,7 +13,7 @@ ghost use Rattle.prelude.specs.Limits.{headerRoom, longest, mostMembers, mostRe
 ghost use Rattle.names.specs.Names.{names, filled};
 ghost use Rattle.prelude.specs.Any.{any};
 ghost use Rattle.rows.specs.Rows.{present, valueOf};
-ghost use Rattle.rows.specs.Prints.{Printed};
+ghost use Rattle.rows.specs.Inner.Prints.{Printed};
 ghost use Rattle.rows.specs.Tables.{flat, entriesOf, collectedTable, headerTable, recipientTable, width};
 ghost use Rattle.prelude.specs.Refusals.{first, stageOf};
 ghost use Rattle.jose.specs.HeaderRules.{recipientOrder, modeIn};
@@ -22,12 +22,12 @@ ghost use Rattle.headers.specs.Headers.{headerText, protectedEntries, headerEnt
 ghost use Rattle.headers.specs.Answers.{placeOf, headerBuffer};
 ghost use Rattle.shape.specs.Shape.{component, protected, recipients, unprotected};
 ghost use Rattle.shape.specs.Recipients.{componentsIn};
-ghost use Rattle.shape.specs.Answers.{recipientWidth};
+ghost use Rattle.shape.specs.Inner.Answers.{recipientWidth};
 ghost use Rattle.jwe.specs.General.{allPlaces, jsonOrder};
 ghost use Rattle.jwe.specs.Judge.{jsonOutcome};
 ghost use Rattle.jwe.specs.Answers.{componentsOf, Judges};
-ghost use Rattle.jwe.specs.Stages.{recipientAt, recipientsOf, Owned, LeavesOwn, textTests, protectedTests, ownTests, ruleTests};
-ghost use Rattle.jwe.specs.Stages.{HeaderKnown, HeadersKnown, headedOrder, shapedOrder, headedOutcome, shapedOutcome, Heads, ownTable};
+ghost use Rattle.jwe.specs.Inner.Stages.{recipientAt, recipientsOf, Owned, LeavesOwn, textTests, protectedTests, ownTests, ruleTests};
+ghost use Rattle.jwe.specs.Inner.Stages.{HeaderKnown, HeadersKnown, headedOrder, shapedOrder, headedOutcome, shapedOutcome, Heads, ownTable};
 use crate::Components;
 use crate::Result;
 use crate::judged::Judged;

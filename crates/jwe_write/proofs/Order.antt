@@ -14,7 +14,7 @@ use Rattle.prelude.proofs.Outputs.{writes-refused, writes-done}
 use Rattle.prelude.proofs.Refusals.{nonzero, nonzero-append, first-fails, first-passes, first-skip}
 use Rattle.prelude.specs.Limits.{longest}
 use Rattle.grammar.specs.Reader.{readText}
-use Rattle.json.specs.Ends.{foundOf}
+use Rattle.json.specs.Inner.Ends.{foundOf}
 use Rattle.json.specs.declared.Found.{Found}
 use Rattle.headers.specs.Headers.{unread, textOrder, protectedEntries, objectOrder}
 use Rattle.headers.proofs.Texts.{noValue, by-reading}

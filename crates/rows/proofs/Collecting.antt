@@ -20,7 +20,7 @@ use Rattle.json.specs.declared.member.Collected.the-variants.{Rows, More}
 use Rattle.json.proofs.MemberTable as table
 use Rattle.rows.specs.Rows.{entryOf, entriesIn}
 use Rattle.rows.specs.Tables.{eight, flat, collectedTable}
-use Rattle.rows.specs.Members.{firstMember, membersOf}
+use Rattle.rows.specs.Inner.Members.{firstMember, membersOf}
 use Rattle.rows.proofs.Entries.{flat-length}
 
 -- The numbers of an entry, as they are read and found.

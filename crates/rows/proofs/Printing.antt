@@ -12,7 +12,7 @@ use Rattle.grammar.specs.Bounds.{Every}
 use Rattle.spelling.proofs.Fingerprints.{alike-fingerprint}
 use Rattle.prelude.specs.Any.{any, anyPair}
 use Rattle.rows.specs.Rows.{Entry, textOf, spelledName, entriesIn, nameIn, apart, same, repeated, clash, clashes}
-use Rattle.rows.specs.Prints.{HasPrint, Printed}
+use Rattle.rows.specs.Inner.Prints.{HasPrint, Printed}
 
 -- What holds of all of two lists holds of all of both.
 every-append : {A : Type 0} (P : A → Type 0) (xs ys : List A) → Every P xs → Every P ys → Every P (xs ++ ys)

@@ -1,4 +1,3 @@
 pub mod Rows
-pub mod Prints
 pub mod Tables
-pub mod Members
+pub mod Inner

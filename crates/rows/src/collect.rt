@@ -9,10 +9,10 @@ ghost use Rattle.names.specs.Names.{names, filled};
 ghost use Rattle.grammar.specs.Grammar.{curly};
 ghost use Rattle.grammar.specs.Reader.{membersAt};
 ghost use Rattle.json.specs.Members.{collectedOf, memberWidth};
-ghost use Rattle.json.specs.Known.{Given, KnownIn};
+ghost use Rattle.json.specs.Inner.Known.{Given, KnownIn};
 ghost use Rattle.rows.specs.Rows.{entryOf, entriesIn};
 ghost use Rattle.rows.specs.Tables.{eight, flat, collectedTable, headerTable, width};
-ghost use Rattle.rows.specs.Members.{firstMember, membersOf};
+ghost use Rattle.rows.specs.Inner.Members.{firstMember, membersOf};
 use json::Position;
 use json::member::Collected;
 

@@ -19,7 +19,7 @@ use Rattle.prelude.specs.declared.Stage.the-variants.{Passed, Refused}
 use Rattle.headers.proofs.Stages.{passed-is, refused-is}
 use Rattle.shape.specs.Shape.{Recipient, recipientOf, wrongElements}
 use Rattle.shape.specs.Recipients.{elementsIn, elementEntries, elementOrder, elementsOrder, recipientsIn}
-use Rattle.shape.specs.Answers.{three, flatRecipients, arrayOrder, startsOf, startsOrder, recipientsAt, passedAt, writtenIn, Leaves}
+use Rattle.shape.specs.Inner.Answers.{three, flatRecipients, arrayOrder, startsOf, startsOrder, recipientsAt, passedAt, writtenIn, Leaves}
 use Rattle.shape.proofs.Orders.{handed-up, gone-on, both-pass}
 use Rattle.shape.proofs.Reading.{element-nonzero}
 use Rattle.shape.proofs.Walking.{starts-length}

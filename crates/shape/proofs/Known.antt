@@ -13,7 +13,7 @@ use Rattle.grammar.specs.Grammar.{curly, square}
 use Rattle.grammar.specs.Places.{Member, Element}
 use Rattle.grammar.specs.Bounds.{Every}
 use Rattle.grammar.specs.Reader.{skipSpace, Answer, nothing, found, readText, membersAt, elementsAt}
-use Rattle.json.specs.Known.{KnownIn}
+use Rattle.json.specs.Inner.Known.{KnownIn}
 use Rattle.json.proofs.Knowing.{text-known}
 use Rattle.json.proofs.RowValues.{Reads, reads-known, members-read, elements-read}
 use Rattle.prelude.specs.Any.{any}
@@ -26,7 +26,7 @@ use Rattle.shape.specs.Shape.{memberNames, memberEntries, wrongComponent
 use Rattle.shape.specs.Shape.{noObject, wrongElements, wrongInElement, wrongElement, recipientOf}
 use Rattle.shape.specs.Recipients.{topEntries, topOrder, elementsIn, elementEntries, elementOrder, elementsOrder}
 use Rattle.shape.specs.Recipients.{recipientsIn}
-use Rattle.shape.specs.Answers.{arrayOrder, startsOf}
+use Rattle.shape.specs.Inner.Answers.{arrayOrder, startsOf}
 use Rattle.shape.proofs.Members.{member-is, in-element-is}
 use Rattle.shape.proofs.Reading.{element-nonzero}
 

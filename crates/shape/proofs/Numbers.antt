@@ -8,7 +8,7 @@ use Rattle.grammar.specs.Places.{Place}
 use Rattle.rows.specs.Rows.{Entry, valueOf}
 use Rattle.headers.specs.Components.{absent}
 use Rattle.shape.specs.Shape.{inner, component, recipientOf}
-use Rattle.shape.specs.Answers.{three}
+use Rattle.shape.specs.Inner.Answers.{three}
 
 module _ (q : Place) where
   abbrev bare : Place

@@ -12,7 +12,7 @@ use Rattle.prelude.specs.Buffer.{written}
 use Rattle.prelude.proofs.Writing.{written-length}
 use Rattle.grammar.specs.Places.{Member}
 use Rattle.grammar.specs.Reader.{Answer, nothing, found, skipSpace, membersAt, readText}
-use Rattle.json.specs.Ends.{foundOf}
+use Rattle.json.specs.Inner.Ends.{foundOf}
 use Rattle.json.specs.declared.Found.{Found}
 use Rattle.rows.specs.Rows.{Entry, entryOf, entriesIn, repeated}
 use Rattle.rows.specs.Tables.{flat, entriesOf, collectedTable}
@@ -26,7 +26,7 @@ use Rattle.headers.proofs.Stages.{passed-is, object-nonzero}
 use Rattle.headers.proofs.Texts.{noValue}
 use Rattle.shape.specs.Shape.{memberNames, memberEntries, wrongTop, wrongElement}
 use Rattle.shape.specs.Recipients.{topEntries, topOrder, topTable, elementEntries, elementOrder}
-use Rattle.shape.specs.Answers.{LeavesAt}
+use Rattle.shape.specs.Inner.Answers.{LeavesAt}
 use Rattle.shape.proofs.Orders.{handed-up, gone-on, both-pass, one-fails, one-passes}
 
 entries-count : (names : List (List ℕ)) (s : List ℕ) (o : ℕ) (ms : List Member) →

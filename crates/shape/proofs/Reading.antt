@@ -19,7 +19,7 @@ use Rattle.prelude.specs.declared.Stage.the-variants.{Passed, Refused}
 use Rattle.headers.proofs.Stages.{passed-is, refused-is}
 use Rattle.shape.specs.Shape.{recipientOf}
 use Rattle.shape.specs.Recipients.{elementEntries, elementOrder}
-use Rattle.shape.specs.Answers.{three, flatRecipients, startsOrder, passedAt, LeavesAt}
+use Rattle.shape.specs.Inner.Answers.{three, flatRecipients, startsOrder, passedAt, LeavesAt}
 use Rattle.shape.proofs.Orders.{handed-up}
 
 -- The numbers of the recipients that are written.

@@ -17,7 +17,7 @@ use Rattle.jose.specs.HeaderRules.{isEmpty}
 use Rattle.prelude.specs.declared.Stage.{Stage}
 use Rattle.prelude.specs.declared.Stage.the-variants.{Passed, Refused}
 use Rattle.shape.specs.Shape.{noObject, wrongElements}
-use Rattle.shape.specs.Answers.{arrayOrder, startsOf, counted, Leaves}
+use Rattle.shape.specs.Inner.Answers.{arrayOrder, startsOf, counted, Leaves}
 
 -- What is known at a turn: `xs` are all elements, `rest` those to come, `count` those before.
 pub record Walking (xs rest : List Element) (count : ℕ) (before now : List ℕ) : Type 0 where

@@ -1,3 +1,3 @@
 pub mod Shape
 pub mod Recipients
-pub mod Answers
+pub mod Inner

@@ -7,7 +7,7 @@ ghost use Rattle.prelude.specs.Buffer.{written};
 ghost use Rattle.prelude.specs.Limits.{longest};
 ghost use Rattle.prelude.specs.Refusals.{first, stageOf};
 ghost use Rattle.shape.specs.Recipients.{topEntries, topOrder, topTable, elementsOrder, recipientsIn};
-ghost use Rattle.shape.specs.Answers.{flatRecipients, writtenIn, recipientsRoom};
+ghost use Rattle.shape.specs.Inner.Answers.{flatRecipients, writtenIn, recipientsRoom};
 use json::Found;
 use json::Position;
 use prelude::Stage;

@@ -18,7 +18,7 @@ use Rattle.grammar.specs.Reader.{entryAt, closeOr, afterEntry, entriesAt, neste
 use Rattle.grammar.specs.Reader.{nestedWithin}
 use Rattle.grammar.proofs.Endings.{either}
 use Rattle.grammar.proofs.Here.{octet-here, step-inside, class-inside}
-use Rattle.skip.specs.Past.{isOpening, isClosing, outside, pastFrom, pastNested}
+use Rattle.skip.specs.Inner.Past.{isOpening, isClosing, outside, pastFrom, pastNested}
 use Rattle.skip.proofs.Steps.{past-opening, past-closing, past-closed}
 use Rattle.skip.proofs.Passing.{one-clear, space-clear, Through, Passed, through-same, through-then, step-over}
 use Rattle.skip.proofs.Passing.{skip-over, passed-from, string-over, number-over, word-over}

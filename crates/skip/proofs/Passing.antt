@@ -20,8 +20,8 @@ use Rattle.grammar.proofs.ScanStrings.{afterTurn}
 use Rattle.grammar.proofs.Endings.{either}
 use Rattle.grammar.proofs.Here.{octet-here, step-inside, step-end, class-inside, skip-end, skip-next, skip-stop}
 use Rattle.grammar.proofs.Steps.{scan-end, scan-here}
-use Rattle.skip.specs.Past.{isMark, State, outside, inside, escaped, pastFrom}
-use Rattle.skip.specs.Past as past
+use Rattle.skip.specs.Inner.Past.{isMark, State, outside, inside, escaped, pastFrom}
+use Rattle.skip.specs.Inner.Past as past
 use Rattle.skip.proofs.Steps.{alike-one, past-goes, past-quote}
 
 -- A class of octets without a mark.

@@ -12,8 +12,8 @@ use Rattle.prelude.proofs.Lists.{drop-next}
 use Rattle.grammar.specs.Grammar.{quote, backslash}
 use Rattle.grammar.proofs.Parse.{true→T}
 use Rattle.grammar.proofs.Scan.{false-of, both-T, among-all}
-use Rattle.skip.specs.Past.{isOpening, isClosing, isMark, State, outside, inside, escaped, Turn, partner, goOn}
-use Rattle.skip.specs.Past.{turn, pastIn, pastFrom, Unmarked, Alike}
+use Rattle.skip.specs.Inner.Past.{isOpening, isClosing, isMark, State, outside, inside, escaped, Turn, partner, goOn}
+use Rattle.skip.specs.Inner.Past.{turn, pastIn, pastFrom, Unmarked, Alike}
 
 or-none : (a b : Bool) → (a || b) ≡ false → (a ≡ false) × (b ≡ false)
 or-none true b e = absurd (true≢false e)

@@ -1,12 +1,12 @@
 // Past an object or an array in a text that has been read before: by its brackets alone, over blocks in which nothing
-// has to be looked at. What each function answers stands in specs/Past.
+// has to be looked at. What each function answers stands in specs/Inner/Past.
 ghost use mathlib.Core.Path.{_≡_};
 ghost use mathlib.Core.Bool.{false};
 ghost use Prim.Native.Nat.{ℕ, _+_, _≤_, _<_};
 ghost use lib.ListN.{length, getD};
 ghost use Rattle.grammar.specs.Grammar.{quote};
-ghost use Rattle.skip.specs.Past.{isOpening, isClosing, isMark, outside, inside, pastFrom, pastNested};
-ghost use Rattle.skip.specs.Past.{Unmarked, Alike};
+ghost use Rattle.skip.specs.Inner.Past.{isOpening, isClosing, isMark, outside, inside, pastFrom, pastNested};
+ghost use Rattle.skip.specs.Inner.Past.{Unmarked, Alike};
 
 // [ {
 fn is_opening(c: u8) -> bool

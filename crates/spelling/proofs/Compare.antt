@@ -9,7 +9,7 @@ use lib.Dec.{leb}
 use borrow.Author.Tests.{eq-eqb, ne-eqb, leb-true, leb-false}
 use Rattle.prelude.proofs.Lists.{drop-next}
 use Rattle.grammar.specs.Spellings.{undo, equal, alike, has}
-use Rattle.spelling.specs.Cursors.{undoAt}
+use Rattle.spelling.specs.Inner.Cursors.{undoAt}
 use Rattle.spelling.proofs.Cursors.{undo-plain}
 
 -- What the next octets of two lists say of them.

@@ -12,7 +12,7 @@ use Rattle.prelude.proofs.Lists.{drop-next}
 use Rattle.grammar.specs.Strings.{hexDigit, hexMore, unit, escapePoint, isHigh, combined}
 use Rattle.grammar.specs.Utf8.{sixBits, encode}
 use Rattle.grammar.specs.Spellings.{Spot, between, escaping, digit, unitOctets, adds, next, undoFrom}
-use Rattle.spelling.specs.Cursors.{halfOf, undoAt, rest, told, size, Falls, cursor, encoded, pendingOctet, pendingOf}
+use Rattle.spelling.specs.Inner.Cursors.{halfOf, undoAt, rest, told, size, Falls, cursor, encoded, pendingOctet, pendingOf}
 use Rattle.spelling.specs.declared.Cursor.{Cursor}
 use Rattle.spelling.specs.declared.Octet.the-variants.{Next}
 

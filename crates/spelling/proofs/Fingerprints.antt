@@ -8,7 +8,7 @@ use lib.Dec.{T}
 use borrow.Author.Tests.{le-leb, lt-leb}
 use Rattle.grammar.specs.Utf8.{sixBits, encode}
 use Rattle.grammar.specs.Spellings.{undo, alike, has, mixed, fingerprintFrom, fingerprint}
-use Rattle.spelling.specs.Cursors.{undoAt}
+use Rattle.spelling.specs.Inner.Cursors.{undoAt}
 use Rattle.spelling.proofs.Cursors.{undo-plain}
 use Rattle.grammar.proofs.Spellings.{equal-sound}
 

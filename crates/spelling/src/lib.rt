@@ -7,8 +7,8 @@ ghost use lib.ListN.{length, drop, getD};
 ghost use Rattle.grammar.specs.Strings.{hexDigit, escapePoint, combined, unit, isHigh};
 ghost use Rattle.grammar.specs.Spellings.{undo, equal, alike, has, mixed, fingerprintFrom, fingerprint};
 ghost use Rattle.grammar.specs.Utf8.{sixBits, encode};
-ghost use Rattle.spelling.specs.Cursors.{undoAt, rest, told, Falls, cursor, octet, pendingOf, encoded};
-ghost use Rattle.spelling.specs.Cursors.{hexBase, mixedAt, whole};
+ghost use Rattle.spelling.specs.Inner.Cursors.{undoAt, rest, told, Falls, cursor, octet, pendingOf, encoded};
+ghost use Rattle.spelling.specs.Inner.Cursors.{hexBase, mixedAt, whole};
 
 // Where in a spelling we are, between characters: a first half that stands directly before, or 0; and of the code point that
 // the last escape said, how many octets are still to come.

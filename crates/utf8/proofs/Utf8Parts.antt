@@ -13,7 +13,7 @@ use borrow.Author.Tests.{le-leb, eqb-true, ne-eqb}
 use Rattle.prelude.proofs.Lists.{drop-next}
 use Rattle.prelude.proofs.Numbers.{every, below}
 use Rattle.grammar.specs.Utf8.{Range, to, within, tail, rows, follow, utf8After, utf8}
-use Rattle.utf8.specs.Utf8Parts.{past, Low}
+use Rattle.utf8.specs.Inner.Utf8Parts.{past, Low}
 use Rattle.grammar.proofs.Scan.{T→true, both-T}
 use Rattle.grammar.proofs.Steps.{utf8-low-run}
 

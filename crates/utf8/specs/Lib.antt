@@ -1,1 +1,1 @@
-pub mod Utf8Parts
+pub mod Inner

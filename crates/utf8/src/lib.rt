@@ -4,7 +4,7 @@ ghost use Prim.Native.Nat.{_+_, _≤_, _<_};
 ghost use mathlib.Core.List.{[], _∷_};
 ghost use lib.ListN.{length, drop};
 ghost use Rattle.grammar.specs.Utf8.{to, within, tail, utf8After, utf8};
-ghost use Rattle.utf8.specs.Utf8Parts.{past, onward, Reaches, Low};
+ghost use Rattle.utf8.specs.Inner.Utf8Parts.{past, onward, Reaches, Low};
 
 // Where a run of characters ends, or that one of them is wrong.
 pub enum Run {

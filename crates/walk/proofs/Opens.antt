@@ -10,7 +10,7 @@ use lib.Dec.{eqb}
 use borrow.Author.Tests.{lt-ltb, le-ltb, eq-eqb, ne-eqb}
 use Rattle.grammar.specs.Grammar.{curly}
 use Rattle.grammar.specs.Reader.{skipSpace, readText, Entry, entryAt, valueAt}
-use Rattle.json.specs.Ends.{foundOf}
+use Rattle.json.specs.Inner.Ends.{foundOf}
 use Rattle.json.specs.Members.{firstIn, memberOf}
 use Rattle.json.specs.declared.Found.{Found}
 use Rattle.json.specs.declared.Position.{Position}

@@ -2,7 +2,7 @@
 use mathlib.Core.Path.{ap, sym, _∙_}
 use borrow.Author.Tests.{not-true, not-false}
 use Rattle.grammar.specs.Reader.{valueAt}
-use Rattle.json.specs.Ends.{foundOf}
+use Rattle.json.specs.Inner.Ends.{foundOf}
 use Rattle.json.proofs.ValueParts.{is-found, is-nothing, text-no-brace, text-not-utf8, text-wholly, wholly-nothing, wholly-not, wholly-found}
 use borrow.Author.Needs.{needs}
 use Rattle.json.proofs.judge.Statement.{statement}

@@ -4,7 +4,7 @@ use mathlib.Core.List.{List}
 use Prim.Native.Nat.{ℕ}
 use Rattle.names.specs.Names.{names}
 use Rattle.rows.specs.Rows.{Entry}
-use Rattle.rows.specs.Prints.{Printed}
+use Rattle.rows.specs.Inner.Prints.{Printed}
 use Rattle.rows.proofs.Printing.{entries-printed}
 use Rattle.prelude.specs.Refusals.{first, stageOf}
 use Rattle.jose.specs.Registered.{registered}

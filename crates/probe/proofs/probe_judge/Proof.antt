@@ -1,6 +1,6 @@
 -- `probe_judge` hands out what `judge` promises, case by case.
 use mathlib.Core.Path.{ap, sym, _∙_}
-use Rattle.json.specs.Numbers.{judgeRefusal, foundEnd}
+use Rattle.json.specs.Inner.Numbers.{judgeRefusal, foundEnd}
 use borrow.Author.Needs.{needs}
 use Rattle.probe.proofs.probe_judge.Statement.{statement}
 use Rattle.probe.proofs.probe_judge.Tie as tie

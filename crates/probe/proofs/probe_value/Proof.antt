@@ -1,6 +1,6 @@
 -- `probe_value` hands out what `value` promises, case by case.
 use mathlib.Core.Path.{ap, sym, _∙_}
-use Rattle.json.specs.Numbers.{valueKind, foundEnd}
+use Rattle.json.specs.Inner.Numbers.{valueKind, foundEnd}
 use borrow.Author.Needs.{needs}
 use Rattle.probe.proofs.probe_value.Statement.{statement}
 use Rattle.probe.proofs.probe_value.Tie as tie

@@ -13,11 +13,11 @@ use Rattle.rows.specs.Rows.{Entry, present, valueOf}
 use Rattle.rows.specs.Tables.{entriesOf}
 use Rattle.grammar.specs.Grammar.{curly, square}
 use Rattle.grammar.specs.Bounds.{Every}
-use Rattle.json.specs.Known.{KnownIn}
+use Rattle.json.specs.Inner.Known.{KnownIn}
 use Rattle.prelude.specs.Refusals.{first}
 use Rattle.headers.proofs.Stages.{passed-is}
 use Rattle.shape.specs.Shape.{Recipient}
-use Rattle.shape.specs.Answers.{flatRecipients, startsOf, arrayOrder}
+use Rattle.shape.specs.Inner.Answers.{flatRecipients, startsOf, arrayOrder}
 use Rattle.shape.proofs.Known.{recipients-known, elements-known}
 use Rattle.shape.proofs.Forms.{flattened, flattened-numbers, general-refused, eight, starts-count, starts-are}
 use Rattle.shape.proofs.Forms.{general, general-none, general-writes}

@@ -10,7 +10,7 @@ use Rattle.names.specs.Names.{listOf, filled, total}
 use Rattle.names.proofs.Laws.{names-of}
 use Rattle.rows.specs.Tables.{collectedTable}
 use Rattle.grammar.specs.Grammar.{curly}
-use Rattle.json.specs.Known.{KnownIn}
+use Rattle.json.specs.Inner.Known.{KnownIn}
 use Rattle.prelude.specs.Refusals.{first, stageOf}
 use Rattle.headers.specs.Headers.{unread, objectOrder}
 use Rattle.headers.proofs.Texts.{noValue}

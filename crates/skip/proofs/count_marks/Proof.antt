@@ -6,7 +6,7 @@ use mathlib.Core.Logic.{⊎-elim}
 use native.Mathlib.Omega.{arith}
 use lib.ListN.{length, getD}
 use borrow.Author.Count.{below-more}
-use Rattle.skip.specs.Past.{isMark}
+use Rattle.skip.specs.Inner.Past.{isMark}
 use borrow.Author.Needs.{needs}
 use Rattle.skip.proofs.count_marks.Statement.{statement}
 use Rattle.skip.proofs.count_marks.Tie as tie

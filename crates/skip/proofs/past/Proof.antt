@@ -4,7 +4,7 @@ use mathlib.Core.Path.{_≡_, refl, sym, ap, _∙_}
 use mathlib.Core.Logic.{⊎-elim}
 use native.Mathlib.Omega.{arith}
 use lib.ListN.{length}
-use Rattle.skip.specs.Past.{outside, pastFrom, pastNested}
+use Rattle.skip.specs.Inner.Past.{outside, pastFrom, pastNested}
 use Rattle.skip.proofs.Steps.{past-end, past-closed}
 use borrow.Author.Needs.{needs}
 use Rattle.skip.proofs.past.Statement.{statement}

@@ -4,7 +4,7 @@ use mathlib.Core.Path.{_≡_}
 use native.Mathlib.Omega.{arith}
 use lib.ListN.{length}
 use borrow.Author.Needs.{needs}
-use Rattle.skip.specs.Past.{Alike}
+use Rattle.skip.specs.Inner.Past.{Alike}
 use Rattle.skip.proofs.Steps.{alike-none, alike-then, alike-block}
 use Rattle.skip.proofs.skip_blocks.Statement.{statement}
 use Rattle.skip.proofs.skip_blocks.Tie as tie

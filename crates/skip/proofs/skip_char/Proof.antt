@@ -3,7 +3,7 @@
 use Prim.Native.Nat.{_+_}
 use mathlib.Core.Path.{sym, _∙_}
 use native.Mathlib.Omega.{arith}
-use Rattle.skip.specs.Past.{inside, escaped}
+use Rattle.skip.specs.Inner.Past.{inside, escaped}
 use Rattle.skip.proofs.Steps.{past-end, past-backslash, past-escaped, past-char}
 use borrow.Author.Needs.{needs}
 use Rattle.skip.proofs.skip_char.Statement.{statement}

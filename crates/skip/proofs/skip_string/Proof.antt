@@ -3,7 +3,7 @@ use Prim.Native.Nat.{ℕ, _-_, _≤_}
 use mathlib.Core.Path.{_≡_, refl, sym, _∙_}
 use native.Mathlib.Omega.{arith}
 use lib.ListN.{length}
-use Rattle.skip.specs.Past.{outside, inside, pastFrom}
+use Rattle.skip.specs.Inner.Past.{outside, inside, pastFrom}
 use Rattle.skip.proofs.Steps.{past-end, past-unquote}
 use borrow.Author.Needs.{needs}
 use Rattle.skip.proofs.skip_string.Statement.{statement}

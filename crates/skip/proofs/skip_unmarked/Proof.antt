@@ -3,7 +3,7 @@ use Prim.Native.Nat.{_-_, _≤_}
 use mathlib.Core.Path.{_≡_, sym, _∙_}
 use native.Mathlib.Omega.{arith}
 use borrow.Author.Needs.{needs}
-use Rattle.skip.specs.Past.{Alike}
+use Rattle.skip.specs.Inner.Past.{Alike}
 use Rattle.skip.proofs.Steps.{alike-none, alike-then, alike-one}
 use Rattle.skip.proofs.skip_unmarked.Statement.{statement}
 use Rattle.skip.proofs.skip_unmarked.Tie as tie

@@ -3,7 +3,7 @@ use Prim.Native.Nat.{_≤_}
 use mathlib.Core.Path.{_≡_, refl, ap, ap₂, sym, subst, _∙_}
 use native.Mathlib.Omega.{arith}
 use Rattle.grammar.specs.Spellings.{equal}
-use Rattle.spelling.specs.Cursors.{rest, told, size, Falls}
+use Rattle.spelling.specs.Inner.Cursors.{rest, told, size, Falls}
 use Rattle.spelling.specs.declared.Cursor.{Cursor}
 use Rattle.spelling.proofs.Compare.{both-end, left-ends, right-ends, differ, same}
 use borrow.Author.Needs.{needs}

@@ -3,7 +3,7 @@ use Prim.Native.Nat.{_-_}
 use mathlib.Core.Path.{_≡_, _∙_}
 use lib.ListN.{length, drop}
 use Rattle.grammar.specs.Spellings.{equal, alike, has}
-use Rattle.spelling.specs.Cursors.{undoAt}
+use Rattle.spelling.specs.Inner.Cursors.{undoAt}
 use Rattle.spelling.proofs.Compare.{alike-start, has-start, alike-passes, has-passes}
 use borrow.Author.Needs.{needs}
 use Rattle.spelling.proofs.common.Statement.{statement}

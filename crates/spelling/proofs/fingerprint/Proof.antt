@@ -4,7 +4,7 @@ use mathlib.Core.Path.{_≡_, refl, ap, sym, subst, _∙_}
 use native.Mathlib.Omega.{arith}
 use lib.ListN.{length}
 use Rattle.grammar.specs.Spellings.{between}
-use Rattle.spelling.specs.Cursors.{halfOf, undoAt, whole}
+use Rattle.spelling.specs.Inner.Cursors.{halfOf, undoAt, whole}
 use Rattle.spelling.specs.declared.Mixed.{Mixed}
 use Rattle.spelling.proofs.Cursors.{undo-end}
 use Rattle.spelling.proofs.Fingerprints.{mixed-end, mixed-start}

@@ -6,7 +6,7 @@ use native.Mathlib.Omega.{arith}
 use lib.ListN.{length, drop, getD, drop-of-length-le}
 use Rattle.prelude.proofs.Lists.{drop-next}
 use Rattle.grammar.specs.Spellings.{equal}
-use Rattle.spelling.specs.Cursors.{rest, told, Falls}
+use Rattle.spelling.specs.Inner.Cursors.{rest, told, Falls}
 use Rattle.spelling.specs.declared.Cursor.{Cursor}
 use Rattle.spelling.proofs.Compare.{has-ends, right-ends, differ, same}
 use borrow.Author.Needs.{needs}

@@ -6,7 +6,7 @@ use native.Mathlib.Omega.{arith}
 use lib.Dec.{leb}
 use borrow.Author.Tests.{leb-true}
 use Rattle.grammar.specs.Strings.{hexDigit}
-use Rattle.spelling.specs.Cursors.{hexBase}
+use Rattle.spelling.specs.Inner.Cursors.{hexBase}
 use borrow.Author.Needs.{needs}
 use Rattle.spelling.proofs.hex_value.Statement.{statement}
 use Rattle.spelling.proofs.hex_value.Tie as tie

@@ -4,7 +4,7 @@ use mathlib.Core.Path.{_≡_, refl, ap, _∙_}
 use native.Mathlib.Omega.{arith}
 use lib.ListN.{length}
 use Rattle.grammar.specs.Spellings.{fingerprintFrom}
-use Rattle.spelling.specs.Cursors.{undoAt}
+use Rattle.spelling.specs.Inner.Cursors.{undoAt}
 use Rattle.spelling.proofs.Fingerprints.{mixed-plain}
 use borrow.Author.Needs.{needs}
 use Rattle.spelling.proofs.mix_plain.Statement.{statement}

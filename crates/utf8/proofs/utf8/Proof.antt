@@ -4,7 +4,7 @@ use mathlib.Core.Path.{_≡_, refl, ap, sym, subst, _∙_}
 use native.Mathlib.Omega.{arith}
 use lib.ListN.{length, drop}
 use Rattle.grammar.specs.Utf8.{utf8}
-use Rattle.utf8.specs.Utf8Parts.{onward, Reaches}
+use Rattle.utf8.specs.Inner.Utf8Parts.{onward, Reaches}
 use Rattle.utf8.proofs.Utf8Parts.{utf8-end}
 use borrow.Author.Needs.{needs}
 use Rattle.utf8.proofs.utf8.Statement.{statement}

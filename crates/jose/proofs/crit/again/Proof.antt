@@ -3,7 +3,7 @@ use mathlib.Core.Path.{_≡_, refl, sym, _∙_}
 use native.Mathlib.Omega.{arith}
 use Rattle.prelude.specs.Any.{any}
 use Rattle.jose.specs.HeaderRules.{sameElement}
-use Rattle.jose.specs.Elements.{elementOf, elementsFrom}
+use Rattle.jose.specs.Inner.Elements.{elementOf, elementsFrom}
 use Rattle.jose.proofs.Walks.{of-any, walk-spent, walk-end, walk-found, walk-on}
 use borrow.Author.Needs.{needs}
 use Rattle.jose.proofs.crit.again.Statement.{statement}

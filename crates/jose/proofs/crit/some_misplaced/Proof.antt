@@ -6,7 +6,7 @@ use Rattle.prelude.specs.Any.{any}
 use Rattle.rows.specs.Tables.{entriesOf}
 use Rattle.jose.specs.HeaderRules.{misplaced}
 use Rattle.prelude.specs.Limits.{levels}
-use Rattle.jose.specs.Elements.{elementsFrom}
+use Rattle.jose.specs.Inner.Elements.{elementsFrom}
 use Rattle.jose.proofs.Elements.{elements-all}
 use Rattle.jose.proofs.Walks.{of-any, walk-spent, walk-end, walk-found, walk-on}
 use borrow.Author.Needs.{needs}

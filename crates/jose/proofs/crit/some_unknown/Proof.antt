@@ -5,7 +5,7 @@ use Rattle.names.specs.Names.{names}
 use Rattle.prelude.specs.Any.{any}
 use Rattle.jose.specs.HeaderRules.{unknown}
 use Rattle.prelude.specs.Limits.{levels}
-use Rattle.jose.specs.Elements.{elementsFrom}
+use Rattle.jose.specs.Inner.Elements.{elementsFrom}
 use Rattle.jose.proofs.Elements.{elements-all}
 use Rattle.jose.proofs.Walks.{of-any, walk-spent, walk-end, walk-found, walk-on}
 use native.Mathlib.Omega.{arith}

@@ -5,7 +5,7 @@ use Rattle.grammar.specs.Reader.{elementsAt}
 use Rattle.prelude.specs.Any.{anyPair}
 use Rattle.jose.specs.HeaderRules.{sameElement}
 use Rattle.prelude.specs.Limits.{levels}
-use Rattle.jose.specs.Elements.{elementsFrom}
+use Rattle.jose.specs.Inner.Elements.{elementsFrom}
 use Rattle.jose.proofs.Elements.{elements-all}
 use Rattle.jose.proofs.Walks.{of-pair, walk-spent, walk-end, walk-found, walk-on}
 use borrow.Author.Needs.{needs}

@@ -3,7 +3,7 @@
 use mathlib.Core.Path.{_≡_, ap, sym, _∙_}
 use Rattle.grammar.specs.Grammar.{curly, square}
 use Rattle.grammar.specs.Reader.{skipSpace, entriesAt, valueAt}
-use Rattle.json.specs.Ends.{foundOf}
+use Rattle.json.specs.Inner.Ends.{foundOf}
 use Rattle.grammar.proofs.Turns.{nested-deep, nested-empty, nested-open, close-end, close-bad, close-more, value-object, value-array}
 use Rattle.json.proofs.NumberParts.{is-ended, is-refused}
 use Rattle.json.proofs.ValueParts.{Remains, Follows, is-found, is-nothing, turn-no-name, turn-nothing, turn-found, turn-none, element-here, value-scalar}

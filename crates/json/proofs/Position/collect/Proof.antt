@@ -9,7 +9,7 @@ use Rattle.grammar.specs.Places.{Member}
 use Rattle.grammar.specs.Reader.{valueAt, rowsAt}
 use Rattle.prelude.specs.Buffer.{written}
 use Rattle.json.specs.Members.{fiveOf, flat, collectedOf}
-use Rattle.json.specs.Known.{Given, KnownFrom}
+use Rattle.json.specs.Inner.Known.{Given, KnownFrom}
 use Rattle.json.proofs.Knowing.{given-map, known-first, known-entry, known-next}
 use Rattle.json.proofs.MemberRows.{rows-none, the-read, rows-more, rows-spent, members-first}
 use Rattle.json.proofs.MemberTable.{written-none, table-length, rows-all, table-all, rows-over, inside, drop-more, table-more}

@@ -1,6 +1,6 @@
 -- `known` seeks the end of an object or an array, and reads any other value: what is known makes the two one.
 use mathlib.Core.Path.{ap}
-use Rattle.json.specs.Ends.{foundOf}
+use Rattle.json.specs.Inner.Ends.{foundOf}
 use Rattle.json.proofs.Knowing.{sought-object, sought-array}
 use borrow.Author.Needs.{needs}
 use Rattle.json.proofs.Position.known.Statement.{statement}

@@ -1,6 +1,6 @@
 -- A name, space and a colon, by what each call answers.
 use mathlib.Core.Path.{ap, sym, _∙_}
-use Rattle.json.specs.Ends.{endsOf}
+use Rattle.json.specs.Inner.Ends.{endsOf}
 use Rattle.json.proofs.NumberParts.{is-ended, is-refused}
 use Rattle.json.proofs.ValueParts.{name-refused, name-no-colon, name-value}
 use borrow.Author.Needs.{needs}

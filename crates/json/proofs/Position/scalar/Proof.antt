@@ -1,6 +1,6 @@
 -- Each octet that begins a value, in the order of the definition.
 use mathlib.Core.Path.{ap, sym, _∙_}
-use Rattle.json.specs.Ends.{foundOf}
+use Rattle.json.specs.Inner.Ends.{foundOf}
 use Rattle.json.proofs.ValueParts.{scalar-string, scalar-true, scalar-false, scalar-null, scalar-number, scalar-none}
 use borrow.Author.Needs.{needs}
 use Rattle.json.proofs.Position.scalar.Statement.{statement}

@@ -7,7 +7,7 @@ use lib.Dec.{eqb}
 use borrow.Author.Tests.{eq-eqb}
 use Rattle.grammar.specs.Grammar.{backslash}
 use Rattle.grammar.specs.Reader.{between}
-use Rattle.json.specs.Ends.{endsOf, resumed, Beyond}
+use Rattle.json.specs.Inner.Ends.{endsOf, resumed, Beyond}
 use Rattle.json.proofs.StringParts.{scan, class-steps, scan-end, string-not, string-opens, quote-closes, quote-breaks, backslash-escapes, other-breaks}
 use borrow.Author.Needs.{needs}
 use Rattle.json.proofs.Position.string.Statement.{statement}

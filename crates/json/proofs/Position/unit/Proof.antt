@@ -2,7 +2,7 @@
 use Prim.Native.Nat.{_<_}
 use mathlib.Core.Path.{ap, sym, subst, _∙_}
 use native.Mathlib.Omega.{arith}
-use Rattle.json.specs.Ends.{Small, resumed, Beyond}
+use Rattle.json.specs.Inner.Ends.{Small, resumed, Beyond}
 use Rattle.json.proofs.StringParts.{digit-wrong, digit-more, digit-last, digit-beyond, unit-beyond}
 use borrow.Author.Needs.{needs}
 use Rattle.json.proofs.Position.unit.Statement.{statement}

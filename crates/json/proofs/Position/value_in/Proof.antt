@@ -1,6 +1,6 @@
 -- `value_in` seeks where it may, and reads else.
 use mathlib.Core.Path.{subst}
-use Rattle.json.specs.Known.{Given, Known}
+use Rattle.json.specs.Inner.Known.{Given, Known}
 use borrow.Author.Needs.{needs}
 use Rattle.json.proofs.Position.value_in.Statement.{statement}
 use Rattle.json.proofs.Position.value_in.Tie as tie

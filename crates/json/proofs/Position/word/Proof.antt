@@ -4,7 +4,7 @@ use mathlib.Core.Path.{_≡_, refl, ap, sym, _∙_}
 use native.Mathlib.Omega.{arith}
 use lib.ListN.{length, drop}
 use Rattle.grammar.specs.Reader.{wordAt}
-use Rattle.json.specs.Ends.{endsOf}
+use Rattle.json.specs.Inner.Ends.{endsOf}
 use Rattle.json.proofs.ValueParts.{word-end, word-next, word-not}
 use borrow.Author.Needs.{needs}
 use Rattle.json.proofs.Position.word.Statement.{statement}

@@ -1,6 +1,6 @@
 -- What an end is as a value, in its two cases.
 use mathlib.Core.Path.{ap, sym}
-use Rattle.json.specs.Ends.{endsOfKind}
+use Rattle.json.specs.Inner.Ends.{endsOfKind}
 use borrow.Author.Needs.{needs}
 use Rattle.json.proofs.value.of_kind.Statement.{statement}
 use Rattle.json.proofs.value.of_kind.Tie as tie

@@ -19,8 +19,8 @@ use Rattle.shape.specs.Shape.{Recipient}
 use Rattle.shape.specs.Recipients.{componentsIn}
 use Rattle.jwe.specs.General.{ownEntries}
 use Rattle.jwe.specs.Judge.{asked}
-use Rattle.jwe.specs.Stages.{recipientAt, recipientsOf, Owned, LeavesOwn, ownTests, ruleTests}
-use Rattle.jwe.specs.Stages.{headedOutcome}
+use Rattle.jwe.specs.Inner.Stages.{recipientAt, recipientsOf, Owned, LeavesOwn, ownTests, ruleTests}
+use Rattle.jwe.specs.Inner.Stages.{headedOutcome}
 use Rattle.jwe.proofs.RecipientRows.{recipients-length, asked-at}
 use Rattle.jwe.proofs.OwnHeaders.{gathered, gathered-room, gathered-length}
 use Rattle.jwe.proofs.JsonHeads.{heads-own, heads-rule, heads-none, heads-one, heads-refused, result-is}

@@ -14,11 +14,11 @@ use Rattle.prelude.specs.Refusals.{first}
 use Rattle.headers.proofs.Stages.{passed-is, refused-is}
 use Rattle.shape.specs.Shape.{Recipient}
 use Rattle.shape.specs.Recipients.{topEntries, topOrder, elementsOrder, recipientsIn}
-use Rattle.shape.specs.Answers.{flatRecipients}
+use Rattle.shape.specs.Inner.Answers.{flatRecipients}
 use Rattle.shape.proofs.Objects.{top-written}
 use Rattle.shape.proofs.Forms.{all-written}
 use Rattle.shape.proofs.Known.{shared-known, own-known}
-use Rattle.jwe.specs.Stages.{HeaderKnown, HeadersKnown, recipientsOf}
+use Rattle.jwe.specs.Inner.Stages.{HeaderKnown, HeadersKnown, recipientsOf}
 use Rattle.jwe.proofs.JsonOrder.{json-top, json-elements, json-misspelled}
 use Rattle.jwe.proofs.JsonHeads.{judges-refused}
 use Rattle.jwe.proofs.JsonTop.{top-is, elements-as, listed-is, misspelled-as, protected-sound, judges-json}

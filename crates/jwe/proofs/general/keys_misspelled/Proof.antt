@@ -5,7 +5,7 @@ use native.Mathlib.Omega.{arith}
 use lib.ListN.{drop}
 use Rattle.prelude.specs.Any.{any}
 use Rattle.headers.specs.Components.{misspelled}
-use Rattle.jwe.specs.Stages.{recipientsOf}
+use Rattle.jwe.specs.Inner.Stages.{recipientsOf}
 use Rattle.jwe.proofs.RecipientRows.{keys, key-turn, key-found, keys-done}
 use borrow.Author.Needs.{needs}
 use Rattle.jwe.proofs.general.keys_misspelled.Statement.{statement}

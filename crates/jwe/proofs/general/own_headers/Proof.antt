@@ -12,7 +12,7 @@ use Rattle.headers.specs.Headers.{objectOrder}
 use Rattle.headers.proofs.Stages.{passed-is, refused-is}
 use Rattle.shape.specs.Shape.{Recipient}
 use Rattle.jwe.specs.General.{ownEntries}
-use Rattle.jwe.specs.Stages.{HeaderKnown, recipientAt, recipientsOf, Owned, LeavesOwn, ownTests}
+use Rattle.jwe.specs.Inner.Stages.{HeaderKnown, recipientAt, recipientsOf, Owned, LeavesOwn, ownTests}
 use Rattle.jwe.proofs.JsonOrder.{object-nonzero}
 use Rattle.jwe.proofs.JsonHeaders.{refuses, passes, few}
 use Rattle.jwe.proofs.RecipientRows.{header-at, one-passes, one-refuses, all-pass}

@@ -11,7 +11,7 @@ use lib.Dec.{eqb}
 use Rattle.names.specs.Names.{names}
 use Rattle.grammar.specs.Places.{Place}
 use Rattle.rows.specs.Rows.{Entry}
-use Rattle.rows.specs.Prints.{Printed}
+use Rattle.rows.specs.Inner.Prints.{Printed}
 use Rattle.rows.specs.Tables.{entriesOf}
 use Rattle.rows.proofs.Printing.{printed-append}
 use Rattle.prelude.specs.Refusals.{Test, first, stageOf}
@@ -20,7 +20,7 @@ use Rattle.prelude.proofs.Refusals.{nonzero}
 use Rattle.headers.proofs.Stages.{passed-is, refused-is}
 use Rattle.shape.specs.Shape.{Recipient}
 use Rattle.jwe.specs.General.{ownEntries}
-use Rattle.jwe.specs.Stages.{recipientAt, recipientsOf, ruleTests}
+use Rattle.jwe.specs.Inner.Stages.{recipientAt, recipientsOf, ruleTests}
 use Rattle.jwe.proofs.JsonOrder.{rules-nonzero}
 use Rattle.jwe.proofs.JsonHeaders.{refuses, passes}
 use Rattle.jwe.proofs.RecipientRows.{one-passes, one-refuses, all-pass}

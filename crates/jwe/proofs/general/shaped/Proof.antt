@@ -9,13 +9,13 @@ use lib.ListN.{length, replicate}
 use lib.Seq.{length-take-le}
 use Rattle.names.specs.Names.{names}
 use Rattle.rows.specs.Rows.{present}
-use Rattle.rows.specs.Prints.{Printed}
+use Rattle.rows.specs.Inner.Prints.{Printed}
 use Rattle.rows.specs.Tables.{entriesOf}
 use Rattle.prelude.specs.Refusals.{first}
 use Rattle.headers.specs.Headers.{protectedEntries, objectOrder}
 use Rattle.headers.proofs.Stages.{passed-is, refused-is}
 use Rattle.jwe.specs.General.{sharedEntries}
-use Rattle.jwe.specs.Stages.{HeaderKnown, recipientsOf, textTests, protectedTests}
+use Rattle.jwe.specs.Inner.Stages.{HeaderKnown, recipientsOf, textTests, protectedTests}
 use Rattle.jwe.proofs.JsonHeads.{judges-refused}
 use Rattle.jwe.proofs.JsonShaped.{Begun, begun, Collected, protected-as, protected-collected, shared-as}
 use Rattle.jwe.proofs.JsonShaped.{shared-collected}

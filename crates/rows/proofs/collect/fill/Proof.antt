@@ -9,7 +9,7 @@ use Rattle.names.specs.Names.{names}
 use Rattle.prelude.proofs.Writing.{Writing, put-part, done}
 use Rattle.rows.specs.Rows.{entryOf, entriesIn}
 use Rattle.rows.specs.Tables.{eight, flat}
-use Rattle.rows.specs.Members.{firstMember, membersOf}
+use Rattle.rows.specs.Inner.Members.{firstMember, membersOf}
 use Rattle.rows.proofs.Collecting.{below-inside, entries-next, entries-none, entries-begin}
 use Rattle.rows.proofs.collect.fill.Statement.{statement}
 use Rattle.rows.proofs.collect.fill.Tie as tie

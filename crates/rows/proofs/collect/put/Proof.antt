@@ -9,7 +9,7 @@ use Rattle.prelude.proofs.Writing.{begin-as, put, done}
 use Rattle.names.specs.Names.{names}
 use Rattle.rows.specs.Rows.{entryOf}
 use Rattle.rows.specs.Tables.{eight}
-use Rattle.rows.specs.Members.{firstMember}
+use Rattle.rows.specs.Inner.Members.{firstMember}
 use Rattle.rows.proofs.Collecting.{entry-numbers}
 use Rattle.rows.proofs.collect.put.Statement.{statement}
 use Rattle.rows.proofs.collect.put.Tie as tie

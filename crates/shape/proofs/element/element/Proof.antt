@@ -12,7 +12,7 @@ use Rattle.prelude.specs.Refusals.{first, stageOf}
 use Rattle.headers.specs.Headers.{objectOrder}
 use Rattle.shape.specs.Shape.{memberNames, wrongElement, recipientOf}
 use Rattle.shape.specs.Recipients.{elementEntries}
-use Rattle.shape.specs.Answers.{three}
+use Rattle.shape.specs.Inner.Answers.{three}
 use Rattle.shape.proofs.Objects.{Entered, object-answer, object-table, entered}
 use Rattle.shape.proofs.Objects.{object-refused, object-wrong, object-passed, element-entries, element-order, leaves-refused}
 use borrow.Author.Needs.{needs}

@@ -2,7 +2,7 @@
 use Prim.Native.Nat.{_-_}
 use lib.ListN.{length}
 use Rattle.grammar.specs.Grammar.{curly}
-use Rattle.json.specs.Known.{KnownIn}
+use Rattle.json.specs.Inner.Known.{KnownIn}
 use Rattle.shape.proofs.Known.{every-at}
 use Rattle.shape.proofs.Reading.{Reading, reading, room, read-on, read-length, read-refused, read-out}
 use Rattle.shape.proofs.element.elements.Statement.{statement}

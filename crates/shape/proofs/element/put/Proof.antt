@@ -6,7 +6,7 @@ use lib.ListN.{length-set}
 use Rattle.prelude.proofs.Writing.{begin-as, put, done}
 use Rattle.rows.specs.Tables.{entriesOf}
 use Rattle.shape.specs.Shape.{recipientOf}
-use Rattle.shape.specs.Answers.{three}
+use Rattle.shape.specs.Inner.Answers.{three}
 use Rattle.shape.proofs.Numbers.{recipient-numbers}
 use borrow.Author.Needs.{needs}
 use Rattle.shape.proofs.element.put.Statement.{statement}

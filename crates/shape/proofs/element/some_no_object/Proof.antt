@@ -4,11 +4,11 @@ use mathlib.Core.Bool.{not}
 use native.Mathlib.Omega.{arith}
 use borrow.Author.Tests.{eq-eqb, ne-eqb}
 use Rattle.grammar.specs.Grammar.{square}
-use Rattle.json.specs.Known.{KnownFrom}
+use Rattle.json.specs.Inner.Known.{KnownFrom}
 use Rattle.json.proofs.MemberRows.{the-read}
 use Rattle.json.proofs.Knowing.{known-element, known-next}
 use Rattle.prelude.specs.Any.{any}
-use Rattle.jose.specs.Elements.{elementsFrom}
+use Rattle.jose.specs.Inner.Elements.{elementsFrom}
 use Rattle.jose.proofs.Walks.{of-any, walk-spent, walk-end, walk-found, walk-on}
 use Rattle.shape.specs.Shape.{noObject}
 use Rattle.shape.proofs.element.some_no_object.Statement.{statement}

@@ -7,10 +7,10 @@ use native.Mathlib.Omega.{arith}
 use borrow.Author.Tests.{eq-eqb, ne-eqb}
 use Rattle.grammar.specs.Reader.{elementsAt}
 use Rattle.grammar.specs.Grammar.{square}
-use Rattle.json.specs.Known.{KnownFrom}
+use Rattle.json.specs.Inner.Known.{KnownFrom}
 use Rattle.json.proofs.MemberRows.{the-read}
 use Rattle.json.proofs.Knowing.{known-first, known-element, known-next}
-use Rattle.jose.specs.Elements.{elementOf, elementsFrom}
+use Rattle.jose.specs.Inner.Elements.{elementOf, elementsFrom}
 use Rattle.jose.proofs.Elements.{elements-all, elements-spent, elements-none, elements-more}
 use Rattle.jose.proofs.Walks.{of-any, walk-spent, walk-end, walk-found, walk-on}
 use Rattle.shape.specs.Shape.{noObject}

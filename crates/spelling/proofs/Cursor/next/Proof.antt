@@ -7,7 +7,7 @@ use native.Mathlib.Omega.{arith}
 use lib.ListN.{length}
 use Rattle.grammar.specs.Utf8.{encode}
 use Rattle.grammar.specs.Spellings.{between}
-use Rattle.spelling.specs.Cursors.{halfOf, undoAt, told, Falls}
+use Rattle.spelling.specs.Inner.Cursors.{halfOf, undoAt, told, Falls}
 use Rattle.spelling.proofs.Cursors.{undo-end, undo-plain, undo-cut, undo-escape, undo-cut-digits, undo-pair}
 use Rattle.spelling.proofs.Cursors.{undo-single, undo-first, encoded-told, encoded-falls, pending-told, pending-falls}
 use Rattle.spelling.proofs.Cursors.{rest-between}

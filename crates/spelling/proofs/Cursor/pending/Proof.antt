@@ -1,7 +1,7 @@
 -- One of the octets of a code point that are to come: the code's tests are the cases of the definition.
 use mathlib.Core.Path.{ap, sym, _∙_}
 use Prim.Native.Nat.{ℕ}
-use Rattle.spelling.specs.Cursors.{octet, pendingOctet}
+use Rattle.spelling.specs.Inner.Cursors.{octet, pendingOctet}
 use Rattle.spelling.proofs.Cursors.{pending-three}
 use borrow.Author.Needs.{needs}
 use Rattle.spelling.proofs.Cursor.pending.Statement.{statement}

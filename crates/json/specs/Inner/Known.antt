@@ -8,7 +8,7 @@ use Prim.Native.Nat.{ℕ, zero, suc}
 use lib.ListN.{length}
 use Rattle.grammar.specs.Grammar.{Bracket, opening}
 use Rattle.grammar.specs.Reader.{octetAt, ended, nothing, beforeAt, Entry, entryAt, valueAt}
-use Rattle.json.specs.Ends.{valueIn}
+use Rattle.json.specs.Inner.Ends.{valueIn}
 use Rattle.json.specs.Members.{firstIn, nextFrom}
 
 -- A fact that is asked for only where the text has been judged.

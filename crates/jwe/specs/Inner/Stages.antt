@@ -9,7 +9,7 @@ use Rattle.prelude.specs.Buffer.{written}
 use Rattle.prelude.specs.Limits.{levels, mostMembers, mostRecipients}
 use Rattle.grammar.specs.Grammar.{curly}
 use Rattle.grammar.specs.Bounds.{Every}
-use Rattle.json.specs.Known.{KnownIn}
+use Rattle.json.specs.Inner.Known.{KnownIn}
 use Rattle.rows.specs.Rows.{Entry, present}
 use Rattle.rows.specs.Tables.{flat, entriesOf, headerTable}
 use Rattle.prelude.specs.Refusals.{Test, _if_, first}
@@ -19,7 +19,7 @@ use Rattle.prelude.specs.declared.Stage.{Stage}
 use Rattle.prelude.specs.declared.Stage.the-variants.{Passed, Refused}
 use Rattle.shape.specs.Shape.{protected, recipients, component, Recipient}
 use Rattle.shape.specs.Recipients.{componentsIn}
-use Rattle.shape.specs.Answers.{recipientWidth}
+use Rattle.shape.specs.Inner.Answers.{recipientWidth}
 use Rattle.jwe.specs.General.{ownEntries, parameters, isHollow, protectedOrder, headersOrder, recipientsOrder}
 use Rattle.jwe.specs.Judge.{Outcome, accepted, asked}
 use Rattle.jwe.specs.Answers.{numbers}

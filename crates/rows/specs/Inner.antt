@@ -1,0 +1,3 @@
+-- What only inner contracts cite: nothing that has to be believed imports these (.ci/believed).
+pub mod Prints
+pub mod Members
