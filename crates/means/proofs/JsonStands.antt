@@ -35,20 +35,21 @@ module _ (known : List (List ℕ)) (message : List ℕ) (protected shared : List
   -- A recipient that keeps the rules and the reader's for it.
   record Nth (own : List Member) (key : List ℕ) (r : Recipient) : Type 0 where
     members : List Member
-    keeps : meets.Recipient known protected shared members
+    keeps : meets.Recipient members
+    rules : meets.Ruled known protected shared keeps
     is : own ≡ keeps .own
     keyIs : key ≡ keeps .key
     holder : Holder message members r
 
-  nth : (rs : List (List Member)) (each : Every (meets.Recipient known protected shared) rs) (us : List Recipient) →
-      OneForOne (Holder message) rs us → (n : ℕ) → n < length rs →
-      Nth (ownOf known protected shared rs each n) (keyOf known protected shared rs each n) (asked us n)
+  nth : (rs : List (List Member)) (each : Every meets.Recipient rs) →
+      meets.EachRuled known protected shared rs each → (us : List Recipient) → OneForOne (Holder message) rs us →
+      (n : ℕ) → n < length rs → Nth (ownOf rs each n) (keyOf rs each n) (asked us n)
   unfolding ownOf keyOf asked
-  nth [] each us z n h = absurd (omega arith)
-  nth (r ∷ rs) each [] z n h = absurd z
-  nth (r ∷ rs) each (u ∷ us) z zero h =
-      record { members = r; keeps = each .0; is = refl; keyIs = refl; holder = z .0 }
-  nth (r ∷ rs) each (u ∷ us) z (suc n) h = nth rs (each .1) us (z .1) n (omega arith)
+  nth [] each rules us z n h = absurd (omega arith)
+  nth (r ∷ rs) each rules [] z n h = absurd z
+  nth (r ∷ rs) each rules (u ∷ us) z zero h =
+      record { members = r; keeps = each .0; rules = rules .0; is = refl; keyIs = refl; holder = z .0 }
+  nth (r ∷ rs) each rules (u ∷ us) z (suc n) h = nth rs (each .1) (rules .1) us (z .1) n (omega arith)
 
   own-stands : (own : List Member) (key : List ℕ) (r : Recipient) → Nth own key r →
       OneForOne (MemberStands message) own (headers.membersOf message (r .header))
@@ -113,7 +114,7 @@ json-stands known message j n below =
     subst (λ (w : List ℕ). ProtectedIn ps w (j .protected)) (sym same) (j .protectedRead) in
     let one = look message reading object 1 (ascii "protected") protected-number in
     let zr = recipients-stand message ps es five h (shape .recipients) (j .recipients) (j .recipientsRead) in
-    let t = nth known message (j .protected) (j .shared) (j .recipients) (j .each) us zr n below in
+    let t = nth known message (j .protected) (j .shared) (j .recipients) (j .each) (j .rules) us zr n below in
     let own = headersOf (json j) n .own in
     let all : List Member → Headers = λ os. record { protected = j .protected; shared = j .shared; own = os } in
     record {
@@ -132,5 +133,5 @@ json-stands known message j n below =
             shared = j .sharedObject .distinct;
             own = t .keeps .ownObject .distinct;
           });
-      rules = subst (λ (os : List Member). Rules known (all os) (t .keeps .key)) (sym (t .is)) (t .keeps .rules);
+      rules = subst (λ (os : List Member). Rules known (all os) (t .keeps .key)) (sym (t .is)) (t .rules);
     }

@@ -61,26 +61,24 @@ headerOf (compact c) = c .header
 headerOf (json j) = j .header
 
 -- The members of the n-th recipient's own header, counted from 0.
-unfoldable pub ownOf : (known : List (List ℕ)) (protected shared : List Member) (rs : List (List Member)) →
-    Every (Recipient known protected shared) rs → ℕ → List Member
-ownOf known protected shared [] each n = []
-ownOf known protected shared (r ∷ rs) each zero = each .0 .own
-ownOf known protected shared (r ∷ rs) each (suc n) = ownOf known protected shared rs (each .1) n
+unfoldable pub ownOf : (rs : List (List Member)) → Every Recipient rs → ℕ → List Member
+ownOf [] each n = []
+ownOf (r ∷ rs) each zero = each .0 .own
+ownOf (r ∷ rs) each (suc n) = ownOf rs (each .1) n
 
 -- The octets of its key; none where it is absent.
-unfoldable pub keyOf : (known : List (List ℕ)) (protected shared : List Member) (rs : List (List Member)) →
-    Every (Recipient known protected shared) rs → ℕ → List ℕ
-keyOf known protected shared [] each n = []
-keyOf known protected shared (r ∷ rs) each zero = each .0 .key
-keyOf known protected shared (r ∷ rs) each (suc n) = keyOf known protected shared rs (each .1) n
+unfoldable pub keyOf : (rs : List (List Member)) → Every Recipient rs → ℕ → List ℕ
+keyOf [] each n = []
+keyOf (r ∷ rs) each zero = each .0 .key
+keyOf (r ∷ rs) each (suc n) = keyOf rs (each .1) n
 
 -- The headers that apply to recipient n.
 abbrev pub headersOf : {known : List (List ℕ)} {message : List ℕ} → Message known message → ℕ → Headers
 headersOf (compact c) n = record { protected = membersRead (c .protected); shared = []; own = [] }
-headersOf {known} (json j) n = record {
+headersOf (json j) n = record {
   protected = j .protected;
   shared = j .shared;
-  own = ownOf known (j .protected) (j .shared) (j .recipients) (j .each) n;
+  own = ownOf (j .recipients) (j .each) n;
 }
 
 -- The octets of the components that apply to recipient n; none where one is absent.
@@ -101,9 +99,9 @@ contentsOf (compact c) n = record {
   ciphertext = c .ciphertext;
   tag = c .tag;
 }
-contentsOf {known} (json j) n = record {
+contentsOf (json j) n = record {
   header = j .header;
-  key = keyOf known (j .protected) (j .shared) (j .recipients) (j .each) n;
+  key = keyOf (j .recipients) (j .each) n;
   iv = j .iv;
   aad = j .aad;
   ciphertext = j .ciphertext;

@@ -3,7 +3,7 @@
 use mathlib.Core.Path.{_≡_, sym, subst}
 use mathlib.Core.Bool.{true, false}
 use mathlib.Core.Logic.{_↔_}
-use mathlib.Core.List.{List, []}
+use mathlib.Core.List.{List, [], _∷_}
 use Prim.Native.Nat.{ℕ}
 use lib.Dec.{eqb}
 use Rattle.prelude.specs.Ascii.{ascii}
@@ -78,7 +78,7 @@ module _ (known : List (List ℕ)) (header message : List ℕ) (protected shared
   Passes ms r = Formed ms × (Spelled r × (OwnPasses r × RulesPass r))
 
   abbrev Keeps : List Member → Type 0
-  Keeps = meets.Recipient known protected shared
+  Keeps ms = (r : meets.Recipient ms) × meets.Ruled known protected shared r
 
   -- Where an own header and a key are given.
   module _ (r : Recipient) (own : List Member) (key : List ℕ)
@@ -135,7 +135,7 @@ module _ (known : List (List ℕ)) (header message : List ℕ) (protected shared
         let z = own-stands f own i in
         let k = keyed f key o c in
         let object = own-decided r own key z k .0 (p .1 .1 .0) in
-        record {
+        let read : meets.Recipient ms = record {
           key = key;
           own = own;
           octets = o;
@@ -144,11 +144,11 @@ module _ (known : List (List ℕ)) (header message : List ℕ) (protected shared
           spelled = c;
           header = i;
           ownObject = object;
-          rules = recipient-rules r own key z k (object .distinct) .0 (p .1 .1 .1);
-        }
+        } in
+        (read, recipient-rules r own key z k (object .distinct) .0 (p .1 .1 .1))
 
     passes : Keeps ms → Passes ms r
-    passes x =
+    passes (x, rules) =
         let f : Formed ms = (x .object, x .shape) in
         let z = own-stands f (x .own) (x .header) in
         let k = keyed f (x .key) (x .octets) (x .spelled) in (
@@ -157,7 +157,7 @@ module _ (known : List (List ℕ)) (header message : List ℕ) (protected shared
             spelled-decided f .1 (x .key, x .octets, x .spelled),
             (
               own-decided r (x .own) (x .key) z k .1 (x .ownObject),
-              recipient-rules r (x .own) (x .key) z k (x .ownObject .distinct) .1 (x .rules),
+              recipient-rules r (x .own) (x .key) z k (x .ownObject .distinct) .1 rules,
             ),
           ),
         )
@@ -168,8 +168,22 @@ module _ (known : List (List ℕ)) (header message : List ℕ) (protected shared
       (keeps ms (h .entries) (h .holds), passes ms (h .entries) (h .holds))
 
   -- All of them.
+
+  abbrev AllKeep : List (List Member) → Type 0
+  AllKeep rs = (each : Every meets.Recipient rs) × meets.EachRuled known protected shared rs each
+
+  rules-apart : (rs : List (List Member)) → Every Keeps rs → AllKeep rs
+  rules-apart [] all = (tt, tt)
+  rules-apart (ms ∷ rs) all =
+      let others = rules-apart rs (all .1) in ((all .0 .0, others .0), (all .0 .1, others .1))
+
+  rules-beside : (rs : List (List Member)) (each : Every meets.Recipient rs) →
+      meets.EachRuled known protected shared rs each → Every Keeps rs
+  rules-beside [] each rules = tt
+  rules-beside (ms ∷ rs) each rules = ((each .0, rules .0), rules-beside rs (each .1) (rules .1))
+
   pub recipients-decided : (rs : List (List Member)) (us : List Recipient) → OneForOne (Holder message) rs us →
-      (Every Formed rs × (Every Spelled us × (Every OwnPasses us × Every RulesPass us)))
-      ↔ Every (meets.Recipient known protected shared) rs
+      (Every Formed rs × (Every Spelled us × (Every OwnPasses us × Every RulesPass us))) ↔ AllKeep rs
   recipients-decided rs us z =
-      every-together (Holder message) Keeps Formed Spelled OwnPasses RulesPass recipient-decided rs us z
+      let all = every-together (Holder message) Keeps Formed Spelled OwnPasses RulesPass recipient-decided rs us z in
+      ((λ h. rules-apart rs (all .0 h)), (λ h. all .1 (rules-beside rs (h .0) (h .1))))

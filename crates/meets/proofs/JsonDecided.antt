@@ -189,7 +189,8 @@ module _ (known : List (List ℕ)) (message : List ℕ) (recipient : ℕ) where
         recipients = rs;
         recipientsRead = found;
         few = several .1 .0;
-        each = each;
+        each = each .0;
+        rules = each .1;
       } in
       (j, omega arith)
 
@@ -218,7 +219,7 @@ module _ (known : List (List ℕ)) (message : List ℕ) (recipient : ℕ) where
       let zs = shared-stands message reading object shape (j .shared) (j .sharedRead) in
       let zr = recipients-stand message ps es five h (shape .recipients) (j .recipients) (j .recipientsRead) in
       let each = recipients-decided known H message (j .protected) (j .shared) es zp zs
-      (j .protectedObject .distinct) (j .sharedObject .distinct) (j .recipients) us zr .1 (j .each) in
+      (j .protectedObject .distinct) (j .sharedObject .distinct) (j .recipients) us zr .1 (j .each, j .rules) in
       let many = zip-length (Holder message) (j .recipients) us zr in
       record {
         top =

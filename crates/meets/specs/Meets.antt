@@ -116,7 +116,7 @@ RecipientsIn ms rs =
     ⊎ ((v : Value) × Named (ascii "recipients") v ms × (rs ≡ map membersOf (elementsOf v)))
 
 -- A recipient: its key and its own header.
-pub record Recipient (known : List (List ℕ)) (protected shared : List Member) (ms : List Member) : Type 0 where
+pub record Recipient (ms : List Member) : Type 0 where
   pub key : List ℕ
   pub own : List Member
   pub octets : Octets key
@@ -125,7 +125,16 @@ pub record Recipient (known : List (List ℕ)) (protected shared : List Member) 
   pub spelled : Component (ascii "encrypted_key") ms key
   pub header : HeaderIn (ascii "header") ms own
   pub ownObject : Object own
-  pub rules : Rules known (record { protected = protected; shared = shared; own = own }) key
+
+-- The rules on it, beside the headers that all recipients share.
+abbrev pub Ruled : List (List ℕ) → List Member → List Member → {ms : List Member} → Recipient ms → Type 0
+Ruled known protected shared r = Rules known (record { protected = protected; shared = shared; own = r .own }) (r .key)
+
+-- On each of several.
+abbrev pub EachRuled : List (List ℕ) → List Member → List Member → (rs : List (List Member)) → Every Recipient rs → Type 0
+EachRuled known protected shared [] each = Unit {0}
+EachRuled known protected shared (ms ∷ rs) each =
+    Ruled known protected shared (each .0) × EachRuled known protected shared rs (each .1)
 
 pub record Json (known : List (List ℕ)) (message : List ℕ) : Type 0 where
   pub reading : Reading levels message
@@ -151,7 +160,8 @@ pub record Json (known : List (List ℕ)) (message : List ℕ) : Type 0 where
   pub recipients : List (List Member)
   pub recipientsRead : RecipientsIn (membersOf (reading .text .value)) recipients
   pub few : length recipients ≤ mostRecipients
-  pub each : Every (Recipient known protected shared) recipients
+  pub each : Every Recipient recipients
+  pub rules : EachRuled known protected shared recipients each
 
 -- The form is told by the first octet that is not space: a JSON message has an opening curly bracket there.
 pub record OpensCurly (message : List ℕ) : Type 0 where
