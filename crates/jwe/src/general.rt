@@ -1,7 +1,6 @@
-// The JSON serialization, general and flattened (RFC 7516, section 7.2). A table of entries holds eight numbers each,
-// one of
-// recipients three (where the own header stands, the key's start and length). What each function answers stands in
-// specs/Inner/Stages.
+// The JSON serialization, general and flattened (RFC 7516, section 7.2). A table of entries holds eight numbers
+// for each; a table of recipients three: where the own header stands, the key's start and its length. What each
+// function answers stands in specs/Inner/Stages.
 ghost use mathlib.Core.Path.{_≡_};
 ghost use mathlib.Core.Bool.{true, false, cond};
 ghost use mathlib.Core.List.{_++_, map};
