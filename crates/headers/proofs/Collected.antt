@@ -11,7 +11,7 @@ use Rattle.prelude.specs.Buffer.{written}
 use Rattle.prelude.proofs.Writing.{written-length}
 use Rattle.names.specs.Names.{names}
 use Rattle.grammar.specs.Reader.{skipSpace, membersAt}
-use Rattle.rows.specs.Rows.{Entry, repeated, entryOf, entriesIn}
+use Rattle.rows.specs.Rows.{Entry, oneText, repeated, entryOf, entriesIn}
 use Rattle.rows.specs.Tables.{flat, entriesOf, collectedTable}
 use Rattle.rows.proofs.Entries.{flat-length, entries-written}
 use Rattle.prelude.specs.Refusals.{first, stageOf}
@@ -23,7 +23,7 @@ use Rattle.headers.proofs.Stages.{passed-is}
 
 not-many : (s : List ℕ) (es : List Entry) → first (objectOrder s es) ≡ 0 → length es ≤ 32
 unfolding first objectOrder
-not-many s es e = cases (ltb mostMembers (length es)) refl (repeated false s s es) e
+not-many s es e = cases (ltb mostMembers (length es)) refl (repeated false (oneText s) es) e
   where
     cases : (b : Bool) → ltb mostMembers (length es) ≡ b → (c : Bool) →
         _≡_ {A = ℕ} (cond b 8 (cond c 9 0)) 0 → length es ≤ 32

@@ -14,7 +14,7 @@ use Rattle.grammar.specs.Places.{Member}
 use Rattle.json.specs.Members.{collectedOf}
 use Rattle.json.specs.declared.member.Collected.{Collected}
 use Rattle.json.specs.declared.member.Collected.the-variants.{Rows, More}
-use Rattle.rows.specs.Rows.{Entry, entryOf, entriesIn, textOf, repeated, clashes}
+use Rattle.rows.specs.Rows.{Entry, oneText, entryOf, entriesIn, textOf, repeated, clashes}
 use Rattle.rows.specs.Tables.{flat, entriesOf, collectedTable}
 use Rattle.rows.proofs.Entries.{flat-length, entries-written-from}
 use Rattle.rows.proofs.Printing.{clashes-repeated, entries-printed}
@@ -75,15 +75,16 @@ module _ (es : List Entry) (from count : ℕ) (before last : List ℕ) (room : f
 -- Refusals 8 and 9
 
 stage-of : (s : List ℕ) (es : List Entry) (n : ℕ) (many twice : Bool) → ltb 32 (length es) ≡ many →
-    repeated false s s es ≡ twice →
+    repeated false (oneText s) es ≡ twice →
     stageOf (first (objectOrder s es)) n ≡ stageOf (cond many 8 (cond twice 9 0)) n
 unfolding first objectOrder
 stage-of s es n many twice m t = ap₂ (λ (x y : Bool). stageOf (cond x 8 (cond y 9 0)) n) m t
 
 -- One text is the text of every origin.
-one-text : (s : List ℕ) (o : ℕ) → s ≡ textOf s s o
+one-text : (s : List ℕ) (o : ℕ) → s ≡ textOf (oneText s) o
 one-text s zero = refl
-one-text s (suc o) = refl
+one-text s (suc zero) = refl
+one-text s (suc (suc o)) = refl
 
 module _ (names : List (List ℕ)) (s : List ℕ) (o : ℕ) (ms : List Member) where
   entries-count : length (entriesIn names s o ms) ≡ length ms
@@ -101,7 +102,7 @@ module _ (names : List (List ℕ)) (s : List ℕ) (o : ℕ) (ms : List Member) w
   unfolding stageOf
   refused-8 e =
       let es = entriesIn names s o ms in
-      sym (stage-of s es (length ms) true (repeated false s s es)
+      sym (stage-of s es (length ms) true (repeated false (oneText s) es)
       (cases (ltb 32 (length es)) (e ∙ collected-is)) refl)
     where
       cases : (b : Bool) → More ≡ cond b More (Rows (length (entriesIn names s o ms))) → b ≡ true
@@ -109,11 +110,11 @@ module _ (names : List (List ℕ)) (s : List ℕ) (o : ℕ) (ms : List Member) w
       cases false e = let z : _≡_ {A = ℕ} 0 1 = cc in absurd (omega arith)
 
   module _ {from count : ℕ} {last : List ℕ} (k : Collects (entriesIn names s o ms) from last count) {answer : Bool}
-      (a : answer ≡ clashes false s s (entriesOf count (rest from last))) where
-    repeated-is : repeated false s s (entriesIn names s o ms) ≡ answer
+      (a : answer ≡ clashes false (oneText s) (entriesOf count (rest from last))) where
+    repeated-is : repeated false (oneText s) (entriesIn names s o ms) ≡ answer
     repeated-is =
-        sym (a ∙ ap (clashes false s s) (k .entries)
-        ∙ clashes-repeated false s s (entriesIn names s o ms) (entries-printed names s s s o ms (one-text s o)))
+        sym (a ∙ ap (clashes false (oneText s)) (k .entries)
+        ∙ clashes-repeated false (oneText s) (entriesIn names s o ms) (entries-printed names (oneText s) s o ms (one-text s o)))
 
     pub refused-9 : answer ≡ true → Refused 9 ≡ stageOf (first (objectOrder s (entriesIn names s o ms))) (length ms)
     unfolding stageOf

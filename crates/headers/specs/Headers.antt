@@ -7,7 +7,7 @@ use lib.Dec.{eqb, ltb}
 use Rattle.base64url.specs.Base64url.{decoded}
 use Rattle.grammar.specs.Places.{Place, Member}
 use Rattle.grammar.specs.Reader.{Answer, nothing, found, skipSpace, membersAt, readText}
-use Rattle.rows.specs.Rows.{Entry, entriesIn, repeated}
+use Rattle.rows.specs.Rows.{Entry, oneText, entriesIn, repeated}
 use Rattle.jose.specs.Registered.{registered}
 use Rattle.prelude.specs.Refusals.{Test, _if_}
 use Rattle.prelude.specs.Limits.{levels, headerRoom, mostMembers}
@@ -51,4 +51,4 @@ headerEntries message origin start = entriesIn registered message origin (member
 
 -- 8 and 9 on the entries of an object that stands in the text s: over 32 members; a name twice.
 unfoldable pub objectOrder : List ℕ → List Entry → List Test
-objectOrder s es = 8 if ltb mostMembers (length es) ∷ 9 if repeated false s s es ∷ []
+objectOrder s es = 8 if ltb mostMembers (length es) ∷ 9 if repeated false (oneText s) es ∷ []

@@ -56,7 +56,7 @@ pub fn object(
         return Stage::Refused(8);
     };
     let first = from * 8;
-    if rows::repeat::clashes(s, s, &table[first..], count, false) {
+    if rows::repeat::clashes(s, s, s, &table[first..], count, false) {
         return Stage::Refused(9);
     }
     Stage::Passed(count)

@@ -9,13 +9,12 @@ use lib.Seq.{getD-drop}
 use lib.Dec.{eqb, leb}
 use borrow.Author.Tests.{eq-eqb, ne-eqb, le-leb, lt-leb}
 use Rattle.names.specs.Names.{numberIn}
-use Rattle.rows.specs.Rows.{Entry, spelledValue, valueIn}
+use Rattle.rows.specs.Rows.{Entry, Texts, valueIn}
 use Rattle.rows.specs.Tables.{firstOf, entriesOf}
 use Rattle.rows.proofs.Entries.{entry-at, entries-done}
 use Rattle.algorithms.specs.Algorithms.{algs, algNames, encNames, zipNames, nth, modeOf}
 use Rattle.jose.specs.Registered.{alg, enc, zip, crit, jwk, x5c, object, array, string, anyKind, kindAsked}
 use Rattle.jose.specs.HeaderRules.{wrongKind, unlisted, unprotected, modeIn}
-use Rattle.jose.proofs.InTable.{text-header, text-message}
 
 -- What stands at a place of an entry's numbers.
 pub number-at : (t : List ℕ) (i k : ℕ) → getD (drop (i * 8) t) k 0 ≡ getD t (i * 8 + k) 0
@@ -94,66 +93,53 @@ or-false : (b : Bool) → b ≡ b || false
 or-false true = refl
 or-false false = refl
 
-module _ (header message : List ℕ) (e : Entry) where
+module _ (ts : Texts) (e : Entry) where
   -- the value is none of these names
   abbrev none-of : List (List ℕ) → Bool
-  none-of ns = eqb (numberIn ns (valueIn header message e)) 0
+  none-of ns = eqb (numberIn ns (valueIn ts e)) 0
 
   abbrev by-number : ℕ → Bool
   by-number n =
       (eqb n alg && none-of algNames) || ((eqb n enc && none-of encNames) || (eqb n zip && none-of zipNames))
 
-  pub alg-value : e .number ≡ alg → none-of algNames ≡ unlisted header message e
+  pub alg-value : e .number ≡ alg → none-of algNames ≡ unlisted ts e
   alg-value h = or-false (none-of algNames) ∙ sym (ap by-number h)
 
-  pub enc-value : e .number ≡ enc → none-of encNames ≡ unlisted header message e
+  pub enc-value : e .number ≡ enc → none-of encNames ≡ unlisted ts e
   enc-value h = or-false (none-of encNames) ∙ sym (ap by-number h)
 
-  pub zip-value : e .number ≡ zip → none-of zipNames ≡ unlisted header message e
+  pub zip-value : e .number ≡ zip → none-of zipNames ≡ unlisted ts e
   zip-value h = sym (ap by-number h)
 
   pub no-value : (e .number ≡ alg → ⊥) → (e .number ≡ enc → ⊥) → (e .number ≡ zip → ⊥) →
-      false ≡ unlisted header message e
+      false ≡ unlisted ts e
   no-value a n z = simp (ne-eqb (e .number) alg a, ne-eqb (e .number) enc n, ne-eqb (e .number) zip z)
-
--- A value is taken from its own text alone
-
-module _ (header message : List ℕ) (e : Entry) where
-  pub value-header : e .origin ≡ 0 → valueIn header header e ≡ valueIn header message e
-  value-header h =
-      ap (λ (s : List ℕ). spelledValue s (e .member))
-      (text-header header header (e .origin) h ∙ sym (text-header header message (e .origin) h))
-
-  pub value-message : (e .origin ≡ 0 → ⊥) → valueIn message message e ≡ valueIn header message e
-  value-message h =
-      ap (λ (s : List ℕ). spelledValue s (e .member))
-      (text-message message message (e .origin) h ∙ sym (text-message header message (e .origin) h))
 
 -- The mode, turn by turn: what the entries from i on say is the answer
 
-module _ (header message : List ℕ) (answer count i : ℕ) (t : List ℕ)
-    (so : modeIn header message (drop i (entriesOf count t)) ≡ answer) where
+module _ (ts : Texts) (answer count i : ℕ) (t : List ℕ)
+    (so : modeIn ts (drop i (entriesOf count t)) ≡ answer) where
   module _ (h : i < count) where
     abbrev here : Bool → ℕ
     here b =
-        cond b (modeOf (nth algs (numberIn algNames (valueIn header message (firstOf (drop (i * 8) t))))))
-        (modeIn header message (drop (i + 1) (entriesOf count t)))
+        cond b (modeOf (nth algs (numberIn algNames (valueIn ts (firstOf (drop (i * 8) t))))))
+        (modeIn ts (drop (i + 1) (entriesOf count t)))
 
     at-turn : here (eqb (firstOf (drop (i * 8) t) .number) alg) ≡ answer
     unfolding modeIn
-    at-turn = sym (ap (modeIn header message) (entry-at i count t h)) ∙ so
+    at-turn = sym (ap (modeIn ts) (entry-at i count t h)) ∙ so
 
     -- This one is no `alg`.
     pub mode-turn : (firstOf (drop (i * 8) t) .number ≡ alg → ⊥) →
-        modeIn header message (drop (i + 1) (entriesOf count t)) ≡ answer
+        modeIn ts (drop (i + 1) (entriesOf count t)) ≡ answer
     mode-turn n = sym (ap here (ne-eqb (firstOf (drop (i * 8) t) .number) alg n)) ∙ at-turn
 
     -- This one is.
     pub mode-found : firstOf (drop (i * 8) t) .number ≡ alg →
-        modeOf (nth algs (numberIn algNames (valueIn header message (firstOf (drop (i * 8) t))))) ≡ answer
+        modeOf (nth algs (numberIn algNames (valueIn ts (firstOf (drop (i * 8) t))))) ≡ answer
     mode-found n = sym (ap here (eq-eqb (firstOf (drop (i * 8) t) .number) alg n)) ∙ at-turn
 
   -- There are no more.
   pub mode-done : count ≤ i → 0 ≡ answer
   unfolding modeIn
-  mode-done h = sym (ap (modeIn header message) (entries-done i count t h)) ∙ so
+  mode-done h = sym (ap (modeIn ts) (entries-done i count t h)) ∙ so

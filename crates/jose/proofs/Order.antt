@@ -6,34 +6,30 @@ use Prim.Native.Nat.{ℕ, _+_, _≤_, _<_}
 use lib.ListN.{length, drop, getD, drop-of-length-le}
 use borrow.Author.Tests.{eq-eqb, ne-eqb}
 use Rattle.prelude.specs.Refusals.{Test, _if_, first, stageOf}
-use Rattle.prelude.specs.declared.Stage.{Stage}
 use Rattle.prelude.specs.declared.Stage.the-variants.{Passed, Refused}
 use Rattle.prelude.proofs.Lists.{drop-next}
 use Rattle.prelude.proofs.Refusals.{first-fails, first-passes}
-use Rattle.rows.specs.Rows.{Entry}
-use Rattle.jose.specs.HeaderRules.{wrongKey, modeIn, breaks, rulesOrder}
+use Rattle.rows.specs.Rows.{Entry, Texts}
+use Rattle.jose.specs.HeaderRules.{breaks, testsOf}
 
 -- A number that is no rule's is not broken.
-pub no-rule : (known : List (List ℕ)) (header message : List ℕ) (es : List Entry) (badKey : Bool) (n : ℕ) →
+pub no-rule : (known : List (List ℕ)) (ts : Texts) (es : List Entry) (badKey : Bool) (n : ℕ) →
     (n ≡ 12 → ⊥) → (n ≡ 13 → ⊥) → (n ≡ 14 → ⊥) → (n ≡ 15 → ⊥) → (n ≡ 16 → ⊥) → (n ≡ 17 → ⊥) → (n ≡ 18 → ⊥) →
-    breaks known header message es badKey n ≡ false
-no-rule known header message es badKey n a b c d e f g =
+    breaks known ts es badKey n ≡ false
+no-rule known ts es badKey n a b c d e f g =
     simp (ne-eqb n 12 a, ne-eqb n 13 b, ne-eqb n 14 c, ne-eqb n 15 d, ne-eqb n 16 e, ne-eqb n 17 f, ne-eqb n 18 g)
 
-module _ (known : List (List ℕ)) (header message : List ℕ) (es : List Entry) (noKey : Bool) where
+module _ (known : List (List ℕ)) (ts : Texts) (es : List Entry) (badKey : Bool) where
   abbrev pub broken : ℕ → Bool
-  broken = breaks known header message es (wrongKey (modeIn header message es) noKey)
+  broken = breaks known ts es badKey
 
   abbrev pub ordered : List ℕ → ℕ
-  ordered rules = first (rulesOrder known header message es noKey rules)
-
-  abbrev answer : ℕ → Stage
-  answer n = stageOf n (modeIn header message es)
+  ordered rules = first (testsOf known ts es badKey rules)
 
   module _ (rules : List ℕ) (i : ℕ) (before : ordered (drop i rules) ≡ ordered rules) where
     module _ (more : i < length rules) where
       next : ordered rules
-          ≡ first (getD rules i 0 if broken (getD rules i 0) ∷ rulesOrder known header message es noKey (drop (i + 1) rules))
+          ≡ first (getD rules i 0 if broken (getD rules i 0) ∷ testsOf known ts es badKey (drop (i + 1) rules))
       next = sym before ∙ ap ordered (drop-next rules i (i + 1) refl more)
 
       -- The rule there is kept.
@@ -41,17 +37,17 @@ module _ (known : List (List ℕ)) (header message : List ℕ) (es : List Entry)
       rule-kept e = sym (next ∙ first-passes _ _ e)
 
       -- It is broken. Then it is a rule's number, and not 0.
-      pub rule-broken : broken (getD rules i 0) ≡ true → Refused (getD rules i 0) ≡ answer (ordered rules)
+      pub rule-broken : broken (getD rules i 0) ≡ true → (mode : ℕ) → Refused (getD rules i 0) ≡ stageOf (ordered rules) mode
       unfolding stageOf
-      rule-broken e =
+      rule-broken e mode =
           let n = getD rules i 0 in
           let some : n ≡ 0 → ⊥ = λ z. true≢false (sym e ∙ ap broken z) in
-          sym (ap answer (next ∙ first-fails _ _ e)
-          ∙ ap (λ (b : Bool). cond b (Passed (modeIn header message es)) (Refused n)) (ne-eqb n 0 some))
+          sym (ap (λ (k : ℕ). stageOf k mode) (next ∙ first-fails _ _ e)
+          ∙ ap (λ (b : Bool). cond b (Passed mode) (Refused n)) (ne-eqb n 0 some))
 
     -- None is left.
-    pub rules-kept : length rules ≤ i → Passed (modeIn header message es) ≡ answer (ordered rules)
+    pub rules-kept : length rules ≤ i → (mode : ℕ) → Passed mode ≡ stageOf (ordered rules) mode
     unfolding stageOf first
-    rules-kept over =
+    rules-kept over mode =
         let none : ordered rules ≡ 0 = sym before ∙ ap ordered (drop-of-length-le rules over) in
-        sym (ap answer none)
+        sym (ap (λ (k : ℕ). stageOf k mode) none)

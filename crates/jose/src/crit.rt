@@ -8,13 +8,15 @@ ghost use Rattle.grammar.specs.Reader.{elementsAt};
 ghost use Rattle.names.specs.Names.{names, filled};
 ghost use Rattle.prelude.specs.Limits.{levels};
 ghost use Rattle.prelude.specs.Any.{any, anyPair};
+ghost use Rattle.rows.specs.Rows.{texts, nameSays};
 ghost use Rattle.rows.specs.Tables.{firstOf, entriesOf, width};
-ghost use Rattle.jose.specs.HeaderRules.{spelledElement, unknown, sameElement, nameSays, misplaced};
+ghost use Rattle.jose.specs.HeaderRules.{spelledElement, unknown, sameElement, misplaced};
 ghost use Rattle.jose.specs.HeaderRules.{isEmpty, wrongCrit, critical};
 ghost use Rattle.jose.specs.Inner.Elements.{elementOf, elementsFrom};
 use json::Position;
 use json::member::Member;
 use json::member::Row;
+use rows::ask::field;
 
 // A string element as it is spelled, without quotation marks; the empty part where it lies outside the text.
 fn spelled(s: &[u8], row: Row) -> &[u8]
@@ -119,29 +121,14 @@ fn twice(s: &[u8], at: usize) -> bool
     false
 }
 
-// Whether an entry's name says what a spelling does. The two texts may be lent for different times, so the part is not
-// taken by `rows::ask::name`.
-fn says(header: &[u8], message: &[u8], table: &[u32], i: usize, w: &[u8]) -> bool
-    requires { ⌜ i * width + width ≤ length (now table) ⌝ }
-    ensures { λ r. ⌜ r ≡ nameSays (now (header .entry)) (now (message .entry)) (now (w .entry)) (firstOf (drop (i * width) (now (table .entry)))) ⌝ }
-{
-    let at = i * 8;
-    let start = table[at + 1] as usize;
-    let len = table[at + 2] as usize;
-    if table[at] == 0 {
-        return spelling::alike(parts::part(header, start, len), w);
-    }
-    spelling::alike(parts::part(message, start, len), w)
-}
-
-// Whether some entry's name does.
-fn named(header: &[u8], message: &[u8], table: &[u32], count: usize, w: &[u8]) -> bool
+// Whether some entry's name says what a spelling does.
+fn named(header: &[u8], shared: &[u8], own: &[u8], table: &[u32], count: usize, w: &[u8]) -> bool
     requires { ⌜ count * width ≤ length (now table) ⌝ }
-    ensures { λ r. ⌜ r ≡ any (nameSays (now (header .entry)) (now (message .entry)) (now (w .entry))) (entriesOf count (now (table .entry))) ⌝ }
+    ensures { λ r. ⌜ r ≡ any (nameSays (texts (now (header .entry)) (now (shared .entry)) (now (own .entry))) (now (w .entry))) (entriesOf count (now (table .entry))) ⌝ }
 {
     let mut i: usize = 0;
     while i < count {
-        if says(header, message, table, i, w) {
+        if rows::repeat::says(header, shared, own, table, i, w) {
             return true;
         }
         i += 1;
@@ -150,29 +137,30 @@ fn named(header: &[u8], message: &[u8], table: &[u32], count: usize, w: &[u8]) -
 }
 
 // Whether an element is a registered name, or no name of the recipient's headers.
-fn misplaced(header: &[u8], message: &[u8], table: &[u32], count: usize, s: &[u8], row: Row) -> bool
+fn misplaced(header: &[u8], shared: &[u8], own: &[u8], table: &[u32], count: usize, s: &[u8], row: Row) -> bool
     requires { ⌜ count * width ≤ length (now table) ⌝ }
-    ensures { λ r. ⌜ r ≡ misplaced (now (header .entry)) (now (message .entry)) (entriesOf count (now (table .entry))) (now (s .entry)) (elementOf row) ⌝ }
+    ensures { λ r. ⌜ r ≡ misplaced (texts (now (header .entry)) (now (shared .entry)) (now (own .entry))) (entriesOf count (now (table .entry))) (now (s .entry)) (elementOf row) ⌝ }
 {
     let w = spelled(s, row);
     let list = crate::lists::REGISTERED;
     if names::find(&list, w) != 0 {
         return true;
     }
-    !named(header, message, table, count, w)
+    !named(header, shared, own, table, count, w)
 }
 
 // Whether one of an array is.
 fn some_misplaced(
     header: &[u8],
-    message: &[u8],
+    shared: &[u8],
+    own: &[u8],
     table: &[u32],
     count: usize,
     s: &[u8],
     at: usize,
 ) -> bool
     requires { ⌜ count * width ≤ length (now table) ⌝ }
-    ensures { λ r. ⌜ r ≡ any (misplaced (now (header .entry)) (now (message .entry)) (entriesOf count (now (table .entry))) (now (s .entry))) (elementsAt levels (now (s .entry)) at) ⌝ }
+    ensures { λ r. ⌜ r ≡ any (misplaced (texts (now (header .entry)) (now (shared .entry)) (now (own .entry))) (entriesOf count (now (table .entry))) (now (s .entry))) (elementsAt levels (now (s .entry)) at) ⌝ }
 {
     let mut p = Position { at }.inside(s);
     let mut left = s.len();
@@ -181,7 +169,7 @@ fn some_misplaced(
         let Member::Here(row, next) = found else {
             return false;
         };
-        if misplaced(header, message, table, count, s, row) {
+        if misplaced(header, shared, own, table, count, s, row) {
             return true;
         }
         p = next;
@@ -193,7 +181,8 @@ fn some_misplaced(
 // Whether the elements of an array in the text s are wrong as those of `crit`.
 fn wrong(
     header: &[u8],
-    message: &[u8],
+    shared: &[u8],
+    own: &[u8],
     known: &[u8],
     table: &[u32],
     count: usize,
@@ -202,7 +191,7 @@ fn wrong(
 ) -> bool
     requires { ⌜ count * width ≤ length (now table) ⌝ }
     requires { ⌜ filled (now known) ≡ true ⌝ }
-    ensures { λ r. ⌜ r ≡ wrongCrit (names (now (known .entry))) (now (header .entry)) (now (message .entry)) (entriesOf count (now (table .entry))) (now (s .entry)) (elementsAt levels (now (s .entry)) at) ⌝ }
+    ensures { λ r. ⌜ r ≡ wrongCrit (names (now (known .entry))) (texts (now (header .entry)) (now (shared .entry)) (now (own .entry))) (entriesOf count (now (table .entry))) (now (s .entry)) (elementsAt levels (now (s .entry)) at) ⌝ }
 {
     if empty(s, at) {
         return true;
@@ -213,13 +202,14 @@ fn wrong(
     if twice(s, at) {
         return true;
     }
-    some_misplaced(header, message, table, count, s, at)
+    some_misplaced(header, shared, own, table, count, s, at)
 }
 
 // Whether an entry is a `crit` with wrong contents.
 fn critical(
     header: &[u8],
-    message: &[u8],
+    shared: &[u8],
+    own: &[u8],
     known: &[u8],
     table: &[u32],
     count: usize,
@@ -228,28 +218,31 @@ fn critical(
     requires { ⌜ count * width ≤ length (now table) ⌝ }
     requires { ⌜ filled (now known) ≡ true ⌝ }
     requires { ⌜ i * width + width ≤ length (now table) ⌝ }
-    ensures { λ r. ⌜ r ≡ critical (names (now (known .entry))) (now (header .entry)) (now (message .entry)) (entriesOf count (now (table .entry))) (firstOf (drop (i * width) (now (table .entry)))) ⌝ }
+    ensures { λ r. ⌜ r ≡ critical (names (now (known .entry))) (texts (now (header .entry)) (now (shared .entry)) (now (own .entry))) (entriesOf count (now (table .entry))) (firstOf (drop (i * width) (now (table .entry)))) ⌝ }
 {
-    let from = i * 8;
-    if table[from + 6] != 13 {
+    if field(table, i, 6) != 13 {
         return false;
     }
-    let at = table[from + 3] as usize;
-    if table[from] == 0 {
-        return wrong(header, message, known, table, count, header, at);
+    let at = field(table, i, 3);
+    let origin = field(table, i, 0);
+    if origin == 0 {
+        return wrong(header, shared, own, known, table, count, header, at);
     }
-    wrong(header, message, known, table, count, message, at)
+    if origin == 1 {
+        return wrong(header, shared, own, known, table, count, shared, at);
+    }
+    wrong(header, shared, own, known, table, count, own, at)
 }
 
 // 17: whether one of the first entries is.
-pub fn wrong_crit(header: &[u8], message: &[u8], known: &[u8], table: &[u32], count: usize) -> bool
+pub fn wrong_crit(header: &[u8], shared: &[u8], own: &[u8], known: &[u8], table: &[u32], count: usize) -> bool
     requires { ⌜ count * width ≤ length (now table) ⌝ }
     requires { ⌜ filled (now known) ≡ true ⌝ }
-    ensures { λ r. ⌜ r ≡ any (critical (names (now (known .entry))) (now (header .entry)) (now (message .entry)) (entriesOf count (now (table .entry)))) (entriesOf count (now (table .entry))) ⌝ }
+    ensures { λ r. ⌜ r ≡ any (critical (names (now (known .entry))) (texts (now (header .entry)) (now (shared .entry)) (now (own .entry))) (entriesOf count (now (table .entry)))) (entriesOf count (now (table .entry))) ⌝ }
 {
     let mut i: usize = 0;
     while i < count {
-        if critical(header, message, known, table, count, i) {
+        if critical(header, shared, own, known, table, count, i) {
             return true;
         }
         i += 1;

@@ -3,3 +3,11 @@ pub mod crit;
 pub mod judge;
 pub mod lists;
 pub mod rules;
+
+// How many octets the encrypted key, the initialization vector, the ciphertext and the tag have.
+pub struct Sizes {
+    pub key: usize,
+    pub iv: usize,
+    pub ciphertext: usize,
+    pub tag: usize,
+}

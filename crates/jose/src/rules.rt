@@ -5,7 +5,7 @@ ghost use Prim.Native.Nat.{_+_, _*_, _≤_};
 ghost use lib.ListN.{length, drop};
 ghost use Rattle.names.specs.Names.{names, filled, numberIn};
 ghost use Rattle.prelude.specs.Any.{any};
-ghost use Rattle.rows.specs.Rows.{valueIn};
+ghost use Rattle.rows.specs.Rows.{texts, valueIn};
 ghost use Rattle.rows.specs.Tables.{firstOf, entriesOf, width};
 ghost use Rattle.algorithms.specs.Algorithms.{algs, algNames, nth, modeOf};
 ghost use Rattle.jose.specs.Registered.{kindAsked};
@@ -18,6 +18,7 @@ use crate::lists::X5C;
 use crate::lists::ZIP;
 use algorithms::Alg;
 use algorithms::NamedAlg;
+use rows::ask::field;
 
 // Kinds as the list that is handed out has them, and one more for a name that asks for none.
 const OBJECT: u32 = 0;
@@ -88,47 +89,58 @@ pub fn wrong_kind(table: &[u32], count: usize) -> bool
     false
 }
 
-// The number of an entry's value in a list of names. The value is taken from one text at a time, since the two may be
+// The number of an entry's value in a list of names. The value is taken from one text at a time, since the texts may be
 // lent for different lifetimes.
-fn number_in(list: &[u8], header: &[u8], message: &[u8], table: &[u32], i: usize) -> u32
+fn number_in(
+    list: &[u8],
+    header: &[u8],
+    shared: &[u8],
+    own: &[u8],
+    table: &[u32],
+    i: usize,
+) -> u32
     requires { ⌜ filled (now list) ≡ true ⌝ }
     requires { ⌜ i * width + width ≤ length (now table) ⌝ }
-    ensures { λ r. ⌜ r ≡ numberIn (names (now (list .entry))) (valueIn (now (header .entry)) (now (message .entry)) (firstOf (drop (i * width) (now (table .entry))))) ⌝ }
+    ensures { λ r. ⌜ r ≡ numberIn (names (now (list .entry))) (valueIn (texts (now (header .entry)) (now (shared .entry)) (now (own .entry))) (firstOf (drop (i * width) (now (table .entry))))) ⌝ }
 {
-    if table[i * 8] == 0 {
-        return names::find(list, rows::ask::value(header, header, table, i));
+    let origin = field(table, i, 0);
+    if origin == 0 {
+        return names::find(list, rows::ask::value(header, table, i));
     }
-    names::find(list, rows::ask::value(message, message, table, i))
+    if origin == 1 {
+        return names::find(list, rows::ask::value(shared, table, i));
+    }
+    names::find(list, rows::ask::value(own, table, i))
 }
 
-fn unlisted_at(header: &[u8], message: &[u8], table: &[u32], i: usize) -> bool
+fn unlisted_at(header: &[u8], shared: &[u8], own: &[u8], table: &[u32], i: usize) -> bool
     requires { ⌜ i * width + width ≤ length (now table) ⌝ }
-    ensures { λ r. ⌜ r ≡ unlisted (now (header .entry)) (now (message .entry)) (firstOf (drop (i * width) (now (table .entry)))) ⌝ }
+    ensures { λ r. ⌜ r ≡ unlisted (texts (now (header .entry)) (now (shared .entry)) (now (own .entry))) (firstOf (drop (i * width) (now (table .entry)))) ⌝ }
 {
     let number = table[i * 8 + 6];
     if number == ALG {
         let list = algorithms::ALGS;
-        return number_in(&list, header, message, table, i) == 0;
+        return number_in(&list, header, shared, own, table, i) == 0;
     }
     if number == ENC {
         let list = algorithms::ENCS;
-        return number_in(&list, header, message, table, i) == 0;
+        return number_in(&list, header, shared, own, table, i) == 0;
     }
     if number == ZIP {
         let list = algorithms::ZIPS;
-        return number_in(&list, header, message, table, i) == 0;
+        return number_in(&list, header, shared, own, table, i) == 0;
     }
     false
 }
 
 // 15: whether the value of `alg`, `enc` or the compression parameter is not listed.
-pub fn unlisted(header: &[u8], message: &[u8], table: &[u32], count: usize) -> bool
+pub fn unlisted(header: &[u8], shared: &[u8], own: &[u8], table: &[u32], count: usize) -> bool
     requires { ⌜ count * width ≤ length (now table) ⌝ }
-    ensures { λ r. ⌜ r ≡ any (unlisted (now (header .entry)) (now (message .entry))) (entriesOf count (now (table .entry))) ⌝ }
+    ensures { λ r. ⌜ r ≡ any (unlisted (texts (now (header .entry)) (now (shared .entry)) (now (own .entry)))) (entriesOf count (now (table .entry))) ⌝ }
 {
     let mut i: usize = 0;
     while i < count {
-        if unlisted_at(header, message, table, i) {
+        if unlisted_at(header, shared, own, table, i) {
             return true;
         }
         i += 1;
@@ -166,26 +178,26 @@ pub fn unprotected(table: &[u32], count: usize) -> bool
     false
 }
 
-fn mode_at(header: &[u8], message: &[u8], table: &[u32], i: usize) -> u32
+fn mode_at(header: &[u8], shared: &[u8], own: &[u8], table: &[u32], i: usize) -> u32
     requires { ⌜ i * width + width ≤ length (now table) ⌝ }
-    ensures { λ r. ⌜ r ≡ modeOf (nth algs (numberIn algNames (valueIn (now (header .entry)) (now (message .entry)) (firstOf (drop (i * width) (now (table .entry))))))) ⌝ }
+    ensures { λ r. ⌜ r ≡ modeOf (nth algs (numberIn algNames (valueIn (texts (now (header .entry)) (now (shared .entry)) (now (own .entry))) (firstOf (drop (i * width) (now (table .entry))))))) ⌝ }
 {
     let list = algorithms::ALGS;
-    let NamedAlg::Alg(alg) = Alg::numbered(number_in(&list, header, message, table, i)) else {
+    let NamedAlg::Alg(alg) = Alg::numbered(number_in(&list, header, shared, own, table, i)) else {
         return 0;
     };
     alg.mode()
 }
 
 // The mode of the algorithm that the first `alg` names; 0 where none is named or listed.
-pub fn mode(header: &[u8], message: &[u8], table: &[u32], count: usize) -> u32
+pub fn mode(header: &[u8], shared: &[u8], own: &[u8], table: &[u32], count: usize) -> u32
     requires { ⌜ count * width ≤ length (now table) ⌝ }
-    ensures { λ r. ⌜ r ≡ modeIn (now (header .entry)) (now (message .entry)) (entriesOf count (now (table .entry))) ⌝ }
+    ensures { λ r. ⌜ r ≡ modeIn (texts (now (header .entry)) (now (shared .entry)) (now (own .entry))) (entriesOf count (now (table .entry))) ⌝ }
 {
     let mut i: usize = 0;
     while i < count {
         if table[i * 8 + 6] == ALG {
-            return mode_at(header, message, table, i);
+            return mode_at(header, shared, own, table, i);
         }
         i += 1;
     }

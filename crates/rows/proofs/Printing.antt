@@ -11,7 +11,7 @@ use Rattle.grammar.specs.Places.{Member}
 use Rattle.grammar.specs.Bounds.{Every}
 use Rattle.spelling.proofs.Fingerprints.{alike-fingerprint}
 use Rattle.prelude.specs.Any.{any, anyPair}
-use Rattle.rows.specs.Rows.{Entry, textOf, spelledName, entriesIn, nameIn, apart, same, repeated, clash, clashes}
+use Rattle.rows.specs.Rows.{Entry, Texts, textOf, spelledName, entriesIn, nameIn, apart, same, repeated, clash, clashes}
 use Rattle.rows.specs.Inner.Prints.{HasPrint, Printed}
 
 -- What holds of all of two lists holds of all of both.
@@ -34,14 +34,14 @@ any-pair-same P f g agree [] h = refl
 any-pair-same P f g agree (x ∷ xs) h =
     ap₂ _||_ (any-same P (f x) (g x) (λ y. agree x y (h .0)) xs (h .1)) (any-pair-same P f g agree xs (h .1))
 
-module _ (across : Bool) (header message : List ℕ) where
-  clash-same : (e f : Entry) → HasPrint header message e → HasPrint header message f →
-      clash across header message e f ≡ same across header message e f
+module _ (across : Bool) (ts : Texts) where
+  clash-same : (e f : Entry) → HasPrint ts e → HasPrint ts f →
+      clash across ts e f ≡ same across ts e f
   clash-same e f p q =
       ap (λ (b : Bool). apart across (e .origin) (f .origin) && b)
-      (cases (alike (nameIn header message e) (nameIn header message f)) refl (eqb (e .print) (f .print)) refl)
+      (cases (alike (nameIn ts e) (nameIn ts f)) refl (eqb (e .print) (f .print)) refl)
     where
-      cases : (a : Bool) → alike (nameIn header message e) (nameIn header message f) ≡ a → (b : Bool) →
+      cases : (a : Bool) → alike (nameIn ts e) (nameIn ts f) ≡ a → (b : Bool) →
           eqb (e .print) (f .print) ≡ b → (b && a) ≡ a
       cases true t b u =
           ap (λ (x : Bool). x && true)
@@ -49,23 +49,23 @@ module _ (across : Bool) (header message : List ℕ) where
       cases false t true u = refl
       cases false t false u = refl
 
-  pub clashes-repeated : (es : List Entry) → Printed header message es →
-      clashes across header message es ≡ repeated across header message es
+  pub clashes-repeated : (es : List Entry) → Printed ts es →
+      clashes across ts es ≡ repeated across ts es
   unfolding clashes repeated
   clashes-repeated es h =
-      any-pair-same (HasPrint header message) (clash across header message) (same across header message) clash-same es h
+      any-pair-same (HasPrint ts) (clash across ts) (same across ts) clash-same es h
 
 -- Entries of members have their fingerprints
 
-pub entries-printed : (names : List (List ℕ)) (header message s : List ℕ) (o : ℕ) (ms : List Member) →
-    s ≡ textOf header message o → Printed header message (entriesIn names s o ms)
+pub entries-printed : (names : List (List ℕ)) (ts : Texts) (s : List ℕ) (o : ℕ) (ms : List Member) →
+    s ≡ textOf ts o → Printed ts (entriesIn names s o ms)
 unfolding entriesIn
-entries-printed names header message s o [] e = tt
-entries-printed names header message s o (m ∷ ms) e = (
+entries-printed names ts s o [] e = tt
+entries-printed names ts s o (m ∷ ms) e = (
   ap (λ (x : List ℕ). fingerprint (undo (spelledName x m))) e,
-  entries-printed names header message s o ms e,
+  entries-printed names ts s o ms e,
 )
 
-pub printed-append : (header message : List ℕ) (es fs : List Entry) → Printed header message es →
-    Printed header message fs → Printed header message (es ++ fs)
-printed-append header message = every-append (HasPrint header message)
+pub printed-append : (ts : Texts) (es fs : List Entry) → Printed ts es →
+    Printed ts fs → Printed ts (es ++ fs)
+printed-append ts = every-append (HasPrint ts)

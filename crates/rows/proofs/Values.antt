@@ -7,21 +7,34 @@ use Prim.Native.Nat.{ℕ, zero, suc, _+_, _*_, _≤_, _<_}
 use lib.ListN.{drop}
 use Rattle.parts.specs.Parts.{part}
 use Rattle.grammar.specs.Places.{Place}
-use Rattle.rows.specs.Rows.{Entry, textOf, numbered, valueOf}
+use Rattle.rows.specs.Rows.{Entry, Texts, textOf, spelledName, spelledValue, nameIn, valueIn, numbered, valueOf}
 use Rattle.rows.specs.Tables.{firstOf, entriesOf}
 use Rattle.rows.proofs.Entries.{entry-at, entries-done}
 
--- The text is the header where the origin is 0, the message where it is another.
-module _ (header message : List ℕ) where
-  other : (o : ℕ) → (o ≡ 0 → ⊥) → textOf header message o ≡ message
-  other zero h = absurd (h refl)
-  other (suc o) h = refl
+-- The text by its origin, which is 0, 1 or another.
+module _ (ts : Texts) where
+  pub text-protected : {o origin : ℕ} → o ≡ origin → o ≡ 0 → textOf ts origin ≡ ts .protected
+  text-protected e z = ap (textOf ts) (sym e ∙ z)
 
-  pub text-header : {o origin : ℕ} → o ≡ origin → o ≡ 0 → textOf header message origin ≡ header
-  text-header e z = ap (textOf header message) (sym e ∙ z)
+  pub text-shared : {o origin : ℕ} → o ≡ origin → o ≡ 1 → textOf ts origin ≡ ts .shared
+  text-shared e z = ap (textOf ts) (sym e ∙ z)
 
-  pub text-message : {o origin : ℕ} → o ≡ origin → (o ≡ 0 → ⊥) → textOf header message origin ≡ message
-  text-message {o} {origin} e h = other origin (λ z. h (e ∙ z))
+  other : (o : ℕ) → (o ≡ 0 → ⊥) → (o ≡ 1 → ⊥) → textOf ts o ≡ ts .own
+  other zero h k = absurd (h refl)
+  other (suc zero) h k = absurd (k refl)
+  other (suc (suc o)) h k = refl
+
+  pub text-own : {o origin : ℕ} → o ≡ origin → (o ≡ 0 → ⊥) → (o ≡ 1 → ⊥) → textOf ts origin ≡ ts .own
+  text-own {o} {origin} e h k = other origin (λ z. h (e ∙ z)) (λ z. k (e ∙ z))
+
+-- What was read from a text is read from the one that the origin says.
+pub name-by : (ts : Texts) (e : Entry) {s w : List ℕ} → textOf ts (e .origin) ≡ s → w ≡ spelledName s (e .member) →
+    w ≡ nameIn ts e
+name-by ts e t p = p ∙ ap (λ (x : List ℕ). spelledName x (e .member)) (sym t)
+
+pub value-by : (ts : Texts) (e : Entry) {s w : List ℕ} → textOf ts (e .origin) ≡ s → w ≡ spelledValue s (e .member) →
+    w ≡ valueIn ts e
+value-by ts e t p = p ∙ ap (λ (x : List ℕ). spelledValue x (e .member)) (sym t)
 
 -- The same part, its text and its place known by other names.
 pub part-is : {x s text : List ℕ} {start begin size long : ℕ} → s ≡ text → start ≡ begin → size ≡ long

@@ -17,10 +17,28 @@ pub record Entry : Type 0 where
   pub number : ℕ
   pub print : ℕ
 
--- Origin 0 counts in the decoded protected header, others in the message.
-abbrev pub textOf : List ℕ → List ℕ → ℕ → List ℕ
-textOf header message zero = header
-textOf header message (suc o) = message
+-- The texts in which a recipient's three headers stand.
+pub record Texts : Type 0 where
+  pub protected : List ℕ
+  pub shared : List ℕ
+  pub own : List ℕ
+
+abbrev pub texts : List ℕ → List ℕ → List ℕ → Texts
+texts protected shared own = record { protected = protected; shared = shared; own = own }
+
+-- Those of a message that is read: the decoded protected header, and the message itself for both others.
+abbrev pub readTexts : List ℕ → List ℕ → Texts
+readTexts header message = texts header message message
+
+-- One text for all three: that of an object whose names are compared.
+abbrev pub oneText : List ℕ → Texts
+oneText s = texts s s s
+
+-- The text in which an entry of an origin counts.
+abbrev pub textOf : Texts → ℕ → List ℕ
+textOf ts zero = ts .protected
+textOf ts (suc zero) = ts .shared
+textOf ts (suc (suc o)) = ts .own
 
 -- A member's name as it is spelled, without quotation marks.
 abbrev pub spelledName : List ℕ → Member → List ℕ
@@ -45,11 +63,15 @@ entriesIn names s o ms = map (entryOf names s o) ms
 
 -- An entry's name and its string value, as they are spelled.
 
-abbrev pub nameIn : List ℕ → List ℕ → Entry → List ℕ
-nameIn header message e = spelledName (textOf header message (e .origin)) (e .member)
+abbrev pub nameIn : Texts → Entry → List ℕ
+nameIn ts e = spelledName (textOf ts (e .origin)) (e .member)
 
-abbrev pub valueIn : List ℕ → List ℕ → Entry → List ℕ
-valueIn header message e = spelledValue (textOf header message (e .origin)) (e .member)
+abbrev pub valueIn : Texts → Entry → List ℕ
+valueIn ts e = spelledValue (textOf ts (e .origin)) (e .member)
+
+-- Whether an entry's name says what a spelling does.
+abbrev pub nameSays : Texts → List ℕ → Entry → Bool
+nameSays ts w e = alike (nameIn ts e) w
 
 -- Whether an entry has the n-th of the names.
 abbrev pub numbered : ℕ → Entry → Bool
@@ -73,19 +95,19 @@ abbrev pub apart : Bool → ℕ → ℕ → Bool
 apart across o p = cond across (not (eqb o p)) (eqb o p)
 
 -- Whether two names of one object, or of two, say the same.
-abbrev pub same : Bool → List ℕ → List ℕ → Entry → Entry → Bool
-same across header message e f =
-    apart across (e .origin) (f .origin) && alike (nameIn header message e) (nameIn header message f)
+abbrev pub same : Bool → Texts → Entry → Entry → Bool
+same across ts e f =
+    apart across (e .origin) (f .origin) && alike (nameIn ts e) (nameIn ts f)
 
-unfoldable pub repeated : Bool → List ℕ → List ℕ → List Entry → Bool
-repeated across header message es = anyPair (same across header message) es
+unfoldable pub repeated : Bool → Texts → List Entry → Bool
+repeated across ts es = anyPair (same across ts) es
 
 -- The same as the code asks it: names with different fingerprints are not compared.
 
-abbrev pub clash : Bool → List ℕ → List ℕ → Entry → Entry → Bool
-clash across header message e f =
+abbrev pub clash : Bool → Texts → Entry → Entry → Bool
+clash across ts e f =
     apart across (e .origin) (f .origin)
-    && (eqb (e .print) (f .print) && alike (nameIn header message e) (nameIn header message f))
+    && (eqb (e .print) (f .print) && alike (nameIn ts e) (nameIn ts f))
 
-unfoldable pub clashes : Bool → List ℕ → List ℕ → List Entry → Bool
-clashes across header message es = anyPair (clash across header message) es
+unfoldable pub clashes : Bool → Texts → List Entry → Bool
+clashes across ts es = anyPair (clash across ts) es

@@ -2,7 +2,7 @@
 ghost use mathlib.Core.Path.{_≡_};
 ghost use Prim.Native.Nat.{_+_, _-_, _*_, _≤_, _<_};
 ghost use lib.ListN.{length, drop, getD};
-ghost use Rattle.rows.specs.Rows.{nameIn, valueIn, present, valueOf};
+ghost use Rattle.rows.specs.Rows.{spelledName, spelledValue, present, valueOf};
 ghost use Rattle.rows.specs.Tables.{firstOf, entriesOf, width};
 use prelude::Place;
 
@@ -16,31 +16,24 @@ pub fn field(table: &[u32], i: usize, k: usize) -> usize
     table[i * 8 + k] as usize
 }
 
-// The name of an entry as it is spelled: a part of the decoded header or of the message, as its origin says.
-pub fn name<'a>(header: &'a [u8], message: &'a [u8], table: &[u32], i: usize) -> &'a [u8]
+// The name of an entry as it is spelled: a part of the text that it stands in.
+pub fn name<'a>(text: &'a [u8], table: &[u32], i: usize) -> &'a [u8]
     requires { ⌜ i * width + width ≤ length (now table) ⌝ }
-    ensures { λ r. ⌜ now r ≡ nameIn (now (header .entry)) (now (message .entry)) (firstOf (drop (i * width) (now (table .entry)))) ⌝ }
+    ensures { λ r. ⌜ now r ≡ spelledName (now (text .entry)) (firstOf (drop (i * width) (now (table .entry))) .member) ⌝ }
 {
     let start = field(table, i, 1);
     let len = field(table, i, 2);
-    if field(table, i, 0) == 0 {
-        return parts::part(header, start, len);
-    }
-    parts::part(message, start, len)
+    parts::part(text, start, len)
 }
 
-// Its value, a string, without quotation marks, likewise.
-pub fn value<'a>(header: &'a [u8], message: &'a [u8], table: &[u32], i: usize) -> &'a [u8]
+// The value of an entry, a string, without quotation marks: a part of the text that it stands in.
+pub fn value<'a>(text: &'a [u8], table: &[u32], i: usize) -> &'a [u8]
     requires { ⌜ i * width + width ≤ length (now table) ⌝ }
-    ensures { λ r. ⌜ now r ≡ valueIn (now (header .entry)) (now (message .entry)) (firstOf (drop (i * width) (now (table .entry)))) ⌝ }
+    ensures { λ r. ⌜ now r ≡ spelledValue (now (text .entry)) (firstOf (drop (i * width) (now (table .entry))) .member) ⌝ }
 {
     let begin = field(table, i, 3) + 1;
     let size = prelude::minus(field(table, i, 4), 2);
-    let origin = field(table, i, 0);
-    if origin == 0 {
-        return parts::part(header, begin, size);
-    }
-    parts::part(message, begin, size)
+    parts::part(text, begin, size)
 }
 
 // Whether one of the first entries has the n-th of the names.

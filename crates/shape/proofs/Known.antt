@@ -17,7 +17,7 @@ use Rattle.json.specs.Inner.Known.{KnownIn}
 use Rattle.json.proofs.Knowing.{text-known}
 use Rattle.json.proofs.RowValues.{Reads, reads-known, members-read, elements-read}
 use Rattle.prelude.specs.Any.{any}
-use Rattle.rows.specs.Rows.{Entry, entryOf, entriesIn, numbered, present, valueOf, repeated}
+use Rattle.rows.specs.Rows.{Entry, oneText, entryOf, entriesIn, numbered, present, valueOf, repeated}
 use Rattle.prelude.specs.Refusals.{Test, _if_, first}
 use Rattle.prelude.proofs.Refusals.{nonzero, first-append}
 use Rattle.jose.specs.HeaderRules.{isEmpty}
@@ -142,7 +142,7 @@ module _ (message : List ℕ) where
         let es = topEntries message in
         let a = passes (unread message) 6 _ passed in
         let b = passes (ltb 32 (length es)) 7 _ (a .1) in
-        let c = passes (repeated false message message es) 8 _ (b .1) in
+        let c = passes (repeated false (oneText message) es) 8 _ (b .1) in
         let d = passes (wrongTop message es) 9 0 (c .1) in
         none-of (wrongMember message) es (or-none (any (wrongMember message) es) _ (d .0) .0)
 
@@ -190,7 +190,7 @@ unfolding first elementOrder objectOrder wrongElement elementEntries memberEntri
 element-header message start passed =
     let es = elementEntries message start in
     let a = passes (ltb 32 (length es)) 7 _ passed in
-    let b = passes (repeated false message message es) 8 _ (a .1) in
+    let b = passes (repeated false (oneText message) es) 8 _ (a .1) in
     let c = passes (wrongElement message es) 9 0 (b .1) in
     let reads = entries-read message memberNames 1 (membersAt 12 message start) (members-read 12 message start) in
     header-known message 3 es reads

@@ -3,13 +3,13 @@
 use mathlib.Core.Path.{_≡_, refl, ap, ap₂, sym, _∙_}
 use mathlib.Core.Bool.{Bool, true, false, not, _&&_, _||_, cond}
 use mathlib.Core.List.{List}
-use Prim.Native.Nat.{ℕ, zero, suc}
+use Prim.Native.Nat.{ℕ}
 use lib.Dec.{eqb}
 use borrow.Author.Tests.{eq-eqb, ne-eqb}
 use Rattle.parts.specs.Parts.{holds}
 use Rattle.grammar.specs.Grammar.{curly}
 use Rattle.prelude.specs.Any.{any}
-use Rattle.rows.specs.Rows.{Entry, textOf, numbered, present, spelledValue, valueIn}
+use Rattle.rows.specs.Rows.{Entry, numbered, present, spelledValue}
 use Rattle.shape.specs.Shape.{wrongComponent, hollow, wrongHeader, wrongMember, wrongTop, wrongInElement}
 
 -- A number that was read, against one that is asked for.
@@ -20,15 +20,7 @@ is-eqb {r} {n} {k} e h = eq-eqb n k (sym e ∙ h)
 pub isnt-eqb : {r n k : ℕ} → r ≡ n → (r ≡ k → ⊥) → eqb n k ≡ false
 isnt-eqb {r} {n} {k} e h = ne-eqb n k (λ p. h (e ∙ p))
 
--- Both texts are the message.
-one-text : (message : List ℕ) (o : ℕ) → textOf message message o ≡ message
-one-text message zero = refl
-one-text message (suc o) = refl
-
 module _ (message : List ℕ) (e : Entry) where
-  pub spelled-is : (w : List ℕ) → w ≡ valueIn message message e → w ≡ spelledValue message (e .member)
-  spelled-is w h = h ∙ ap (λ (s : List ℕ). spelledValue s (e .member)) (one-text message (e .origin))
-
   pub component-is : (a b c d : Bool) → eqb (e .member .kind) 2 ≡ a →
       holds 92 (spelledValue message (e .member)) ≡ b → numbered 8 e ≡ c → eqb (e .member .valueSize) 2 ≡ d →
       (not a || (b || (not c && d))) ≡ wrongComponent message e

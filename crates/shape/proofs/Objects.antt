@@ -14,7 +14,7 @@ use Rattle.grammar.specs.Places.{Member}
 use Rattle.grammar.specs.Reader.{Answer, nothing, found, skipSpace, membersAt, readText}
 use Rattle.json.specs.Inner.Ends.{foundOf}
 use Rattle.json.specs.declared.Found.{Found}
-use Rattle.rows.specs.Rows.{Entry, entryOf, entriesIn, repeated}
+use Rattle.rows.specs.Rows.{Entry, oneText, entryOf, entriesIn, repeated}
 use Rattle.rows.specs.Tables.{flat, entriesOf, collectedTable}
 use Rattle.rows.proofs.Entries.{flat-length, entries-written}
 use Rattle.prelude.specs.Refusals.{Test, _if_, first, stageOf}
@@ -59,7 +59,7 @@ few : (s : List ℕ) (es : List Entry) → first (objectOrder s es) ≡ 0 → le
 unfolding first objectOrder
 few s es e = ltb-false 32 (length es) (cases (ltb 32 (length es)) e)
   where
-    cases : (b : Bool) → _≡_ {A = ℕ} (cond b 8 (cond (repeated false s s es) 9 0)) 0 → b ≡ false
+    cases : (b : Bool) → _≡_ {A = ℕ} (cond b 8 (cond (repeated false (oneText s) es) 9 0)) 0 → b ≡ false
     cases true z = let absurdity : _≡_ {A = ℕ} 8 0 = z in absurd (omega arith)
     cases false z = refl
 

@@ -21,7 +21,7 @@ fn wrong_component(message: &[u8], table: &[u32], i: usize) -> bool
     if field(table, i, 5) != 2 {
         return true;
     }
-    if parts::holds(rows::ask::value(message, message, table, i), 92) {
+    if parts::holds(rows::ask::value(message, table, i), 92) {
         return true;
     }
     if field(table, i, 6) == 8 {

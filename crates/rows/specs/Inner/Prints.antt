@@ -4,12 +4,12 @@ use mathlib.Core.List.{List}
 use Prim.Native.Nat.{ℕ}
 use Rattle.grammar.specs.Spellings.{undo, fingerprint}
 use Rattle.grammar.specs.Bounds.{Every}
-use Rattle.rows.specs.Rows.{Entry, nameIn}
+use Rattle.rows.specs.Rows.{Entry, Texts, nameIn}
 
 -- Of an entry.
-abbrev pub HasPrint : List ℕ → List ℕ → Entry → Type 0
-HasPrint header message e = e .print ≡ fingerprint (undo (nameIn header message e))
+abbrev pub HasPrint : Texts → Entry → Type 0
+HasPrint ts e = e .print ≡ fingerprint (undo (nameIn ts e))
 
 -- Of all.
-abbrev pub Printed : List ℕ → List ℕ → List Entry → Type 0
-Printed header message es = Every (HasPrint header message) es
+abbrev pub Printed : Texts → List Entry → Type 0
+Printed ts es = Every (HasPrint ts) es

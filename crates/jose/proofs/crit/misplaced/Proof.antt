@@ -10,9 +10,9 @@ use Rattle.names.specs.Names.{listOf, numberIn}
 use Rattle.names.proofs.Laws.{names-of}
 use Rattle.names.proofs.Contents.{filled-list}
 use Rattle.prelude.specs.Any.{any}
+use Rattle.rows.specs.Rows.{texts, nameSays}
 use Rattle.rows.specs.Tables.{entriesOf}
 use Rattle.jose.specs.Registered.{registered}
-use Rattle.jose.specs.HeaderRules.{nameSays}
 use borrow.Author.Needs.{needs}
 use Rattle.jose.proofs.crit.misplaced.Statement.{statement}
 use Rattle.jose.proofs.crit.misplaced.Tie as tie
@@ -42,13 +42,13 @@ named-requires c κs = search needs
 returns-2 : tie.Need-returns-2
 unfolding listOf registered ascii flatten
 returns-2 c =
-    let given = c .before .before .before .before .before .before .before .before .before .args in
+    let given = c .before .before .before .before .before .before .before .before .before .before .args in
     let es = entriesOf (given .count) (given .table .now) in
     let word = c .before .before .before .before .spelled in
     let number =
     c .before .before .find .ensures ∙ ap (λ ns. numberIn ns (word .result .now)) (names-of registered)
     ∙ ap (numberIn registered) (word .ensures) in
-    let some : List ℕ → Bool = λ w. any (nameSays (given .header .now) (given .message .now) w) es in
+    let some : List ℕ → Bool = λ w. any (nameSays (texts (given .header .now) (given .shared .now) (given .own .now)) w) es in
     simp (sym number, eq-eqb _ _ (c .before .if1 .left)) (ap not (c .named .ensures ∙ ap some (word .ensures)))
 
 pub misplaced-spec : {M : Type 1} → statement M

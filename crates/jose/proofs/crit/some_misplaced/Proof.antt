@@ -3,6 +3,7 @@ use mathlib.Core.Path.{_≡_, ap, sym, _∙_}
 use native.Mathlib.Omega.{arith}
 use Rattle.grammar.specs.Reader.{elementsAt}
 use Rattle.prelude.specs.Any.{any}
+use Rattle.rows.specs.Rows.{texts}
 use Rattle.rows.specs.Tables.{entriesOf}
 use Rattle.jose.specs.HeaderRules.{misplaced}
 use Rattle.prelude.specs.Limits.{levels}
@@ -14,22 +15,22 @@ use Rattle.jose.proofs.crit.some_misplaced.Statement.{statement}
 use Rattle.jose.proofs.crit.some_misplaced.Tie as tie
 
 abbrev Inv-loop : tie.InvT-loop
-Inv-loop header message table count s at p₀ left₀ p left =
-    any (misplaced header message (entriesOf count table) s) (elementsFrom s left (p .at))
-    ≡ any (misplaced header message (entriesOf count table) s) (elementsAt levels s at)
+Inv-loop header shared own table count s at p₀ left₀ p left =
+    any (misplaced (texts header shared own) (entriesOf count table) s) (elementsFrom s left (p .at))
+    ≡ any (misplaced (texts header shared own) (entriesOf count table) s) (elementsAt levels s at)
 
 abbrev μ-loop : tie.MeasureT-loop
-μ-loop header message table count s at p₀ left₀ p left = left
+μ-loop header shared own table count s at p₀ left₀ p left = left
 
 inside-requires : tie.Need-inside-requires Inv-loop μ-loop
 inside-requires c κs = search needs
 
 loop-holds : tie.Need-loop-holds Inv-loop μ-loop
 loop-holds c =
-    let given = c .before .before .before .before .before .args in
+    let given = c .before .before .before .before .before .before .args in
     let s = given .s .now in
     let es = entriesOf (given .count) (given .table .now) in
-    ap (any (misplaced (given .header .now) (given .message .now) es s))
+    ap (any (misplaced (texts (given .header .now) (given .shared .now) (given .own .now)) es s))
     (elements-all s (given .at) (c .inside .result .at) (c .inside .ensures))
 
 element-requires : tie.Need-element-requires Inv-loop μ-loop

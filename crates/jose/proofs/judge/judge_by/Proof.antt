@@ -1,49 +1,53 @@
 -- `judge_by` asks the rules one after the other: the first that is broken from the next one on is the first of all.
 use Prim.Native.Nat.{ℕ, _-_, _≤_}
-use mathlib.Core.Path.{_≡_, refl, ap, sym, _∙_}
+use mathlib.Core.Path.{_≡_, ap, ap₂, sym, _∙_}
 use mathlib.Core.Bool.{Bool}
 use mathlib.Core.List.{List}
 use native.Mathlib.Omega.{arith}
-use lib.ListN.{length, drop, getD}
+use lib.ListN.{length, drop}
 use Rattle.names.specs.Names.{names}
-use Rattle.prelude.specs.declared.Stage.the-variants.{Passed}
-use Rattle.rows.specs.Rows.{Entry}
+use Rattle.prelude.specs.Refusals.{first, stageOf}
+use Rattle.prelude.specs.declared.Stage.{Stage}
+use Rattle.rows.specs.Rows.{Entry, Texts, texts}
 use Rattle.rows.specs.Tables.{entriesOf}
-use Rattle.jose.specs.HeaderRules.{wrongKey, breaks}
-use Rattle.jose.proofs.Order.{broken, ordered, rule-kept, rule-broken, rules-kept}
+use Rattle.jose.specs.HeaderRules.{wrongKey, modeIn, testsOf}
+use Rattle.jose.proofs.Order.{ordered, rule-kept, rule-broken, rules-kept}
 use borrow.Author.Needs.{needs}
 use Rattle.jose.proofs.judge.judge_by.Statement.{statement}
 use Rattle.jose.proofs.judge.judge_by.Tie as tie
 
 abbrev Inv-loop : tie.InvT-loop
-Inv-loop rules header message known table count no-key mode bad-key i₀ i =
-    let all = ordered (names known) header message (entriesOf count table) no-key in
+Inv-loop rules header shared own known table count mode bad-key i₀ i =
+    let all = ordered (names known) (texts header shared own) (entriesOf count table) bad-key in
     (i ≤ length rules) × (all (drop i rules) ≡ all rules)
 
 abbrev μ-loop : tie.MeasureT-loop
-μ-loop rules header message known table count no-key mode bad-key i₀ i = length rules - i
+μ-loop rules header shared own known table count mode bad-key i₀ i = length rules - i
 
--- back to the start from the loop, and the entries of what was given
+-- back to the start from the loop, and what was given
 abbrev start : tie.At-loop Inv-loop μ-loop → tie.Start Inv-loop μ-loop
-start at = at .before .before .before .before .before .before .before .before
+start at = at .before .before .before .before .before .before .before .before .before
+
+abbrev known : tie.At-loop Inv-loop μ-loop → List (List ℕ)
+known at = names (start at .args .known .now)
+
+abbrev given : tie.At-loop Inv-loop μ-loop → Texts
+given at = let args = start at .args in texts (args .header .now) (args .shared .now) (args .own .now)
 
 abbrev entries : tie.At-loop Inv-loop μ-loop → List Entry
 entries at = entriesOf (start at .args .count) (start at .args .table .now)
 
--- what a call of `breaks` answers of the rule there
-asked : (c : tie.After-breaks Inv-loop μ-loop) →
-    let at = c .before .before .before in
-    let given = start at .args in
-    c .breaks .result
-    ≡ broken (names (given .known .now)) (given .header .now) (given .message .now) (entries at) (given .no-key)
-    (getD (given .rules .now) (at .loop .i) 0)
-asked c =
-    let at = c .before .before .before in
-    let given = start at .args in
-    c .breaks .ensures
-    ∙ ap (λ (bad : Bool). breaks (names (given .known .now)) (given .header .now) (given .message .now) (entries at) bad
-    (getD (given .rules .now) (at .loop .i) 0))
-    (at .before .wrong-key .ensures ∙ ap (λ (m : ℕ). wrongKey m (given .no-key)) (at .before .before .mode .ensures))
+-- what is answered, the key and the mode being as they were found
+abbrev answer : tie.At-loop Inv-loop μ-loop → Bool → ℕ → Stage
+answer at bad mode = stageOf (first (testsOf (known at) (given at) (entries at) bad (start at .args .rules .now))) mode
+
+found : (at : tie.At-loop Inv-loop μ-loop) →
+    let m = modeIn (given at) (entries at) in
+    answer at (at .before .wrong-key .result) (at .before .before .mode .result)
+    ≡ answer at (wrongKey m (start at .args .sizes)) m
+found at =
+    let mode = at .before .before .mode .ensures in
+    ap₂ (answer at) (at .before .wrong-key .ensures ∙ ap (λ (m : ℕ). wrongKey m (start at .args .sizes)) mode) mode
 
 mode-requires : tie.Need-mode-requires Inv-loop μ-loop
 mode-requires c κs = search needs
@@ -66,10 +70,9 @@ breaks-requires c κs = search needs
 returns : tie.Need-returns Inv-loop μ-loop
 returns c =
     let at = c .before .before .before .before in
-    let given = start at .args in
-    rule-broken (names (given .known .now)) (given .header .now) (given .message .now) (entries at) (given .no-key)
-    (given .rules .now) (at .loop .i) (at .loop .inv .1) (c .before .before .before .loop-test .taken)
-    (sym (asked (c .before)) ∙ c .if1 .taken)
+    rule-broken (known at) (given at) (entries at) _ (start at .args .rules .now) (at .loop .i) (at .loop .inv .1)
+    (c .before .before .before .loop-test .taken) (sym (c .before .breaks .ensures) ∙ c .if1 .taken) _
+    ∙ found at
 
 add-i : tie.Need-add-i Inv-loop μ-loop
 add-i c = search needs
@@ -79,24 +82,21 @@ loop-less c = search needs
 
 loop-again : tie.Need-loop-again Inv-loop μ-loop
 loop-again c =
-    let at = c .before .before .before .before in
-    let given = start at .args in (
+    let at = c .before .before .before .before in (
       omega arith,
-      rule-kept (names (given .known .now)) (given .header .now) (given .message .now) (entries at) (given .no-key)
-          (given .rules .now) (at .loop .i) (at .loop .inv .1) (c .before .before .before .loop-test .taken)
-          (sym (asked (c .before)) ∙ c .if1 .left),
+      rule-kept (known at) (given at) (entries at) _ (start at .args .rules .now) (at .loop .i) (at .loop .inv .1)
+          (c .before .before .before .loop-test .taken) (sym (c .before .breaks .ensures) ∙ c .if1 .left),
     )
 
-cast-t17 : tie.Need-cast-t17 Inv-loop μ-loop
-cast-t17 c = search needs
+cast-t18 : tie.Need-cast-t18 Inv-loop μ-loop
+cast-t18 c = search needs
 
 returns-2 : tie.Need-returns-2 Inv-loop μ-loop
 returns-2 c =
     let at = c .before in
-    let given = start at .args in
-    ap Passed (at .before .before .mode .ensures)
-    ∙ rules-kept (names (given .known .now)) (given .header .now) (given .message .now) (entries at) (given .no-key)
-    (given .rules .now) (at .loop .i) (at .loop .inv .1) (c .loop-test .left)
+    rules-kept (known at) (given at) (entries at) _ (start at .args .rules .now) (at .loop .i) (at .loop .inv .1)
+    (c .loop-test .left) _
+    ∙ found at
 
 pub judge-by-spec : {M : Type 1} → statement M
 judge-by-spec =
@@ -114,5 +114,5 @@ judge-by-spec =
     add-i
     loop-less
     loop-again
-    cast-t17
+    cast-t18
     returns-2)

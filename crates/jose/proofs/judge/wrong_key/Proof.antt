@@ -20,18 +20,19 @@ keyed false = refl
 
 returns : tie.Need-returns
 returns c =
-    let args = c .before .args in
-    keyless (args .no-key) ∙ sym (ap (λ (m : ℕ). wrongKey m (args .no-key)) (c .if1 .taken))
+    let args = c .before .before .args in
+    keyless (eqb (args .sizes .key) 0) ∙ sym (ap (λ (m : ℕ). wrongKey m (args .sizes)) (c .before .if1 .taken))
 
 returns-2 : tie.Need-returns-2
 returns-2 c =
-    let args = c .before .before .args in
-    keyless (args .no-key) ∙ sym (ap (λ (m : ℕ). wrongKey m (args .no-key)) (c .if2 .taken))
+    let args = c .before .before .before .args in
+    keyless (eqb (args .sizes .key) 0) ∙ sym (ap (λ (m : ℕ). wrongKey m (args .sizes)) (c .before .if2 .taken))
 
 returns-3 : tie.Need-returns-3
 returns-3 c =
-    let args = c .before .before .args in
-    keyed (args .no-key) ∙ sym (simp (ne-eqb (args .mode) 3 (c .before .if1 .left), ne-eqb (args .mode) 5 (c .if2 .left)))
+    let args = c .before .before .before .args in
+    keyed (eqb (args .sizes .key) 0)
+    ∙ sym (simp (ne-eqb (args .mode) 3 (c .before .before .if1 .left), ne-eqb (args .mode) 5 (c .before .if2 .left)))
 
 pub wrong-key-spec : {M : Type 1} → statement M
 wrong-key-spec = tie.close (tie.spec returns returns-2 returns-3)

@@ -2,6 +2,7 @@
 use mathlib.Core.Path.{_≡_, refl, sym, _∙_}
 use Prim.Native.Nat.{_-_, _≤_}
 use lib.ListN.{drop}
+use Rattle.rows.specs.Rows.{texts}
 use Rattle.rows.specs.Tables.{entriesOf}
 use Rattle.jose.specs.HeaderRules.{modeIn}
 use Rattle.jose.proofs.Asked.{number-at, mode-turn, mode-found, mode-done}
@@ -10,12 +11,12 @@ use Rattle.jose.proofs.rules.mode.Statement.{statement}
 use Rattle.jose.proofs.rules.mode.Tie as tie
 
 abbrev Inv-loop : tie.InvT-loop
-Inv-loop header message table count i₀ i =
+Inv-loop header shared own table count i₀ i =
     (i ≤ count)
-    × (modeIn header message (drop i (entriesOf count table)) ≡ modeIn header message (entriesOf count table))
+    × (modeIn (texts header shared own) (drop i (entriesOf count table)) ≡ modeIn (texts header shared own) (entriesOf count table))
 
 abbrev μ-loop : tie.MeasureT-loop
-μ-loop header message table count i₀ i = count - i
+μ-loop header shared own table count i₀ i = count - i
 
 loop-holds : tie.Need-loop-holds Inv-loop μ-loop
 loop-holds c = (search needs, refl)
@@ -38,13 +39,12 @@ mode-at-requires c κs = search needs
 returns : tie.Need-returns Inv-loop μ-loop
 returns c =
     let loop = c .before .before .before .before .loop in
-    let args = c .before .before .before .before .before .before .before .before .args in
-    let header = args .header .now in
-    let message = args .message .now in
+    let args = c .before .before .before .before .before .before .before .before .before .args in
+    let ts = texts (args .header .now) (args .shared .now) (args .own .now) in
     let t = args .table .now in
-    let answer = modeIn header message (entriesOf (args .count) t) in
+    let answer = modeIn ts (entriesOf (args .count) t) in
     c .mode-at .ensures
-    ∙ mode-found header message answer (args .count) (loop .i) t (loop .inv .1)
+    ∙ mode-found ts answer (args .count) (loop .i) t (loop .inv .1)
     (c .before .before .before .loop-test .taken) (number-at t (loop .i) 6 ∙ c .before .if1 .taken)
 
 add-i : tie.Need-add-i Inv-loop μ-loop
@@ -56,25 +56,23 @@ loop-less c = search needs
 loop-again : tie.Need-loop-again Inv-loop μ-loop
 loop-again c =
     let loop = c .before .before .before .loop in
-    let args = c .before .before .before .before .before .before .before .args in
-    let header = args .header .now in
-    let message = args .message .now in
+    let args = c .before .before .before .before .before .before .before .before .args in
+    let ts = texts (args .header .now) (args .shared .now) (args .own .now) in
     let t = args .table .now in
-    let answer = modeIn header message (entriesOf (args .count) t) in (
+    let answer = modeIn ts (entriesOf (args .count) t) in (
       search needs,
-      mode-turn header message answer (args .count) (loop .i) t (loop .inv .1)
+      mode-turn ts answer (args .count) (loop .i) t (loop .inv .1)
           (c .before .before .loop-test .taken) (λ e. c .if1 .left (sym (number-at t (loop .i) 6) ∙ e)),
     )
 
 returns-2 : tie.Need-returns-2 Inv-loop μ-loop
 returns-2 c =
     let loop = c .before .loop in
-    let args = c .before .before .before .before .before .args in
-    let header = args .header .now in
-    let message = args .message .now in
+    let args = c .before .before .before .before .before .before .args in
+    let ts = texts (args .header .now) (args .shared .now) (args .own .now) in
     let t = args .table .now in
-    let answer = modeIn header message (entriesOf (args .count) t) in
-    mode-done header message answer (args .count) (loop .i) t (loop .inv .1) (c .loop-test .left)
+    let answer = modeIn ts (entriesOf (args .count) t) in
+    mode-done ts answer (args .count) (loop .i) t (loop .inv .1) (c .loop-test .left)
 
 pub mode-spec : {M : Type 1} → statement M
 mode-spec =

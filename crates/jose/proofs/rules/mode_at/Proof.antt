@@ -6,7 +6,7 @@ use lib.ListN.{drop}
 use Rattle.prelude.specs.Ascii.{ascii}
 use Rattle.names.specs.Names.{listOf, numberIn}
 use Rattle.names.proofs.Contents.{names-of, filled-list}
-use Rattle.rows.specs.Rows.{valueIn}
+use Rattle.rows.specs.Rows.{texts, valueIn}
 use Rattle.rows.specs.Tables.{firstOf}
 use Rattle.algorithms.specs.Algorithms.{algs, algName, algNames, nth, namedAlg}
 use Rattle.algorithms.proofs.Numbered.{unlisted-mode, listed-mode}
@@ -33,8 +33,8 @@ enum-told c = search needs
 returns : tie.Need-returns
 unfolding listOf flatten ascii algs algName algNames
 returns c =
-    let args = c .before .before .before .before .before .before .before .before .args in
-    let value = valueIn (args .header .now) (args .message .now) (firstOf (drop (args .i * 8) (args .table .now))) in
+    let args = c .before .before .before .before .before .before .before .before .before .args in
+    let value = valueIn (texts (args .header .now) (args .shared .now) (args .own .now)) (firstOf (drop (args .i * 8) (args .table .now))) in
     unlisted-mode (nth algs (numberIn algNames value))
     (sym (c .enum-told .given .1) ∙ c .before .before .numbered .ensures
     ∙ ap (λ (n : ℕ). namedAlg (nth algs n))
@@ -48,8 +48,8 @@ returns-2 : tie.Need-returns-2
 unfolding listOf flatten ascii algs algName algNames
 returns-2 c =
     let numbered = c .before .before .before .before in
-    let args = numbered .before .before .before .before .before .before .args in
-    let value = valueIn (args .header .now) (args .message .now) (firstOf (drop (args .i * 8) (args .table .now))) in
+    let args = numbered .before .before .before .before .before .before .before .args in
+    let value = valueIn (texts (args .header .now) (args .shared .now) (args .own .now)) (firstOf (drop (args .i * 8) (args .table .now))) in
     c .mode .ensures
     ∙ listed-mode (nth algs (numberIn algNames value)) _
     (sym (c .before .before .alg .given .1) ∙ numbered .numbered .ensures

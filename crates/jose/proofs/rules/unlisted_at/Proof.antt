@@ -7,7 +7,7 @@ use lib.Dec.{eqb}
 use Rattle.prelude.specs.Ascii.{ascii}
 use Rattle.names.specs.Names.{listOf, numberIn}
 use Rattle.names.proofs.Contents.{names-of, filled-list}
-use Rattle.rows.specs.Rows.{valueIn}
+use Rattle.rows.specs.Rows.{texts, valueIn}
 use Rattle.rows.specs.Tables.{firstOf}
 use Rattle.algorithms.specs.Algorithms.{algs, algName, algNames, encs, encName, encNames, zipNames}
 use Rattle.jose.proofs.Asked.{number-at, alg-value, enc-value, zip-value, no-value}
@@ -37,13 +37,12 @@ number-in-requires c κs = (filled-list algNames, search needs)
 returns : tie.Need-returns
 unfolding listOf flatten ascii algs algName algNames
 returns c =
-    let args = c .before .before .before .before .before .before .before .args in
-    let header = args .header .now in
-    let message = args .message .now in
+    let args = c .before .before .before .before .before .before .before .before .args in
+    let ts = texts (args .header .now) (args .shared .now) (args .own .now) in
     let e = firstOf (drop (args .i * 8) (args .table .now)) in
     ap (λ (n : ℕ). eqb n 0)
-    (c .number-in .ensures ∙ ap (λ (ns : List (List ℕ)). numberIn ns (valueIn header message e)) (names-of algNames))
-    ∙ alg-value header message e (number-at (args .table .now) (args .i) 6 ∙ c .before .before .if1 .taken)
+    (c .number-in .ensures ∙ ap (λ (ns : List (List ℕ)). numberIn ns (valueIn ts e)) (names-of algNames))
+    ∙ alg-value ts e (number-at (args .table .now) (args .i) 6 ∙ c .before .before .if1 .taken)
 
 slice-aggregate-number-in-2 : tie.Need-slice-aggregate-number-in-2
 slice-aggregate-number-in-2 c = search needs
@@ -55,13 +54,12 @@ number-in-requires-2 c κs = (filled-list encNames, search needs)
 returns-2 : tie.Need-returns-2
 unfolding listOf flatten ascii encs encName encNames
 returns-2 c =
-    let args = c .before .before .before .before .before .before .before .before .args in
-    let header = args .header .now in
-    let message = args .message .now in
+    let args = c .before .before .before .before .before .before .before .before .before .args in
+    let ts = texts (args .header .now) (args .shared .now) (args .own .now) in
     let e = firstOf (drop (args .i * 8) (args .table .now)) in
     ap (λ (n : ℕ). eqb n 0)
-    (c .number-in2 .ensures ∙ ap (λ (ns : List (List ℕ)). numberIn ns (valueIn header message e)) (names-of encNames))
-    ∙ enc-value header message e (number-at (args .table .now) (args .i) 6 ∙ c .before .before .if2 .taken)
+    (c .number-in2 .ensures ∙ ap (λ (ns : List (List ℕ)). numberIn ns (valueIn ts e)) (names-of encNames))
+    ∙ enc-value ts e (number-at (args .table .now) (args .i) 6 ∙ c .before .before .if2 .taken)
 
 slice-aggregate-number-in-3 : tie.Need-slice-aggregate-number-in-3
 slice-aggregate-number-in-3 c = search needs
@@ -73,19 +71,18 @@ number-in-requires-3 c κs = (filled-list zipNames, search needs)
 returns-3 : tie.Need-returns-3
 unfolding listOf flatten ascii zipNames
 returns-3 c =
-    let args = c .before .before .before .before .before .before .before .before .before .args in
-    let header = args .header .now in
-    let message = args .message .now in
+    let args = c .before .before .before .before .before .before .before .before .before .before .args in
+    let ts = texts (args .header .now) (args .shared .now) (args .own .now) in
     let e = firstOf (drop (args .i * 8) (args .table .now)) in
     ap (λ (n : ℕ). eqb n 0)
-    (c .number-in3 .ensures ∙ ap (λ (ns : List (List ℕ)). numberIn ns (valueIn header message e)) (names-of zipNames))
-    ∙ zip-value header message e (number-at (args .table .now) (args .i) 6 ∙ c .before .before .if3 .taken)
+    (c .number-in3 .ensures ∙ ap (λ (ns : List (List ℕ)). numberIn ns (valueIn ts e)) (names-of zipNames))
+    ∙ zip-value ts e (number-at (args .table .now) (args .i) 6 ∙ c .before .before .if3 .taken)
 
 returns-4 : tie.Need-returns-4
 returns-4 c =
-    let args = c .before .before .before .before .before .before .before .args in
+    let args = c .before .before .before .before .before .before .before .before .args in
     let number = number-at (args .table .now) (args .i) 6 in
-    no-value (args .header .now) (args .message .now) (firstOf (drop (args .i * 8) (args .table .now)))
+    no-value (texts (args .header .now) (args .shared .now) (args .own .now)) (firstOf (drop (args .i * 8) (args .table .now)))
     (λ e. c .before .before .if1 .left (sym number ∙ e)) (λ e. c .before .if2 .left (sym number ∙ e))
     (λ e. c .if3 .left (sym number ∙ e))
 

@@ -1,6 +1,6 @@
 -- `clash` compares the fingerprints, the origins, and then the names.
 use mathlib.Core.Path.{ap₂, sym, _∙_}
-use Rattle.rows.specs.Rows.{apart}
+use Rattle.rows.specs.Rows.{texts, apart}
 use Rattle.rows.proofs.Values.{entry}
 use Rattle.rows.proofs.Clashing.{clash-apart, clash-alike, clash-beside}
 use borrow.Author.Needs.{needs}
@@ -15,10 +15,10 @@ field-requires-2 c κs = search needs
 
 returns : tie.Need-returns
 returns c =
-    let args = c .before .before .before .before .before .before .args in
+    let args = c .before .before .before .before .before .before .before .args in
     let e = entry (args .table .now) (args .i) in
     let f = entry (args .table .now) (args .j) in
-    sym (clash-apart (args .across) (args .header .now) (args .message .now) e f
+    sym (clash-apart (args .across) (texts (args .header .now) (args .shared .now) (args .own .now)) e f
     (λ p. c .if1 .taken (c .before .before .field .ensures .0 ∙ p ∙ sym (c .before .field2 .ensures .0))))
 
 field-requires-3 : tie.Need-field-requires-3
@@ -35,24 +35,24 @@ same-requires c κs = search needs
 
 returns-2 : tie.Need-returns-2
 returns-2 c =
-    let args = c .before .before .before .before .before .before .before .before .before .before .before .args in
+    let args = c .before .before .before .before .before .before .before .before .before .before .before .before .args in
     let e = entry (args .table .now) (args .i) in
     let f = entry (args .table .now) (args .j) in
     let prints = sym (c .before .before .before .before .before .before .before .field .ensures .0) ∙ c .before .before .before .before .before .if1 .left ∙ c .before .before .before .before .before .before .field2 .ensures .0 in
     let origins =
     sym (ap₂ (apart (args .across)) (c .before .before .before .before .field3 .ensures .0) (c .before .before .before .field4 .ensures .0))
     ∙ sym (c .before .before .apart .ensures) ∙ c .before .if2 .taken in
-    c .same .ensures ∙ sym (clash-alike (args .across) (args .header .now) (args .message .now) e f prints origins)
+    c .same .ensures ∙ sym (clash-alike (args .across) (texts (args .header .now) (args .shared .now) (args .own .now)) e f prints origins)
 
 returns-3 : tie.Need-returns-3
 returns-3 c =
-    let args = c .before .before .before .before .before .before .before .before .before .before .args in
+    let args = c .before .before .before .before .before .before .before .before .before .before .before .args in
     let e = entry (args .table .now) (args .i) in
     let f = entry (args .table .now) (args .j) in
     let origins =
     sym (ap₂ (apart (args .across)) (c .before .before .before .field3 .ensures .0) (c .before .before .field4 .ensures .0))
     ∙ sym (c .before .apart .ensures) ∙ c .if2 .left in
-    sym (clash-beside (args .across) (args .header .now) (args .message .now) e f origins)
+    sym (clash-beside (args .across) (texts (args .header .now) (args .shared .now) (args .own .now)) e f origins)
 
 pub clash-spec : {M : Type 1} → statement M
 clash-spec =

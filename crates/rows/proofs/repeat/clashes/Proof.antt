@@ -4,7 +4,7 @@ use mathlib.Core.Path.{_≡_, refl, sym, _∙_}
 use native.Mathlib.Omega.{arith}
 use lib.ListN.{drop}
 use Rattle.prelude.specs.Any.{anyPair}
-use Rattle.rows.specs.Rows.{clash, clashes}
+use Rattle.rows.specs.Rows.{texts, clash, clashes}
 use Rattle.rows.specs.Tables.{entriesOf}
 use Rattle.rows.proofs.Asking.{pair-turn, pair-found, pair-done}
 use borrow.Author.Needs.{needs}
@@ -12,12 +12,12 @@ use Rattle.rows.proofs.repeat.clashes.Statement.{statement}
 use Rattle.rows.proofs.repeat.clashes.Tie as tie
 
 abbrev Inv-loop : tie.InvT-loop
-Inv-loop header message table count across i₀ i =
-    let all = clashes across header message (entriesOf count table) in
-    (i ≤ count) × (anyPair (clash across header message) (drop i (entriesOf count table)) ≡ all)
+Inv-loop header shared own table count across i₀ i =
+    let all = clashes across (texts header shared own) (entriesOf count table) in
+    (i ≤ count) × (anyPair (clash across (texts header shared own)) (drop i (entriesOf count table)) ≡ all)
 
 abbrev μ-loop : tie.MeasureT-loop
-μ-loop header message table count across i₀ i = count - i
+μ-loop header shared own table count across i₀ i = count - i
 
 loop-holds : tie.Need-loop-holds Inv-loop μ-loop
 unfolding clashes
@@ -28,8 +28,8 @@ clashes-with-requires c κs = search needs
 
 returns : tie.Need-returns Inv-loop μ-loop
 returns c =
-    let args = c .before .before .before .before .before .before .before .args in
-    let test = clash (args .across) (args .header .now) (args .message .now) in
+    let args = c .before .before .before .before .before .before .before .before .args in
+    let test = clash (args .across) (texts (args .header .now) (args .shared .now) (args .own .now)) in
     let loop = c .before .before .before .loop in
     pair-found test _ (args .count) (loop .i) (args .table .now) (loop .inv .1) (c .before .before .loop-test .taken)
     (sym (c .before .clashes-with .ensures) ∙ c .if1 .taken)
@@ -42,8 +42,8 @@ loop-less c = search needs
 
 loop-again : tie.Need-loop-again Inv-loop μ-loop
 loop-again c =
-    let args = c .before .before .before .before .before .before .before .args in
-    let test = clash (args .across) (args .header .now) (args .message .now) in
+    let args = c .before .before .before .before .before .before .before .before .args in
+    let test = clash (args .across) (texts (args .header .now) (args .shared .now) (args .own .now)) in
     let loop = c .before .before .before .loop in (
       omega arith,
       pair-turn test _ (args .count) (loop .i) (args .table .now) (loop .inv .1) (c .before .before .loop-test .taken)
@@ -52,8 +52,8 @@ loop-again c =
 
 returns-2 : tie.Need-returns-2 Inv-loop μ-loop
 returns-2 c =
-    let args = c .before .before .before .before .before .args in
-    let test = clash (args .across) (args .header .now) (args .message .now) in
+    let args = c .before .before .before .before .before .before .args in
+    let test = clash (args .across) (texts (args .header .now) (args .shared .now) (args .own .now)) in
     let loop = c .before .loop in
     pair-done test _ (args .count) (loop .i) (args .table .now) (loop .inv .1) (c .loop-test .left)
 

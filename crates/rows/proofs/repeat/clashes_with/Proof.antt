@@ -4,7 +4,7 @@ use mathlib.Core.Path.{_≡_, refl, sym, _∙_}
 use native.Mathlib.Omega.{arith}
 use lib.ListN.{drop}
 use Rattle.prelude.specs.Any.{any}
-use Rattle.rows.specs.Rows.{clash}
+use Rattle.rows.specs.Rows.{texts, clash}
 use Rattle.rows.specs.Tables.{entriesOf}
 use Rattle.rows.proofs.Asking.{any-turn, any-found, any-done}
 use Rattle.rows.proofs.Values.{entry}
@@ -13,12 +13,12 @@ use Rattle.rows.proofs.repeat.clashes_with.Statement.{statement}
 use Rattle.rows.proofs.repeat.clashes_with.Tie as tie
 
 abbrev Inv-loop : tie.InvT-loop
-Inv-loop header message table count across i j₀ j =
-    let test = clash across header message (entry table i) in
+Inv-loop header shared own table count across i j₀ j =
+    let test = clash across (texts header shared own) (entry table i) in
     (j ≤ count) × (any test (drop j (entriesOf count table)) ≡ any test (drop (i + 1) (entriesOf count table)))
 
 abbrev μ-loop : tie.MeasureT-loop
-μ-loop header message table count across i j₀ j = count - j
+μ-loop header shared own table count across i j₀ j = count - j
 
 add-j : tie.Need-add-j Inv-loop μ-loop
 add-j c = search needs
@@ -31,8 +31,8 @@ clash-requires c κs = search needs
 
 returns : tie.Need-returns Inv-loop μ-loop
 returns c =
-    let args = c .before .before .before .before .before .before .before .args in
-    let test = clash (args .across) (args .header .now) (args .message .now) (entry (args .table .now) (args .i)) in
+    let args = c .before .before .before .before .before .before .before .before .args in
+    let test = clash (args .across) (texts (args .header .now) (args .shared .now) (args .own .now)) (entry (args .table .now) (args .i)) in
     let loop = c .before .before .before .loop in
     any-found test _ (args .count) (loop .j) (args .table .now) (loop .inv .1) (c .before .before .loop-test .taken)
     (sym (c .before .clash .ensures) ∙ c .if1 .taken)
@@ -45,8 +45,8 @@ loop-less c = search needs
 
 loop-again : tie.Need-loop-again Inv-loop μ-loop
 loop-again c =
-    let args = c .before .before .before .before .before .before .before .args in
-    let test = clash (args .across) (args .header .now) (args .message .now) (entry (args .table .now) (args .i)) in
+    let args = c .before .before .before .before .before .before .before .before .args in
+    let test = clash (args .across) (texts (args .header .now) (args .shared .now) (args .own .now)) (entry (args .table .now) (args .i)) in
     let loop = c .before .before .before .loop in (
       omega arith,
       any-turn test _ (args .count) (loop .j) (args .table .now) (loop .inv .1) (c .before .before .loop-test .taken)
@@ -55,8 +55,8 @@ loop-again c =
 
 returns-2 : tie.Need-returns-2 Inv-loop μ-loop
 returns-2 c =
-    let args = c .before .before .before .before .before .args in
-    let test = clash (args .across) (args .header .now) (args .message .now) (entry (args .table .now) (args .i)) in
+    let args = c .before .before .before .before .before .before .args in
+    let test = clash (args .across) (texts (args .header .now) (args .shared .now) (args .own .now)) (entry (args .table .now) (args .i)) in
     let loop = c .before .loop in
     any-done test _ (args .count) (loop .j) (args .table .now) (loop .inv .1) (c .loop-test .left)
 

@@ -1,71 +1,73 @@
--- `same` compares the names in the texts that the origins say.
-use Rattle.rows.proofs.Values.{entry, text-header, text-message}
-use Rattle.rows.proofs.Clashing.{alike-in}
+-- `same` compares one name with the other, a part of the text that its entry's origin says.
+use mathlib.Core.Path.{ap, _∙_}
+use mathlib.Core.List.{List}
+use Prim.Native.Nat.{ℕ}
+use Rattle.grammar.specs.Spellings.{alike}
+use Rattle.rows.specs.Rows.{Texts, texts, nameIn}
+use Rattle.rows.proofs.Values.{entry, text-protected, text-shared, text-own, name-by}
 use borrow.Author.Needs.{needs}
 use Rattle.rows.proofs.repeat.same.Statement.{statement}
 use Rattle.rows.proofs.repeat.same.Tie as tie
 
+abbrev given : tie.Start → Texts
+given s = texts (s .args .header .now) (s .args .shared .now) (s .args .own .now)
+
 field-requires : tie.Need-field-requires
 field-requires c κs = search needs
 
-field-requires-2 : tie.Need-field-requires-2
-field-requires-2 c κs = search needs
+name-requires : tie.Need-name-requires
+name-requires c κs = search needs
 
-alike-requires : tie.Need-alike-requires
-alike-requires c κs = search needs
+says-requires : tie.Need-says-requires
+says-requires c κs = search needs
 
 returns : tie.Need-returns
 returns c =
-    let args = c .before .before .before .before .before .before .before .before .args in
-    let one = text-header (args .header .now) (args .message .now) (c .before .before .before .before .field .ensures .0) (c .before .before .if1 .taken) in
-    let other = text-header (args .header .now) (args .message .now) (c .before .before .before .field2 .ensures .0) (c .before .if2 .taken) in
-    alike-in (args .header .now) (args .message .now) (entry (args .table .now) (args .i))
-    (entry (args .table .now) (args .j)) one other (c .alike .ensures)
+    let s = c .before .before .before .before .before .before .before .before in
+    let text = text-protected (given s) (c .before .before .before .field .ensures .0) (c .before .before .if1 .taken) in
+    c .says .ensures
+    ∙ ap (alike (nameIn (given s) (entry (s .args .table .now) (s .args .i))))
+    (name-by (given s) (entry (s .args .table .now) (s .args .j)) text (c .before .name .ensures))
 
-alike-requires-2 : tie.Need-alike-requires-2
-alike-requires-2 c κs = search needs
+name-requires-2 : tie.Need-name-requires-2
+name-requires-2 c κs = search needs
+
+says-requires-2 : tie.Need-says-requires-2
+says-requires-2 c κs = search needs
 
 returns-2 : tie.Need-returns-2
 returns-2 c =
-    let args = c .before .before .before .before .before .before .before .before .args in
-    let one = text-header (args .header .now) (args .message .now) (c .before .before .before .before .field .ensures .0) (c .before .before .if1 .taken) in
-    let other = text-message (args .header .now) (args .message .now) (c .before .before .before .field2 .ensures .0) (c .before .if2 .left) in
-    alike-in (args .header .now) (args .message .now) (entry (args .table .now) (args .i))
-    (entry (args .table .now) (args .j)) one other (c .alike2 .ensures)
+    let s = c .before .before .before .before .before .before .before .before .before in
+    let text = text-shared (given s) (c .before .before .before .before .field .ensures .0) (c .before .before .if2 .taken) in
+    c .says2 .ensures
+    ∙ ap (alike (nameIn (given s) (entry (s .args .table .now) (s .args .i))))
+    (name-by (given s) (entry (s .args .table .now) (s .args .j)) text (c .before .name2 .ensures))
 
-alike-requires-3 : tie.Need-alike-requires-3
-alike-requires-3 c κs = search needs
+name-requires-3 : tie.Need-name-requires-3
+name-requires-3 c κs = search needs
+
+says-requires-3 : tie.Need-says-requires-3
+says-requires-3 c κs = search needs
 
 returns-3 : tie.Need-returns-3
 returns-3 c =
-    let args = c .before .before .before .before .before .before .before .before .args in
-    let one = text-message (args .header .now) (args .message .now) (c .before .before .before .before .field .ensures .0) (c .before .before .if1 .left) in
-    let other = text-header (args .header .now) (args .message .now) (c .before .before .before .field2 .ensures .0) (c .before .if3 .taken) in
-    alike-in (args .header .now) (args .message .now) (entry (args .table .now) (args .i))
-    (entry (args .table .now) (args .j)) one other (c .alike3 .ensures)
-
-alike-requires-4 : tie.Need-alike-requires-4
-alike-requires-4 c κs = search needs
-
-returns-4 : tie.Need-returns-4
-returns-4 c =
-    let args = c .before .before .before .before .before .before .before .before .args in
-    let one = text-message (args .header .now) (args .message .now) (c .before .before .before .before .field .ensures .0) (c .before .before .if1 .left) in
-    let other = text-message (args .header .now) (args .message .now) (c .before .before .before .field2 .ensures .0) (c .before .if3 .left) in
-    alike-in (args .header .now) (args .message .now) (entry (args .table .now) (args .i))
-    (entry (args .table .now) (args .j)) one other (c .alike4 .ensures)
+    let s = c .before .before .before .before .before .before .before .before .before in
+    let text = text-own (given s) (c .before .before .before .before .field .ensures .0) (c .before .before .before .if1 .left) (c .before .before .if2 .left) in
+    c .says3 .ensures
+    ∙ ap (alike (nameIn (given s) (entry (s .args .table .now) (s .args .i))))
+    (name-by (given s) (entry (s .args .table .now) (s .args .j)) text (c .before .name3 .ensures))
 
 pub same-spec : {M : Type 1} → statement M
 same-spec =
     tie.close
     (tie.spec
     field-requires
-    field-requires-2
-    alike-requires
+    name-requires
+    says-requires
     returns
-    alike-requires-2
+    name-requires-2
+    says-requires-2
     returns-2
-    alike-requires-3
-    returns-3
-    alike-requires-4
-    returns-4)
+    name-requires-3
+    says-requires-3
+    returns-3)

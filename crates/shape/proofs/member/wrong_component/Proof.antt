@@ -5,7 +5,7 @@ use Prim.Native.Nat.{ℕ}
 use lib.Dec.{eqb}
 use Rattle.parts.specs.Parts.{holds}
 use Rattle.rows.proofs.Values.{entry}
-use Rattle.shape.proofs.Members.{is-eqb, isnt-eqb, spelled-is, component-is}
+use Rattle.shape.proofs.Members.{is-eqb, isnt-eqb, component-is}
 use borrow.Author.Needs.{needs}
 use Rattle.shape.proofs.member.wrong_component.Statement.{statement}
 use Rattle.shape.proofs.member.wrong_component.Tie as tie
@@ -35,9 +35,7 @@ returns-2 : tie.Need-returns-2
 returns-2 c =
     let args = c .before .before .before .before .before .before .before .args in
     let e = entry (args .table .now) (args .i) in
-    let text = spelled-is (args .message .now) e (c .before .before .value .result .now)
-    (c .before .before .value .ensures) in
-    let held = sym (ap (holds 92) text) ∙ sym (c .before .holds .ensures) ∙ c .if2 .taken in
+    let held = sym (ap (holds 92) (c .before .before .value .ensures)) ∙ sym (c .before .holds .ensures) ∙ c .if2 .taken in
     component-is (args .message .now) e true true _ _
     (is-eqb (c .before .before .before .before .field .ensures .0) (c .before .before .before .if1 .left)) held refl refl
 
@@ -48,9 +46,7 @@ returns-3 : tie.Need-returns-3
 returns-3 c =
     let args = c .before .before .before .before .before .before .before .before .before .args in
     let e = entry (args .table .now) (args .i) in
-    let text = spelled-is (args .message .now) e (c .before .before .before .before .value .result .now)
-    (c .before .before .before .before .value .ensures) in
-    let held = sym (ap (holds 92) text) ∙ sym (c .before .before .before .holds .ensures)
+    let held = sym (ap (holds 92) (c .before .before .before .before .value .ensures)) ∙ sym (c .before .before .before .holds .ensures)
     ∙ c .before .before .if2 .left in
     component-is (args .message .now) e true false true _
     (is-eqb (c .before .before .before .before .before .before .field .ensures .0) (c .before .before .before .before .before .if1 .left)) held
@@ -63,9 +59,7 @@ returns-4 : tie.Need-returns-4
 returns-4 c =
     let args = c .before .before .before .before .before .before .before .before .before .before .args in
     let e = entry (args .table .now) (args .i) in
-    let text = spelled-is (args .message .now) e (c .before .before .before .before .before .value .result .now)
-    (c .before .before .before .before .before .value .ensures) in
-    let held = sym (ap (holds 92) text) ∙ sym (c .before .before .before .before .holds .ensures)
+    let held = sym (ap (holds 92) (c .before .before .before .before .before .value .ensures)) ∙ sym (c .before .before .before .before .holds .ensures)
     ∙ c .before .before .before .if2 .left in
     ap (λ (n : ℕ). eqb n 2) (c .field3 .ensures .0)
     ∙ component-is (args .message .now) e true false false _
