@@ -7,7 +7,7 @@ ghost use mathlib.Core.List.{map};
 ghost use lib.ListN.{length};
 ghost use lib.Dec.{leb, eqb};
 ghost use Rattle.prelude.specs.Buffer.{AllBelow, written};
-ghost use Rattle.base64url.specs.Base64url.{character, sixBits, sextets, octets, encoded, decoded, encodedLength};
+ghost use Rattle.base64url.specs.Base64url.{character, sixBits, sextets, octets, encoded, decoded, encodedLength, decodedLength};
 ghost use Rattle.base64url.specs.Fault.{countOutside, spareBits, fault, none};
 ghost use Rattle.base64url.specs.Answers.{checkAnswer, Decodes, encodeAnswer, encodeBuffer};
 
@@ -162,6 +162,13 @@ pub fn encoded_length(n: usize) -> usize
         return 18446744073709551615;
     }
     n / 3 * 4 + (n % 3 * 4 + 2) / 3
+}
+
+// How many octets n characters make, floor(3n/4).
+pub fn decoded_length(n: usize) -> usize
+    ensures { λ r. ⌜ r ≡ decodedLength n ⌝ }
+{
+    n / 4 * 3 + n % 4 * 3 / 4
 }
 
 // Where the block that begins at i ends.

@@ -11,16 +11,58 @@ ghost use Rattle.rows.specs.Rows.{entriesIn};
 ghost use Rattle.rows.specs.Tables.{collectedTable, headerTable, width};
 ghost use Rattle.prelude.specs.Limits.{headerRoom, levels, longest};
 ghost use Rattle.prelude.specs.Refusals.{first, stageOf};
-ghost use Rattle.headers.specs.Components.{misspelled};
+ghost use Rattle.headers.specs.Components.{misspelled, withKey, sizesOf};
 ghost use Rattle.headers.specs.Headers.{headerText, textOrder, protectedEntries, objectOrder};
-ghost use Rattle.headers.specs.Answers.{placeOf, headerBuffer};
+ghost use Rattle.headers.specs.Answers.{placeOf, componentsOf, headerBuffer};
 use base64url::Checked;
 use base64url::Decoded;
+use jose::Sizes;
 use json::Found;
 use json::Position;
 use json::member::Collected;
 use prelude::Place;
 use prelude::Stage;
+
+// The encoded components by their places in the message; 0, 0 where one is absent.
+pub struct Components {
+    pub protected: Place,
+    pub key: Place,
+    pub iv: Place,
+    pub aad: Place,
+    pub ciphertext: Place,
+    pub tag: Place,
+}
+
+// Components with another key.
+pub fn with_key(q: Components, key: Place) -> Components
+    ensures { λ r. ⌜ componentsOf r ≡ withKey (componentsOf q) (placeOf key) ⌝ }
+{
+    let protected = q.protected;
+    let iv = q.iv;
+    let aad = q.aad;
+    let ciphertext = q.ciphertext;
+    let tag = q.tag;
+    Components {
+        protected,
+        key,
+        iv,
+        aad,
+        ciphertext,
+        tag,
+    }
+}
+
+// How many octets the components decode to.
+pub fn sizes(q: Components) -> Sizes
+    ensures { λ r. ⌜ r ≡ sizesOf (componentsOf q) ⌝ }
+{
+    Sizes {
+        key: base64url::decoded_length(q.key.len),
+        iv: base64url::decoded_length(q.iv.len),
+        ciphertext: base64url::decoded_length(q.ciphertext.len),
+        tag: base64url::decoded_length(q.tag.len),
+    }
+}
 
 // Whether a component is not base64url.
 pub fn misspelled(message: &[u8], place: Place) -> bool

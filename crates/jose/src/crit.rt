@@ -137,7 +137,15 @@ fn named(header: &[u8], shared: &[u8], own: &[u8], table: &[u32], count: usize, 
 }
 
 // Whether an element is a registered name, or no name of the recipient's headers.
-fn misplaced(header: &[u8], shared: &[u8], own: &[u8], table: &[u32], count: usize, s: &[u8], row: Row) -> bool
+fn misplaced(
+    header: &[u8],
+    shared: &[u8],
+    own: &[u8],
+    table: &[u32],
+    count: usize,
+    s: &[u8],
+    row: Row,
+) -> bool
     requires { ⌜ count * width ≤ length (now table) ⌝ }
     ensures { λ r. ⌜ r ≡ misplaced (texts (now (header .entry)) (now (shared .entry)) (now (own .entry))) (entriesOf count (now (table .entry))) (now (s .entry)) (elementOf row) ⌝ }
 {
@@ -235,7 +243,14 @@ fn critical(
 }
 
 // 17: whether one of the first entries is.
-pub fn wrong_crit(header: &[u8], shared: &[u8], own: &[u8], known: &[u8], table: &[u32], count: usize) -> bool
+pub fn wrong_crit(
+    header: &[u8],
+    shared: &[u8],
+    own: &[u8],
+    known: &[u8],
+    table: &[u32],
+    count: usize,
+) -> bool
     requires { ⌜ count * width ≤ length (now table) ⌝ }
     requires { ⌜ filled (now known) ≡ true ⌝ }
     ensures { λ r. ⌜ r ≡ any (critical (names (now (known .entry))) (texts (now (header .entry)) (now (shared .entry)) (now (own .entry))) (entriesOf count (now (table .entry)))) (entriesOf count (now (table .entry))) ⌝ }

@@ -91,14 +91,7 @@ pub fn wrong_kind(table: &[u32], count: usize) -> bool
 
 // The number of an entry's value in a list of names. The value is taken from one text at a time, since the texts may be
 // lent for different lifetimes.
-fn number_in(
-    list: &[u8],
-    header: &[u8],
-    shared: &[u8],
-    own: &[u8],
-    table: &[u32],
-    i: usize,
-) -> u32
+fn number_in(list: &[u8], header: &[u8], shared: &[u8], own: &[u8], table: &[u32], i: usize) -> u32
     requires { ⌜ filled (now list) ≡ true ⌝ }
     requires { ⌜ i * width + width ≤ length (now table) ⌝ }
     ensures { λ r. ⌜ r ≡ numberIn (names (now (list .entry))) (valueIn (texts (now (header .entry)) (now (shared .entry)) (now (own .entry))) (firstOf (drop (i * width) (now (table .entry))))) ⌝ }

@@ -3,23 +3,24 @@ use mathlib.Core.Path.{_≡_, refl, ap, _∙_}
 use mathlib.Core.Bool.{Bool, true, false, not}
 use mathlib.Core.List.{List, [], _∷_, _++_}
 use Prim.Native.Nat.{ℕ, _≤_, _<_}
-use lib.Dec.{eqb, leb}
+use lib.Dec.{leb}
 use borrow.Author.Tests.{le-leb, lt-leb}
 use Rattle.prelude.specs.Any.{any}
-use Rattle.rows.specs.Rows.{Entry}
+use Rattle.rows.specs.Rows.{Entry, Texts, readTexts}
 use Rattle.prelude.specs.Refusals.{Test, _if_, first}
+use Rattle.jose.specs.declared.Sizes.{Sizes}
 use Rattle.jose.specs.HeaderRules.{recipientOrder}
 use Rattle.prelude.proofs.Refusals.{nonzero, first-fails, first-passes, first-skip}
-use Rattle.headers.specs.Components.{places, misspelled}
+use Rattle.headers.specs.Components.{places, misspelled, sizesOf}
 use Rattle.headers.specs.Headers.{headerText, textOrder, protectedEntries, objectOrder}
 use Rattle.headers.proofs.Stages.{text-nonzero, object-nonzero, stopped}
 use Rattle.jwe.specs.Compact.{fourStops, compactComponents, compactOrder}
 
 -- No rule has the number 0.
-pub rules-nonzero : (known : List (List ℕ)) (header message : List ℕ) (es : List Entry) (noKey : Bool) →
-    nonzero (recipientOrder known header message es noKey) ≡ true
+pub rules-nonzero : (known : List (List ℕ)) (ts : Texts) (es : List Entry) (z : Sizes) →
+    nonzero (recipientOrder known ts es z) ≡ true
 unfolding recipientOrder
-rules-nonzero known header message es noKey = refl
+rules-nonzero known ts es z = refl
 
 -- The decoded protected header, and its parameters.
 
@@ -38,11 +39,11 @@ module _ (message : List ℕ) (known : List (List ℕ)) (recipient : ℕ) where
   objects = objectOrder (header message) (entries message)
 
   abbrev pub rules : List Test
-  rules = recipientOrder known (header message) message (entries message) (eqb (compactComponents message .key .size) 0)
+  rules = recipientOrder known (readTexts (header message) message) (entries message) (sizesOf (compactComponents message))
 
   rules-numbers : nonzero rules ≡ true
   rules-numbers =
-      rules-nonzero known (header message) message (entries message) (eqb (compactComponents message .key .size) 0)
+      rules-nonzero known (readTexts (header message) message) (entries message) (sizesOf (compactComponents message))
 
   abbrev last : List Test
   last = 19 if leb 1 recipient ∷ []

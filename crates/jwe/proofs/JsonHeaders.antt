@@ -16,7 +16,7 @@ use Rattle.parts.specs.Parts.{part}
 use Rattle.grammar.specs.Places.{Place, Member}
 use Rattle.grammar.specs.Reader.{skipSpace, membersAt}
 use Rattle.prelude.specs.Any.{any, anyPair}
-use Rattle.rows.specs.Rows.{Entry, entryOf, entriesIn, numbered, present, valueOf, repeated}
+use Rattle.rows.specs.Rows.{Entry, oneText, entryOf, entriesIn, numbered, present, valueOf, repeated}
 use Rattle.rows.specs.Tables.{flat, collectedTable}
 use Rattle.jose.specs.Registered.{registered}
 use Rattle.prelude.specs.Refusals.{first, stageOf}
@@ -27,7 +27,7 @@ use Rattle.headers.specs.Answers.{headerBuffer}
 use Rattle.prelude.specs.declared.Stage.{Stage}
 use Rattle.prelude.specs.declared.Stage.the-variants.{Passed, Refused}
 use Rattle.headers.proofs.Stages.{passed-is, refused-is}
-use Rattle.shape.specs.Shape.{inner, component, protected}
+use Rattle.shape.specs.Shape.{inner, component}
 use Rattle.jwe.specs.General.{isHollow}
 use Rattle.jwe.specs.Inner.Stages.{textTests, protectedTests}
 
@@ -45,31 +45,33 @@ none-present n (x ∷ es) e = cases (numbered n x) e (none-present n es)
     cases true e rest = absurd (true≢false e)
     cases false e rest = rest e
 
+pub no-component : (n : ℕ) (es : List Entry) → present n es ≡ false → component n es ≡ absent
+no-component n es gone = ap inner (none-present n es gone)
+
 no-text : (message : List ℕ) → headerText message absent ≡ []
 unfolding headerText part decoded octets
 no-text message = ap (λ (b : Bool). decoded (cond b (take 0 (drop 0 message)) [])) (le-leb 0 (length message) (omega arith))
 
-module _ (message : List ℕ) (es : List Entry) (gone : present protected es ≡ false) where
-  pub no-header : headerText message (component protected es) ≡ []
-  no-header = ap (λ (q : Place). headerText message (inner q)) (none-present protected es gone) ∙ no-text message
+-- Where one is there or not, and its place is known where it is not.
+module _ (message : List ℕ) (there : Bool) (q : Place) (none : there ≡ false → q ≡ absent) where
+  pub no-header : there ≡ false → headerText message q ≡ []
+  no-header gone = ap (headerText message) (none gone) ∙ no-text message
 
-  pub no-header-passes : Passed 0
-      ≡ stageOf (first (textTests (present protected es) (headerText message (component protected es))))
-      (length (headerText message (component protected es)))
+  pub no-header-passes : there ≡ false →
+      Passed 0 ≡ stageOf (first (textTests there (headerText message q))) (length (headerText message q))
   unfolding stageOf textTests first
-  no-header-passes =
-      sym (ap₂ (λ (b : Bool) (h : List ℕ). stageOf (first (textTests b h)) (length h)) gone no-header)
+  no-header-passes gone =
+      sym (ap₂ (λ (b : Bool) (h : List ℕ). stageOf (first (textTests b h)) (length h)) gone (no-header gone))
 
-  pub no-header-left : (text : List ℕ) → text ≡ headerBuffer (headerText message (component protected es)) text
+  pub no-header-left : there ≡ false → (text : List ℕ) → text ≡ headerBuffer (headerText message q) text
   unfolding headerBuffer written
-  no-header-left text = sym (ap (λ (h : List ℕ). headerBuffer h text) no-header)
+  no-header-left gone text = sym (ap (λ (h : List ℕ). headerBuffer h text) (no-header gone))
 
 -- 6 and 7 on one that is there.
-pub text-there : (es : List Entry) (header : List ℕ) → present protected es ≡ true →
-    stageOf (first (textOrder header)) (length header)
-    ≡ stageOf (first (textTests (present protected es) header)) (length header)
+pub text-there : (there : Bool) (header : List ℕ) → there ≡ true →
+    stageOf (first (textOrder header)) (length header) ≡ stageOf (first (textTests there header)) (length header)
 unfolding textTests
-text-there es header e = sym (ap (λ (b : Bool). stageOf (first (textTests b header)) (length header)) e)
+text-there there header e = sym (ap (λ (b : Bool). stageOf (first (textTests b header)) (length header)) e)
 
 -- The protected header's entries
 
@@ -227,6 +229,6 @@ pub few : (s : List ℕ) (es : List Entry) → first (objectOrder s es) ≡ 0 �
 unfolding first objectOrder
 few s es e = ltb-false 32 (length es) (cases (ltb 32 (length es)) e)
   where
-    cases : (b : Bool) → _≡_ {A = ℕ} (cond b 8 (cond (repeated false s s es) 9 0)) 0 → b ≡ false
+    cases : (b : Bool) → _≡_ {A = ℕ} (cond b 8 (cond (repeated false (oneText s) es) 9 0)) 0 → b ≡ false
     cases true e = absurd (omega (arith, e))
     cases false e = refl

@@ -1,59 +1,69 @@
 -- From the own headers on: the first refusal, and the numbers that are handed out.
 use mathlib.Core.Path.{_≡_, ap, ap₂, sym, subst, _∙_}
-use mathlib.Core.Bool.{Bool, cond}
+use mathlib.Core.Bool.{Bool, true, cond}
 use mathlib.Core.List.{List, [], _∷_, _++_}
 use Prim.Native.Nat.{ℕ, _≤_, _<_}
 use lib.ListN.{length}
 use lib.Dec.{leb}
 use borrow.Author.Tests.{le-leb, lt-leb}
-use Rattle.rows.specs.Rows.{Entry}
+use Rattle.rows.specs.Rows.{Entry, readTexts}
 use Rattle.prelude.specs.Refusals.{Test, _if_, first}
+use Rattle.prelude.proofs.Refusals.{nonzero, nonzero-append}
 use Rattle.jose.specs.HeaderRules.{modeIn}
 use Rattle.headers.specs.Components as headers
+use Rattle.headers.specs.Answers.{componentsOf}
 use Rattle.prelude.specs.declared.Stage.{Stage}
 use Rattle.prelude.specs.declared.Stage.the-variants.{Refused}
 use Rattle.shape.specs.Shape.{Recipient}
 use Rattle.jwe.specs.Judge.{Outcome, place, accepted}
-use Rattle.jwe.specs.Answers.{componentsOf, numbers, handed, Judges}
-use Rattle.jwe.specs.Inner.Stages.{ownTests, ruleTests, headedOrder, Heads}
-use Rattle.jwe.specs.declared.Components.{Components}
+use Rattle.jwe.specs.Answers.{numbers, handed, Judges}
+use Rattle.jwe.specs.Inner.Stages.{ownTests, ruleTests, allTests, headedOrder, Heads}
+use Rattle.headers.specs.declared.Components.{Components}
 use Rattle.jwe.specs.declared.judged.Judged.{Judged}
 use Rattle.jwe.proofs.JsonOrder.{stop, skip, own-nonzero, rule-nonzero}
 
-module _ (known : List (List ℕ)) (header message : List ℕ) (front : List Entry) (rs : List Recipient) (recipient : ℕ) where
+module _ (known : List (List ℕ)) (header message : List ℕ) (front : List Entry) (q : headers.Components)
+    (rs : List Recipient) (recipient : ℕ) where
   abbrev order : List Test
-  order = headedOrder known header message front rs recipient
+  order = headedOrder known header message front q rs recipient
 
   abbrev asks : List Test
   asks = 19 if leb (length rs) recipient ∷ []
 
-  pub heads-own : {n : ℕ} → first (ownTests message rs) ≡ n → 0 < n → first order ≡ n
+  abbrev all : List Test
+  all = allTests known header message front q rs
+
+  all-nonzero : nonzero all ≡ true
+  unfolding allTests
+  all-nonzero =
+      nonzero-append (ownTests message rs) _ (own-nonzero message rs) (rule-nonzero known header message front q rs)
+
+  -- A recipient refused, or all of them passed.
+  pub heads-all : {n : ℕ} → first all ≡ n → 0 < n → first order ≡ n
   unfolding headedOrder
-  heads-own e h = stop (ownTests message rs) _ (own-nonzero message rs) e h
+  heads-all e h = stop all asks all-nonzero e h
 
-  module _ (own : first (ownTests message rs) ≡ 0) where
-    past-own : first order ≡ first (ruleTests known header message front rs ++ asks)
+  module _ (passed : first all ≡ 0) where
+    past-all : first order ≡ first asks
     unfolding headedOrder
-    past-own = skip (ownTests message rs) _ (own-nonzero message rs) own
+    past-all = skip all asks all-nonzero passed
 
-    pub heads-rule : {n : ℕ} → first (ruleTests known header message front rs) ≡ n → 0 < n → first order ≡ n
-    heads-rule e h =
-        past-own
-        ∙ stop (ruleTests known header message front rs) asks (rule-nonzero known header message front rs) e h
+    pub heads-none : length rs ≤ recipient → first order ≡ 19
+    unfolding first
+    heads-none h = past-all ∙ ap (λ (b : Bool). cond {A = ℕ} b 19 0) (le-leb (length rs) recipient h)
 
-    module _ (rule : first (ruleTests known header message front rs) ≡ 0) where
-      past-rule : first order ≡ first asks
-      past-rule =
-          past-own
-          ∙ skip (ruleTests known header message front rs) asks (rule-nonzero known header message front rs) rule
+    pub heads-one : recipient < length rs → first order ≡ 0
+    unfolding first
+    heads-one h = past-all ∙ ap (λ (b : Bool). cond {A = ℕ} b 19 0) (lt-leb (length rs) recipient h)
 
-      pub heads-none : length rs ≤ recipient → first order ≡ 19
-      unfolding first
-      heads-none h = past-rule ∙ ap (λ (b : Bool). cond {A = ℕ} b 19 0) (le-leb (length rs) recipient h)
+  -- The own headers refused, or passed.
+  pub own-refuses : {n : ℕ} → first (ownTests message rs) ≡ n → 0 < n → first all ≡ n
+  unfolding allTests
+  own-refuses e h = stop (ownTests message rs) _ (own-nonzero message rs) e h
 
-      pub heads-one : recipient < length rs → first order ≡ 0
-      unfolding first
-      heads-one h = past-rule ∙ ap (λ (b : Bool). cond {A = ℕ} b 19 0) (lt-leb (length rs) recipient h)
+  pub own-passes : first (ownTests message rs) ≡ 0 → first all ≡ first (ruleTests known header message front q rs)
+  unfolding allTests
+  own-passes e = skip (ownTests message rs) _ (own-nonzero message rs) e
 
 -- A stage's refusal, handed up, is what is answered.
 
@@ -82,7 +92,7 @@ laid form count mode q size parameters =
     (place (q .iv) (place (q .aad) (place (q .ciphertext) (place (q .tag) (size ∷ parameters ∷ []))))))
 
 pub result-is : (message : List ℕ) (x : Outcome) (form count mode : ℕ) (q : Components) (size parameters : ℕ) →
-    form ≡ x .form → count ≡ x .recipients → mode ≡ modeIn (x .header) message (x .entries) →
+    form ≡ x .form → count ≡ x .recipients → mode ≡ modeIn (readTexts (x .header) message) (x .entries) →
     componentsOf q ≡ x .components → size ≡ length (x .header) → parameters ≡ length (x .entries) →
     numbers
     (record {
@@ -99,4 +109,4 @@ unfolding accepted laid
 result-is message x form count mode q size parameters f c m p s n =
     ap₂ (λ (a b : ℕ). laid a b mode (componentsOf q) size parameters) f c
     ∙ ap₂ (λ (a : ℕ) (b : headers.Components). laid (x .form) (x .recipients) a b size parameters) m p
-    ∙ ap₂ (λ (a b : ℕ). laid (x .form) (x .recipients) (modeIn (x .header) message (x .entries)) (x .components) a b) s n
+    ∙ ap₂ (λ (a b : ℕ). laid (x .form) (x .recipients) (modeIn (readTexts (x .header) message) (x .entries)) (x .components) a b) s n

@@ -7,22 +7,24 @@ use mathlib.Core.List.{List, [], _∷_, _++_, flatMap, append-assoc}
 use Prim.Native.Nat.{ℕ, _<_}
 use native.Mathlib.Omega.{arith}
 use lib.ListN.{length}
-use lib.Dec.{eqb, leb, ltb}
+use lib.Dec.{leb, ltb}
 use Rattle.grammar.specs.Places.{Element}
-use Rattle.rows.specs.Rows.{Entry, present}
+use Rattle.rows.specs.Rows.{Entry, readTexts, present}
 use Rattle.prelude.specs.Refusals.{Test, _if_, first}
 use Rattle.jose.specs.HeaderRules.{recipientOrder}
 use Rattle.prelude.proofs.Refusals.{nonzero, nonzero-append, first-fails, first-passes, first-skip, first-stop}
 use Rattle.prelude.specs.Limits.{mostRecipients}
+use Rattle.headers.specs.Components.{Components, withKey, sizesOf}
 use Rattle.headers.specs.Headers.{headerText, textOrder, outermost, protectedEntries, objectOrder}
-use Rattle.shape.specs.Shape.{protected, recipients, wrongElements, component, Recipient}
+use Rattle.shape.specs.Shape.{recipients, wrongElements, Recipient}
 use Rattle.shape.specs.Recipients.{topEntries, topOrder, elementsIn, elementOrder, elementsOrder, recipientsIn}
-use Rattle.shape.specs.Recipients.{componentsIn}
+use Rattle.shape.specs.Recipients.{Top, topOf, componentsIn}
 use Rattle.jwe.specs.General.{sharedEntries, ownEntries, parameters, anyMisspelled, isHollow}
-use Rattle.jwe.specs.General.{protectedOrder, headersOrder, recipientsOrder, jsonOrder}
-use Rattle.jwe.specs.Judge.{Outcome, asked, jsonOutcome}
-use Rattle.jwe.specs.Inner.Stages.{textTests, protectedTests, ownTests, ruleTests, headedOrder, shapedOrder}
-use Rattle.jwe.specs.Inner.Stages.{headedOutcome, shapedOutcome}
+use Rattle.jwe.specs.General.{protectedOrder, headersOrder, recipientsOrder, jsonSpelled, jsonLater, jsonOrder}
+use Rattle.jwe.specs.Judge.{Outcome, asked, outcomeOf, jsonOutcome}
+use Rattle.jwe.specs.Inner.Stages.{textTests, protectedTests, ownTests, ruleTests, allTests, headedOrder}
+use Rattle.jwe.specs.Inner.Stages.{headedOutcome}
+use Rattle.jwe.proofs.CompactOrder.{rules-nonzero}
 
 -- A stage, and what comes behind it
 
@@ -89,18 +91,14 @@ own-nonzero message rs =
     nonzero-each (λ (r : Recipient). objectOrder message (ownEntries message r))
     (λ (r : Recipient). object-nonzero message (ownEntries message r)) rs
 
-pub rules-nonzero : (known : List (List ℕ)) (header message : List ℕ) (es : List Entry) (noKey : Bool) →
-    nonzero (recipientOrder known header message es noKey) ≡ true
-unfolding recipientOrder
-rules-nonzero known header message es noKey = refl
-
-pub rule-nonzero : (known : List (List ℕ)) (header message : List ℕ) (front : List Entry) (rs : List Recipient) →
-    nonzero (ruleTests known header message front rs) ≡ true
+pub rule-nonzero : (known : List (List ℕ)) (header message : List ℕ) (front : List Entry) (q : Components)
+    (rs : List Recipient) → nonzero (ruleTests known header message front q rs) ≡ true
 unfolding ruleTests
-rule-nonzero known header message front rs =
+rule-nonzero known header message front q rs =
     nonzero-each
-    (λ (r : Recipient). recipientOrder known header message (front ++ ownEntries message r) (eqb (r .key .size) 0))
-    (λ (r : Recipient). rules-nonzero known header message (front ++ ownEntries message r) (eqb (r .key .size) 0)) rs
+    (λ (r : Recipient).
+    recipientOrder known (readTexts header message) (front ++ ownEntries message r) (sizesOf (withKey q (r .key))))
+    (λ (r : Recipient). rules-nonzero known (readTexts header message) (front ++ ownEntries message r) _) rs
 
 -- The whole: top level, elements, components, and the rest
 
@@ -109,14 +107,17 @@ module _ (message : List ℕ) (known : List (List ℕ)) (recipient : ℕ) where
   es = topEntries message
 
   abbrev rest : List Test
-  rest = shapedOrder known message es (recipientsIn message es) recipient
+  rest = jsonLater known message (topOf es) (recipientsIn message es) recipient
 
   abbrev behind : List Test
   behind = 5 if anyMisspelled message es ∷ rest
 
-  json-is : jsonOrder message known recipient ≡ topOrder message ++ (elementsOrder message es ++ behind)
-  unfolding jsonOrder shapedOrder
-  json-is = refl
+  pub json-is : jsonOrder message known recipient ≡ topOrder message ++ (elementsOrder message es ++ behind)
+  unfolding jsonOrder jsonSpelled
+  json-is =
+      let five = 5 if anyMisspelled message es ∷ [] in
+      append-assoc (topOrder message) (elementsOrder message es ++ five) rest
+      ∙ ap (λ (l : List Test). topOrder message ++ l) (append-assoc (elementsOrder message es) five rest)
 
   pub json-top : {n : ℕ} → first (topOrder message) ≡ n → 0 < n → first (jsonOrder message known recipient) ≡ n
   json-top e h = ap first json-is ∙ stop (topOrder message) _ (top-nonzero message) e h
@@ -139,69 +140,77 @@ module _ (message : List ℕ) (known : List (List ℕ)) (recipient : ℕ) where
       pub json-rest : anyMisspelled message es ≡ false → first (jsonOrder message known recipient) ≡ first rest
       json-rest e = past-elements ∙ first-passes (5 if anyMisspelled message es) rest e
 
-  pub json-outcome : jsonOutcome message recipient ≡ shapedOutcome message es (recipientsIn message es) recipient
-  unfolding jsonOutcome shapedOutcome componentsIn
+  pub json-outcome : jsonOutcome message recipient ≡ outcomeOf message (topOf es) (recipientsIn message es) recipient
+  unfolding jsonOutcome
   json-outcome = refl
 
 -- The rest: the protected header, the shared one, and what depends on the recipients
 
-module _ (known : List (List ℕ)) (message : List ℕ) (es : List Entry) where
+module _ (known : List (List ℕ)) (message : List ℕ) (t : Top) where
   abbrev pub header : List ℕ
-  header = headerText message (component protected es)
+  header = headerText message (t .components .protected)
 
   -- The parameters that are all recipients'.
   abbrev pub front : List Entry
-  front = protectedEntries header ++ sharedEntries message es
+  front = protectedEntries header ++ sharedEntries message t
 
-  parameters-is : (r : Recipient) → parameters header message es r ≡ front ++ ownEntries message r
+  parameters-is : (r : Recipient) → parameters header message t r ≡ front ++ ownEntries message r
   unfolding parameters
-  parameters-is r = sym (append-assoc (protectedEntries header) (sharedEntries message es) (ownEntries message r))
+  parameters-is r = sym (append-assoc (protectedEntries header) (sharedEntries message t) (ownEntries message r))
 
-  rules-is : (rs : List Recipient) → recipientsOrder known header message es rs ≡ ruleTests known header message front rs
-  unfolding recipientsOrder ruleTests flatMap
+  rules-is : (rs : List Recipient) → recipientsOrder known header message t rs ≡ ruleTests known header message front (t .components) rs
+  unfolding recipientsOrder ruleTests componentsIn flatMap
   rules-is [] = refl
   rules-is (r ∷ rs) =
       ap₂ _++_
-      (ap (λ (ps : List Entry). recipientOrder known header message ps (eqb (r .key .size) 0)) (parameters-is r))
+      (ap (λ (ps : List Entry). recipientOrder known (readTexts header message) ps (sizesOf (withKey (t .components) (r .key))))
+      (parameters-is r))
       (rules-is rs)
 
   module _ (rs : List Recipient) (recipient : ℕ) where
-    pub shaped-is : shapedOrder known message es rs recipient
-        ≡ textTests (present protected es) header
-        ++ (protectedTests (present protected es) header
-        ++ (objectOrder message (sharedEntries message es) ++ headedOrder known header message front rs recipient))
-    unfolding shapedOrder protectedOrder headersOrder textTests protectedTests textOrder objectOrder headedOrder ownTests
-    shaped-is = cases (present protected es)
+    pub shaped-is : jsonLater known message t rs recipient
+        ≡ textTests (t .protected) header
+        ++ (protectedTests (t .protected) header
+        ++ (objectOrder message (sharedEntries message t) ++ headedOrder known header message front (t .components) rs recipient))
+    unfolding jsonLater protectedOrder headersOrder textTests protectedTests textOrder objectOrder headedOrder allTests ownTests
+    shaped-is = cases (t .protected)
       where
+        asks : List Test
+        asks = 19 if leb (length rs) recipient ∷ []
+
+        tail-is : ownTests message rs ++ (recipientsOrder known header message t rs ++ asks)
+            ≡ headedOrder known header message front (t .components) rs recipient
+        tail-is =
+            ap (λ (g : List Test). ownTests message rs ++ (g ++ asks)) (rules-is rs)
+            ∙ sym (append-assoc (ownTests message rs) (ruleTests known header message front (t .components) rs) asks)
+
         cases : (b : Bool) →
             cond b (textOrder header ++ (10 if isHollow (outermost header) ∷ [])) []
-            ++ (headersOrder header message es rs ++ (recipientsOrder known header message es rs ++ (19 if leb (length rs) recipient ∷ [])))
+            ++ (headersOrder header message t rs ++ (recipientsOrder known header message t rs ++ (19 if leb (length rs) recipient ∷ [])))
             ≡ textTests b header
             ++ (protectedTests b header
-            ++ (objectOrder message (sharedEntries message es) ++ headedOrder known header message front rs recipient))
+            ++ (objectOrder message (sharedEntries message t) ++ headedOrder known header message front (t .components) rs recipient))
         cases true =
             ap (λ (g : List Test).
             textOrder header
             ++ (10 if isHollow (outermost header)
-            ∷ (objectOrder header (protectedEntries header)
-            ++ (objectOrder message (sharedEntries message es) ++ (ownTests message rs ++ (g ++ (19 if leb (length rs) recipient ∷ [])))))))
-            (rules-is rs)
+            ∷ (objectOrder header (protectedEntries header) ++ (objectOrder message (sharedEntries message t) ++ g))))
+            tail-is
         cases false =
             ap (λ (g : List Test).
-            objectOrder header (protectedEntries header)
-            ++ (objectOrder message (sharedEntries message es) ++ (ownTests message rs ++ (g ++ (19 if leb (length rs) recipient ∷ [])))))
-            (rules-is rs)
+            objectOrder header (protectedEntries header) ++ (objectOrder message (sharedEntries message t) ++ g))
+            tail-is
 
-    pub outcome-is : shapedOutcome message es rs recipient ≡ headedOutcome header message es front rs recipient
-    unfolding shapedOutcome headedOutcome
+    pub outcome-is : outcomeOf message t rs recipient ≡ headedOutcome header message t front rs recipient
+    unfolding outcomeOf headedOutcome
     outcome-is =
         ap (with-entries (asked rs recipient)) (parameters-is (asked rs recipient))
       where
         with-entries : Recipient → List Entry → Outcome
         with-entries r ps = record {
-          form = cond (present recipients es) 2 1;
+          form = t .form;
           recipients = length rs;
-          components = componentsIn es r;
+          components = componentsIn t r;
           header = header;
           entries = ps;
         }

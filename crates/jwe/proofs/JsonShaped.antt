@@ -10,7 +10,7 @@ use lib.ListN.{length, take}
 use borrow.Author.Tests.{ltb-false}
 use Rattle.prelude.specs.Buffer.{written}
 use Rattle.prelude.proofs.Writing.{written-length, begins}
-use Rattle.rows.specs.Rows.{Entry, present, valueOf}
+use Rattle.rows.specs.Rows.{Entry, readTexts}
 use Rattle.rows.specs.Inner.Prints.{Printed}
 use Rattle.rows.specs.Tables.{flat, entriesOf, collectedTable}
 use Rattle.rows.proofs.Entries.{entries-written, entries-more}
@@ -22,11 +22,13 @@ use Rattle.headers.specs.Headers.{headerEntries, objectOrder}
 use Rattle.headers.specs.Answers.{headerBuffer}
 use Rattle.prelude.specs.declared.Stage.the-variants.{Passed}
 use Rattle.headers.proofs.Stages.{passed-is}
-use Rattle.shape.specs.Shape.{protected, unprotected, component, Recipient}
-use Rattle.jwe.specs.General.{sharedEntries, isHollow}
-use Rattle.jwe.specs.Judge.{Outcome, accepted}
-use Rattle.jwe.specs.Answers.{Judges}
-use Rattle.jwe.specs.Inner.Stages.{textTests, protectedTests, headedOrder, shapedOrder, headedOutcome, shapedOutcome}
+use Rattle.headers.specs.Components.{absent}
+use Rattle.shape.specs.Shape.{Recipient}
+use Rattle.shape.specs.Recipients.{Top}
+use Rattle.jwe.specs.General.{sharedEntries, isHollow, jsonLater}
+use Rattle.jwe.specs.Judge.{Outcome, accepted, outcomeOf}
+use Rattle.jwe.specs.Answers.{BeginsWith, Judges}
+use Rattle.jwe.specs.Inner.Stages.{textTests, protectedTests, headedOrder, headedOutcome}
 use Rattle.jwe.specs.Inner.Stages.{Heads}
 use Rattle.jwe.specs.declared.judged.Judged.{Judged}
 use Rattle.jwe.specs.declared.judged.Judged.the-variants.{Accepted, Refused}
@@ -44,39 +46,43 @@ pub record Begun (header before last : List ℕ) (n : ℕ) : Type 0 where
   pub fits : n ≤ length last
   pub front : take n last ≡ header
 
-module _ (message : List ℕ) (es : List Entry) where
-  abbrev pub text : List ℕ
-  text = headerText message (component protected es)
+-- The decoded protected header of what the top level holds.
+abbrev pub text : List ℕ → Top → List ℕ
+text message t = headerText message (t .components .protected)
 
-  within : first (textTests (present protected es) text) ≡ 0 → tooLong text ≡ false
+module _ (message : List ℕ) (t : Top) (none : t .protected ≡ false → t .components .protected ≡ absent) where
+  abbrev head : List ℕ
+  head = text message t
+
+  within : first (textTests (t .protected) head) ≡ 0 → tooLong head ≡ false
   unfolding textTests textOrder first
-  within e = cases (present protected es) refl e
+  within e = cases (t .protected) refl e
     where
-      long : (b : Bool) → _≡_ {A = ℕ} (cond b 6 (cond (unread text) 7 0)) 0 → b ≡ false
+      long : (b : Bool) → _≡_ {A = ℕ} (cond b 6 (cond (unread head) 7 0)) 0 → b ≡ false
       long true e = absurd (omega (arith, e))
       long false e = refl
 
-      cases : (b : Bool) → present protected es ≡ b → first (textTests b text) ≡ 0 → tooLong text ≡ false
-      cases true t e = long (tooLong text) e
-      cases false t e = ap tooLong (no-header message es t)
+      cases : (b : Bool) → t .protected ≡ b → first (textTests b head) ≡ 0 → tooLong head ≡ false
+      cases true e f = long (tooLong head) f
+      cases false e f = ap tooLong (no-header message (t .protected) (t .components .protected) none e)
 
   pub begun : (before last : List ℕ) (n : ℕ) →
-      Passed n ≡ stageOf (first (textTests (present protected es) text)) (length text) →
-      last ≡ headerBuffer text before → length before ≡ 4096 → Begun text before last n
+      Passed n ≡ stageOf (first (textTests (t .protected) head)) (length head) →
+      last ≡ headerBuffer head before → length before ≡ 4096 → Begun head before last n
   unfolding headerBuffer
   begun before last n a l room =
-      let told = passed-is n (first (textTests (present protected es) text)) (length text) a in
+      let told = passed-is n (first (textTests (t .protected) head)) (length head) a in
       let short = within (told .0) in
-      let small : length text ≤ 4096 = ltb-false 4096 (length text) short in
-      let wrote : last ≡ written 0 text before =
-      l ∙ ap (λ (b : Bool). cond b before (written 0 text before)) short in
-      let long : length last ≡ 4096 = ap length wrote ∙ written-length 0 text before (omega (arith, room, small)) ∙ room in
+      let small : length head ≤ 4096 = ltb-false 4096 (length head) short in
+      let wrote : last ≡ written 0 head before =
+      l ∙ ap (λ (b : Bool). cond b before (written 0 head before)) short in
+      let long : length last ≡ 4096 = ap length wrote ∙ written-length 0 head before (omega (arith, room, small)) ∙ room in
       record {
         wrote = wrote;
         long = long;
         small = small;
         fits = omega (arith, told .1, small, long);
-        front = begins n text last before (sym (told .1)) wrote;
+        front = begins n head last before (sym (told .1)) wrote;
       }
 
 -- Entries that a header's stage collected
@@ -126,26 +132,18 @@ module _ (header : List ℕ) (there : Bool) where
         )
 
 -- The shared header's.
-module _ (message : List ℕ) (es : List Entry) (start : ℕ) (at : start ≡ valueOf unprotected es .start) where
-  shared-is : headerEntries message 1 start ≡ sharedEntries message es
-  unfolding sharedEntries
-  shared-is = ap (headerEntries message 1) at
-
-  pub shared-as : stageOf (first (objectOrder message (headerEntries message 1 start))) (length (headerEntries message 1 start))
-      ≡ stageOf (first (objectOrder message (sharedEntries message es))) (length (sharedEntries message es))
-  shared-as = ap (λ (xs : List Entry). stageOf (first (objectOrder message xs)) (length xs)) shared-is
-
+module _ (message : List ℕ) (t : Top) where
   pub shared-collected : (from : ℕ) (before last : List ℕ) (n : ℕ) →
       Passed n
-      ≡ stageOf (first (objectOrder message (headerEntries message 1 start))) (length (headerEntries message 1 start)) →
-      last ≡ collectedTable from (headerEntries message 1 start) before →
-      (first (objectOrder message (sharedEntries message es)) ≡ 0) × Collected (sharedEntries message es) from before last n
+      ≡ stageOf (first (objectOrder message (headerEntries message 1 (t .shared))))
+      (length (headerEntries message 1 (t .shared))) →
+      last ≡ collectedTable from (headerEntries message 1 (t .shared)) before →
+      (first (objectOrder message (sharedEntries message t)) ≡ 0) × Collected (sharedEntries message t) from before last n
+  unfolding sharedEntries
   shared-collected from before last n a l =
-      let told = passed-is n (first (objectOrder message (sharedEntries message es))) (length (sharedEntries message es))
-      (a ∙ shared-as) in (
+      let told = passed-is n (first (objectOrder message (sharedEntries message t))) (length (sharedEntries message t)) a in (
         told .0,
-        collected message (sharedEntries message es) from before last n (told .0) (told .1)
-            (l ∙ ap (λ (xs : List Entry). collectedTable from xs before) shared-is),
+        collected message (sharedEntries message t) from before last n (told .0) (told .1) l,
       )
 
 -- Both, one behind the other.
@@ -156,91 +154,93 @@ behind {es} {fs} {p} {s} {before} {table} {last} a b long =
     ∙ entries-more p fs table (omega (arith, a .short, long))
     ∙ ap (λ (l : List Entry). l ++ fs) (ap₂ entriesOf (a .count) (a .wrote) ∙ entries-written es before)
 
-pub front-printed : (header message : List ℕ) (es : List Entry) →
-    Printed header message (protectedEntries header ++ sharedEntries message es)
+pub front-printed : (header message : List ℕ) (t : Top) →
+    Printed (readTexts header message) (protectedEntries header ++ sharedEntries message t)
 unfolding protectedEntries sharedEntries headerEntries
-front-printed header message es =
-    printed-append header message (protectedEntries header) (sharedEntries message es)
-    (entries-printed registered header message header 0 (outermost header) refl)
-    (entries-printed registered header message message 1 (membersOf message (valueOf unprotected es .start)) refl)
+front-printed header message t =
+    printed-append (readTexts header message) (protectedEntries header) (sharedEntries message t)
+    (entries-printed registered (readTexts header message) header 0 (outermost header) refl)
+    (entries-printed registered (readTexts header message) message 1 (membersOf message (t .shared)) refl)
 
 -- The refusals in order
 
-module _ (known : List (List ℕ)) (message : List ℕ) (es : List Entry) (rs : List Recipient) (recipient : ℕ) where
+module _ (known : List (List ℕ)) (message : List ℕ) (t : Top) (rs : List Recipient) (recipient : ℕ) where
   abbrev header : List ℕ
-  header = text message es
+  header = text message t
 
   abbrev front : List Entry
-  front = protectedEntries header ++ sharedEntries message es
+  front = protectedEntries header ++ sharedEntries message t
 
   abbrev order : List Test
-  order = shapedOrder known message es rs recipient
+  order = jsonLater known message t rs recipient
 
   abbrev headed : List Test
-  headed = headedOrder known header message front rs recipient
+  headed = headedOrder known header message front (t .components) rs recipient
 
   abbrev there : Bool
-  there = present protected es
+  there = t .protected
 
   pub shaped-text : {n : ℕ} → first (textTests there header) ≡ n → 0 < n → first order ≡ n
   shaped-text e h =
-      ap first (shaped-is known message es rs recipient) ∙ stop (textTests there header) _ (text-nonzero there header) e h
+      ap first (shaped-is known message t rs recipient) ∙ stop (textTests there header) _ (text-nonzero there header) e h
 
   module _ (decoded : first (textTests there header) ≡ 0) where
     past-text : first order
-        ≡ first (protectedTests there header ++ (objectOrder message (sharedEntries message es) ++ headed))
+        ≡ first (protectedTests there header ++ (objectOrder message (sharedEntries message t) ++ headed))
     past-text =
-        ap first (shaped-is known message es rs recipient)
+        ap first (shaped-is known message t rs recipient)
         ∙ skip (textTests there header) _ (text-nonzero there header) decoded
 
     pub shaped-protected : {n : ℕ} → first (protectedTests there header) ≡ n → 0 < n → first order ≡ n
     shaped-protected e h = past-text ∙ stop (protectedTests there header) _ (protected-nonzero there header) e h
 
     module _ (own : first (protectedTests there header) ≡ 0) where
-      past-protected : first order ≡ first (objectOrder message (sharedEntries message es) ++ headed)
+      past-protected : first order ≡ first (objectOrder message (sharedEntries message t) ++ headed)
       past-protected = past-text ∙ skip (protectedTests there header) _ (protected-nonzero there header) own
 
-      pub shaped-shared : {n : ℕ} → first (objectOrder message (sharedEntries message es)) ≡ n → 0 < n → first order ≡ n
+      pub shaped-shared : {n : ℕ} → first (objectOrder message (sharedEntries message t)) ≡ n → 0 < n → first order ≡ n
       shaped-shared e h =
           past-protected
-          ∙ stop (objectOrder message (sharedEntries message es)) headed
-          (object-nonzero message (sharedEntries message es)) e h
+          ∙ stop (objectOrder message (sharedEntries message t)) headed
+          (object-nonzero message (sharedEntries message t)) e h
 
-      pub shaped-rest : first (objectOrder message (sharedEntries message es)) ≡ 0 → first order ≡ first headed
+      pub shaped-rest : first (objectOrder message (sharedEntries message t)) ≡ 0 → first order ≡ first headed
       shaped-rest e =
           past-protected
-          ∙ skip (objectOrder message (sharedEntries message es)) headed
-          (object-nonzero message (sharedEntries message es)) e
+          ∙ skip (objectOrder message (sharedEntries message t)) headed
+          (object-nonzero message (sharedEntries message t)) e
 
-  -- The answer, by that of what comes behind.
-  pub judges : (j : Judged) (s : List ℕ) (fs : List Entry) (text₀ now table₀ table : List ℕ) → s ≡ header → fs ≡ front →
-      first order ≡ first headed → now ≡ written 0 header text₀ → length now ≡ length text₀ →
-      Heads message (headedOrder known s message fs rs recipient) (headedOutcome s message es fs rs recipient) j table₀ table →
-      Judges message order (shapedOutcome message es rs recipient) j text₀ now table₀ table
-  unfolding shapedOutcome
-  judges j s fs text₀ now table₀ table e f rest wrote long h =
+  -- The answer, by that of what comes behind, whose table is as long as that of the whole.
+  pub judges : (j : Judged) (s : List ℕ) (fs : List Entry) (text₀ now table₀ table₁ table : List ℕ) → s ≡ header →
+      fs ≡ front → first order ≡ first headed → now ≡ written 0 header text₀ → length now ≡ length text₀ →
+      length table₁ ≡ length table₀ →
+      Heads message (headedOrder known s message fs (t .components) rs recipient)
+      (headedOutcome s message t fs rs recipient) j table₁ table →
+      Judges message order (outcomeOf message t rs recipient) j text₀ now table₀ table
+  unfolding outcomeOf
+  judges j s fs text₀ now table₀ table₁ table e f rest wrote long same h =
       cases j
       (subst
       (λ (g : List Entry).
-      Heads message (headedOrder known header message g rs recipient) (headedOutcome header message es g rs recipient) j
-      table₀ table)
+      Heads message (headedOrder known header message g (t .components) rs recipient)
+      (headedOutcome header message t g rs recipient) j table₁ table)
       f
       (subst
       (λ (l : List ℕ).
-      Heads message (headedOrder known l message fs rs recipient) (headedOutcome l message es fs rs recipient) j table₀
-      table)
+      Heads message (headedOrder known l message fs (t .components) rs recipient)
+      (headedOutcome l message t fs rs recipient) j table₁ table)
       e h))
     where
-      x : headedOutcome header message es front rs recipient ≡ shapedOutcome message es rs recipient
-      x = sym (outcome-is known message es rs recipient)
+      x : headedOutcome header message t front rs recipient ≡ outcomeOf message t rs recipient
+      x = sym (outcome-is known message t rs recipient)
 
       cases : (a : Judged) →
-          Heads message headed (headedOutcome header message es front rs recipient) a table₀ table →
-          Judges message order (shapedOutcome message es rs recipient) a text₀ now table₀ table
+          Heads message headed (headedOutcome header message t front rs recipient) a table₁ table →
+          Judges message order (outcomeOf message t rs recipient) a text₀ now table₀ table
       cases (Accepted r) k = (
         rest ∙ k .0,
         k .1 ∙ ap (accepted message) x,
         wrote,
-        k .2 ∙ ap (λ (o : Outcome). written 0 (flat (o .entries)) table₀) x,
+        subst (λ (o : Outcome). BeginsWith (o .entries) table₀ table) x (k .2 .0 ∙ same, k .2 .1),
       )
-      cases (Refused n) k = (rest ∙ k .0, k .1, long, k .2)
+      cases (Refused n) k = (rest ∙ k .0, k .1, long, k .2 ∙ same)

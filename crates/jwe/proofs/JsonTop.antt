@@ -11,23 +11,23 @@ use borrow.Author.Tests.{ltb-false}
 use Rattle.prelude.specs.Buffer.{written}
 use Rattle.grammar.specs.Places.{Element}
 use Rattle.prelude.specs.Any.{any}
-use Rattle.rows.specs.Rows.{Entry, present, repeated}
+use Rattle.rows.specs.Rows.{Entry, oneText, present, repeated}
 use Rattle.rows.specs.Tables.{flat, entriesOf}
 use Rattle.rows.proofs.Entries.{entries-written}
 use Rattle.prelude.specs.Refusals.{_if_, first, stageOf}
 use Rattle.prelude.specs.Limits.{mostRecipients}
-use Rattle.headers.specs.Components.{misspelled}
+use Rattle.headers.specs.Components.{Components, misspelled}
 use Rattle.headers.specs.Headers.{unread, objectOrder}
 use Rattle.prelude.specs.declared.Stage.the-variants.{Passed}
 use Rattle.headers.proofs.Stages.{passed-is}
-use Rattle.shape.specs.Shape.{protected, recipients, component, wrongTop, wrongElements, Recipient, recipientOf}
+use Rattle.shape.specs.Shape.{recipients, wrongTop, wrongElements, Recipient, recipientOf}
 use Rattle.shape.specs.Recipients.{topEntries, topOrder, elementsIn, elementEntries, elementOrder, elementsOrder}
-use Rattle.shape.specs.Recipients.{recipientsIn}
+use Rattle.shape.specs.Recipients.{Top, topOf, recipientsIn}
 use Rattle.shape.specs.Inner.Answers.{flatRecipients}
-use Rattle.jwe.specs.General.{allPlaces, anyMisspelled, jsonOrder}
-use Rattle.jwe.specs.Judge.{Outcome, accepted, jsonOutcome}
-use Rattle.jwe.specs.Answers.{Judges}
-use Rattle.jwe.specs.Inner.Stages.{recipientsOf, shapedOrder, shapedOutcome}
+use Rattle.jwe.specs.General.{allPlaces, anyMisspelled, jsonLater, jsonOrder}
+use Rattle.jwe.specs.Judge.{Outcome, accepted, outcomeOf, jsonOutcome}
+use Rattle.jwe.specs.Answers.{BeginsWith, Judges}
+use Rattle.jwe.specs.Inner.Stages.{recipientsOf}
 use Rattle.jwe.specs.declared.judged.Judged.{Judged}
 use Rattle.jwe.specs.declared.judged.Judged.the-variants.{Accepted, Refused}
 use Rattle.jwe.proofs.JsonOrder.{json-rest, json-outcome}
@@ -46,7 +46,7 @@ module _ (message : List ℕ) where
   unfolding topOrder objectOrder first
   top-few e =
       ltb-false 32 (length (topEntries message))
-      (second 7 8 (cond (repeated false message message (topEntries message)) 9 (cond (wrongTop message (topEntries message)) 10 0))
+      (second 7 8 (cond (repeated false (oneText message) (topEntries message)) 9 (cond (wrongTop message (topEntries message)) 10 0))
       (unread message) (ltb 32 (length (topEntries message))) (λ (z : _≡_ {A = ℕ} 7 0). omega (arith, z))
       (λ (z : _≡_ {A = ℕ} 8 0). omega (arith, z)) e)
 
@@ -112,18 +112,18 @@ module _ (message : List ℕ) (es : List Entry) where
           ),
         )
 
--- 5 on all components, by the entries and the recipients as they are known.
-pub misspelled-as : (message : List ℕ) (es fs : List Entry) (rs : List Recipient) → fs ≡ es → rs ≡ recipientsIn message es →
-    any (misspelled message) (allPlaces fs rs) ≡ anyMisspelled message es
+-- 5 on all components, by what the top level holds and the recipients as they are known.
+pub misspelled-as : (message : List ℕ) (es : List Entry) (t : Top) (rs : List Recipient) → t ≡ topOf es →
+    rs ≡ recipientsIn message es → any (misspelled message) (allPlaces (t .components) rs) ≡ anyMisspelled message es
 unfolding anyMisspelled
-misspelled-as message es fs rs e f =
-    ap₂ (λ (l : List Entry) (k : List Recipient). any (misspelled message) (allPlaces l k)) e f
+misspelled-as message es t rs e f =
+    ap₂ (λ (u : Top) (k : List Recipient). any (misspelled message) (allPlaces (u .components) k)) e f
 
 -- Where none is misspelled, the protected header is not.
-pub protected-sound : (message : List ℕ) (es : List Entry) (rs : List Recipient) →
-    any (misspelled message) (allPlaces es rs) ≡ false → misspelled message (component protected es) ≡ false
+pub protected-sound : (message : List ℕ) (q : Components) (rs : List Recipient) →
+    any (misspelled message) (allPlaces q rs) ≡ false → misspelled message (q .protected) ≡ false
 unfolding allPlaces any
-protected-sound message es rs e = cases (misspelled message (component protected es)) _ e
+protected-sound message q rs e = cases (misspelled message (q .protected)) _ e
   where
     cases : (a b : Bool) → (a || b) ≡ false → a ≡ false
     cases true b e = e
@@ -139,37 +139,37 @@ module _ (message : List ℕ) (known : List (List ℕ)) (recipient : ℕ) (top :
   abbrev rs : List Recipient
   rs = recipientsIn message es
 
-  pub judges-json : (j : Judged) (fs : List Entry) (ps : List Recipient) (text₀ text table₀ table : List ℕ) → fs ≡ es →
+  pub judges-json : (j : Judged) (t : Top) (ps : List Recipient) (text₀ text table₀ table : List ℕ) → t ≡ topOf es →
       ps ≡ rs →
-      Judges message (shapedOrder known message fs ps recipient) (shapedOutcome message fs ps recipient) j text₀ text table₀ table →
+      Judges message (jsonLater known message t ps recipient) (outcomeOf message t ps recipient) j text₀ text table₀ table →
       Judges message (jsonOrder message known recipient) (jsonOutcome message recipient) j text₀ text table₀ table
-  judges-json j fs ps text₀ text table₀ table e f h =
+  judges-json j t ps text₀ text table₀ table e f h =
       cases j
       (subst
       (λ (l : List Recipient).
-      Judges message (shapedOrder known message es l recipient) (shapedOutcome message es l recipient) j text₀ text table₀
+      Judges message (jsonLater known message (topOf es) l recipient) (outcomeOf message (topOf es) l recipient) j text₀ text table₀
       table)
       f
       (subst
-      (λ (l : List Entry).
-      Judges message (shapedOrder known message l ps recipient) (shapedOutcome message l ps recipient) j text₀ text table₀
+      (λ (l : Top).
+      Judges message (jsonLater known message l ps recipient) (outcomeOf message l ps recipient) j text₀ text table₀
       table)
       e h))
     where
-      same : first (jsonOrder message known recipient) ≡ first (shapedOrder known message es rs recipient)
+      same : first (jsonOrder message known recipient) ≡ first (jsonLater known message (topOf es) rs recipient)
       same = json-rest message known recipient top elements sound
 
-      x : shapedOutcome message es rs recipient ≡ jsonOutcome message recipient
+      x : outcomeOf message (topOf es) rs recipient ≡ jsonOutcome message recipient
       x = sym (json-outcome message known recipient)
 
       cases : (a : Judged) →
-          Judges message (shapedOrder known message es rs recipient) (shapedOutcome message es rs recipient) a text₀ text
+          Judges message (jsonLater known message (topOf es) rs recipient) (outcomeOf message (topOf es) rs recipient) a text₀ text
           table₀ table →
           Judges message (jsonOrder message known recipient) (jsonOutcome message recipient) a text₀ text table₀ table
       cases (Accepted r) k = (
         same ∙ k .0,
         k .1 ∙ ap (accepted message) x,
         k .2 ∙ ap (λ (o : Outcome). written 0 (o .header) text₀) x,
-        k .3 ∙ ap (λ (o : Outcome). written 0 (flat (o .entries)) table₀) x,
+        subst (λ (o : Outcome). BeginsWith (o .entries) table₀ table) x (k .3),
       )
       cases (Refused n) k = (same ∙ k .0, k .1, k .2, k .3)

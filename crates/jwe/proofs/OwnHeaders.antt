@@ -11,7 +11,7 @@ use borrow.Author.Count.{below-none, below-more}
 use borrow.Author.Tests.{le-leb}
 use Rattle.prelude.specs.Buffer.{written}
 use Rattle.prelude.proofs.Writing.{written-length}
-use Rattle.rows.specs.Rows.{Entry}
+use Rattle.rows.specs.Rows.{Entry, readTexts}
 use Rattle.rows.specs.Tables.{flat, entriesOf, collectedTable}
 use Rattle.rows.proofs.Entries.{flat-of, flat-length, entries-length, entries-front}
 use Rattle.rows.proofs.Entries.{entries-written-from, entries-more}
@@ -147,7 +147,7 @@ module _ (message of own counts : List ℕ) (i front n : ℕ) (table last : List
   gathered-front = ap (entriesOf front) left ∙ first-kept front (flat its) table (omega arith)
 
 -- Its fingerprints are those of its names.
-pub own-printed : (header message : List ℕ) (r : Recipient) → Printed header message (ownEntries message r)
+pub own-printed : (header message : List ℕ) (r : Recipient) → Printed (readTexts header message) (ownEntries message r)
 unfolding ownEntries headerEntries
 own-printed header message r =
-    entries-printed registered header message message 2 (membersOf message (r .header)) refl
+    entries-printed registered (readTexts header message) message 2 (membersOf message (r .header)) refl

@@ -12,8 +12,7 @@ use Rattle.prelude.proofs.Writing.{begins}
 use Rattle.names.specs.Names.{names, sound}
 use Rattle.grammar.specs.Reader.{opensObject}
 use Rattle.rows.specs.Rows.{Entry}
-use Rattle.rows.specs.Tables.{flat, listed, entriesOf}
-use Rattle.rows.proofs.Entries.{flat-length, entries-written}
+use Rattle.rows.specs.Tables.{listed, entriesOf}
 use Rattle.prelude.specs.Refusals.{Test, _if_, first}
 use Rattle.prelude.proofs.Refusals.{first-fails, first-passes}
 use Rattle.prelude.specs.Limits.{longest, headerRoom, listRoom}
@@ -145,19 +144,18 @@ written-most : (xs before : List ℕ) → length xs ≤ length (written 0 xs bef
 unfolding written
 written-most xs before = omega (arith, length-append xs (drop (0 + length xs) before))
 
-pub holds : (message : List ℕ) (x : Outcome) (r : Result) (text₀ text table₀ table : List ℕ) →
-    numbers r ≡ accepted message x → text ≡ written 0 (x .header) text₀ → table ≡ written 0 (flat (x .entries)) table₀ →
+pub holds : (message : List ℕ) (x : Outcome) (r : Result) (text₀ text table : List ℕ) →
+    numbers r ≡ accepted message x → text ≡ written 0 (x .header) text₀ →
+    (length (x .entries) * 8 ≤ length table) × (entriesOf (length (x .entries)) table ≡ x .entries) →
     length text ≡ 4096 → length table ≡ 768 → Holds x text table (r .header) (r .parameters)
 unfolding accepted
-holds message x r text₀ text table₀ table e f g room space =
+holds message x r text₀ text table e f g room space =
     let size : r .header ≡ length (x .header) = ap (λ (l : List ℕ). getD l 16 0) e in
     let count : r .parameters ≡ length (x .entries) = ap (λ (l : List ℕ). getD l 17 0) e in
     record {
       size = size;
       front = begins (r .header) (x .header) text text₀ (sym size) f;
       within = omega (arith, written-most (x .header) text₀, ap length f, room);
-      entries = ap₂ entriesOf count g ∙ entries-written (x .entries) table₀;
-      few =
-          omega
-          (arith, written-most (flat (x .entries)) table₀, ap length g, space, flat-length (x .entries), count);
+      entries = ap (λ (n : ℕ). entriesOf n table) count ∙ g .1;
+      few = omega (arith, count, g .0, space);
     }

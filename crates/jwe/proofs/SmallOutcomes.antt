@@ -21,7 +21,7 @@ use Rattle.grammar.proofs.Endings.{either}
 use Rattle.json.proofs.Within.{members-within}
 use Rattle.json.proofs.MemberRows.{rows-at-most, members-first, elements-first}
 use Rattle.names.specs.Names.{numberIn}
-use Rattle.rows.specs.Rows.{Entry, entryOf, entriesIn, valueIn, numbered, present, valueOf}
+use Rattle.rows.specs.Rows.{Entry, Texts, readTexts, entryOf, entriesIn, valueIn, numbered, present, valueOf}
 use Rattle.jose.specs.Registered.{registered, alg}
 use Rattle.algorithms.specs.Algorithms.{algs, algNames, mode, nth, modeOf}
 use Rattle.jose.specs.HeaderRules.{modeIn}
@@ -34,12 +34,12 @@ use Rattle.algorithms.specs.declared.Alg.the-variants.{EcdhEsA192Kw, EcdhEsA256
 use Rattle.headers.specs.Components.{octetsAt, absent, places}
 use Rattle.headers.specs.Headers.{headerText, outermost, protectedEntries, membersOf, headerEntries}
 use Rattle.shape.specs.Shape.{memberNames, memberEntries, protected, encryptedKey, recipients, iv, aad, ciphertext, tag}
-use Rattle.shape.specs.Shape.{unprotected, inner, component, Recipient, recipientOf}
-use Rattle.shape.specs.Recipients.{topEntries, elementsIn, elementEntries, recipientsIn, componentsIn}
+use Rattle.shape.specs.Shape.{inner, component, Recipient, recipientOf}
+use Rattle.shape.specs.Recipients.{Top, topOf, topEntries, elementsIn, elementEntries, recipientsIn, componentsIn}
 use Rattle.prelude.specs.Ascii.{fullStop}
 use Rattle.jwe.specs.Compact.{after, stops, between, compactComponents}
 use Rattle.jwe.specs.General.{sharedEntries, ownEntries, parameters}
-use Rattle.jwe.specs.Judge.{Outcome, compactOutcome, asked, jsonOutcome, outcome, place, accepted}
+use Rattle.jwe.specs.Judge.{Outcome, compactOutcome, asked, outcomeOf, jsonOutcome, outcome, place, accepted}
 
 -- Modes
 
@@ -66,13 +66,13 @@ listed-mode : (x : Option Alg) → modeOf x ≤ 5
 listed-mode none = zero-le
 listed-mode (some a) = algorithm-mode a
 
-pub mode-low : (header message : List ℕ) (es : List Entry) → modeIn header message es ≤ 5
+pub mode-low : (ts : Texts) (es : List Entry) → modeIn ts es ≤ 5
 unfolding modeIn
-mode-low header message [] = zero-le
-mode-low header message (e ∷ es) =
-    let rest = mode-low header message es in
+mode-low ts [] = zero-le
+mode-low ts (e ∷ es) =
+    let rest = mode-low ts es in
     either (λ m. m ≤ 5) (numbered alg e)
-    (λ _. listed-mode (nth algs (numberIn algNames (valueIn header message e))))
+    (λ _. listed-mode (nth algs (numberIn algNames (valueIn ts e))))
     (λ _. rest)
 
 -- Sizes of headers
@@ -120,18 +120,18 @@ header-few message o start =
     (λ _. zero-le)
     (λ _. members-few levels message start))
 
-pub parameters-few : (header message : List ℕ) (es : List Entry) (r : Recipient) →
-    length (parameters header message es r) ≤ length header + (length message + length message)
+pub parameters-few : (header message : List ℕ) (t : Top) (r : Recipient) →
+    length (parameters header message t r) ≤ length header + (length message + length message)
 unfolding parameters sharedEntries ownEntries
-parameters-few header message es r =
-    let shared = headerEntries message 1 (valueOf unprotected es .start) in
+parameters-few header message t r =
+    let shared = headerEntries message 1 (t .shared) in
     let own = headerEntries message 2 (r .header) in
     omega (
       arith,
       length-append (protectedEntries header) (shared ++ own),
       length-append shared own,
       protected-few header,
-      header-few message 1 (valueOf unprotected es .start),
+      header-few message 1 (t .shared),
       header-few message 2 (r .header),
     )
 
@@ -279,7 +279,7 @@ module _ (message : List ℕ) where
 
   pub json-places : (k : ℕ) →
       Every (Low (length message + 4))
-      (places (componentsIn (topEntries message) (asked (recipientsIn message (topEntries message)) k)))
+      (places (componentsIn (topOf (topEntries message)) (asked (recipientsIn message (topEntries message)) k)))
   unfolding componentsIn
   json-places k =
       let rs = recipientsIn message (topEntries message) in
@@ -318,18 +318,18 @@ module _ (message : List ℕ) where
       }
 
   pub json-bounded : (recipient : ℕ) → Bounded (length message) (jsonOutcome message recipient)
-  unfolding jsonOutcome
+  unfolding jsonOutcome outcomeOf
   json-bounded recipient =
       let es = topEntries message in
       let r = asked (recipientsIn message es) recipient in
-      let q = componentsIn es r .protected in
+      let q = component protected es in
       let short = header-short message q in
       record {
         form = either (λ k. k ≤ 2) (present recipients es) (λ _. omega arith) (λ _. omega arith);
         recipients = recipients-few message es;
         components = json-places message recipient;
         header = short;
-        entries = omega (arith, parameters-few (headerText message q) message es r, short);
+        entries = omega (arith, parameters-few (headerText message q) message (topOf es) r, short);
       }
 
   pub outcome-bounded : (recipient : ℕ) → Bounded (length message) (outcome message recipient)
@@ -344,8 +344,8 @@ unfolding accepted
 accepted-below limit n message x room b =
     let form : x .form < limit = omega (arith, room, b .form) in
     let count : x .recipients < limit = omega (arith, room, b .recipients) in
-    let m = mode-low (x .header) message (x .entries) in
-    let mode : modeIn (x .header) message (x .entries) < limit = omega (arith, room, m) in
+    let m = mode-low (readTexts (x .header) message) (x .entries) in
+    let mode : modeIn (readTexts (x .header) message) (x .entries) < limit = omega (arith, room, m) in
     (omega (arith, room), (form, (count, (mode, others))))
   where
     near : (q : Place) → Low (n + 4) q → (q .start < limit) × (q .size < limit)

@@ -10,14 +10,15 @@ use Rattle.grammar.specs.Reader.{opensObject}
 use Rattle.grammar.specs.Places.{Element}
 use Rattle.names.specs.Names.{names}
 use Rattle.prelude.specs.Any.{any}
-use Rattle.rows.specs.Rows.{Entry, present}
+use Rattle.rows.specs.Rows.{Entry, Texts, present}
 use Rattle.prelude.specs.Refusals.{Test, first}
+use Rattle.jose.specs.declared.Sizes.{Sizes}
 use Rattle.jose.specs.HeaderRules.{recipientOrder}
 use Rattle.headers.specs.Headers.{textOrder, objectOrder}
-use Rattle.shape.specs.Shape.{Recipient, protected, recipients}
-use Rattle.shape.specs.Recipients.{topEntries, topOrder, elementOrder, elementsIn, elementsOrder, recipientsIn}
+use Rattle.shape.specs.Shape.{Recipient, recipients}
+use Rattle.shape.specs.Recipients.{Top, topOf, topEntries, topOrder, elementOrder, elementsIn, elementsOrder, recipientsIn}
 use Rattle.jwe.specs.Compact.{compactOrder}
-use Rattle.jwe.specs.General.{ownEntries, protectedOrder, headersOrder, recipientsOrder, jsonOrder}
+use Rattle.jwe.specs.General.{ownEntries, protectedOrder, headersOrder, recipientsOrder, jsonSpelled, jsonLater, jsonOrder}
 use Rattle.jwe.specs.Judge.{order, refusal}
 
 -- A test whose number is not in document 01's table.
@@ -68,10 +69,10 @@ object-low : (s : List ℕ) (es : List Entry) → any beyond (objectOrder s es) 
 unfolding any objectOrder
 object-low s es = refl
 
-recipient-low : (known : List (List ℕ)) (header message : List ℕ) (es : List Entry) (noKey : Bool) →
-    any beyond (recipientOrder known header message es noKey) ≡ false
+recipient-low : (known : List (List ℕ)) (ts : Texts) (es : List Entry) (z : Sizes) →
+    any beyond (recipientOrder known ts es z) ≡ false
 unfolding any recipientOrder
-recipient-low known header message es noKey = refl
+recipient-low known ts es z = refl
 
 compact-low : (message : List ℕ) (known : List (List ℕ)) (recipient : ℕ) →
     any beyond (compactOrder message known recipient) ≡ false
@@ -93,32 +94,33 @@ elements-low message es =
     (each-low (λ (x : Element). elementOrder message (x .start)) (λ x. element-low message (x .start))
     (elementsIn message es))
 
-protected-low : (es : List Entry) (header : List ℕ) → any beyond (protectedOrder es header) ≡ false
+protected-low : (t : Top) (header : List ℕ) → any beyond (protectedOrder t header) ≡ false
 unfolding any protectedOrder textOrder
-protected-low es header = if-low (present protected es) _ refl
+protected-low t header = if-low (t .protected) _ refl
 
-headers-low : (header message : List ℕ) (es : List Entry) (rs : List Recipient) →
-    any beyond (headersOrder header message es rs) ≡ false
+headers-low : (header message : List ℕ) (t : Top) (rs : List Recipient) →
+    any beyond (headersOrder header message t rs) ≡ false
 unfolding any headersOrder objectOrder
-headers-low header message es rs =
+headers-low header message t rs =
     each-low (λ r. objectOrder message (ownEntries message r)) (λ r. object-low message (ownEntries message r)) rs
 
-recipients-low : (known : List (List ℕ)) (header message : List ℕ) (es : List Entry) (rs : List Recipient) →
-    any beyond (recipientsOrder known header message es rs) ≡ false
+recipients-low : (known : List (List ℕ)) (header message : List ℕ) (t : Top) (rs : List Recipient) →
+    any beyond (recipientsOrder known header message t rs) ≡ false
 unfolding recipientsOrder
-recipients-low known header message es rs = each-low _ (λ r. recipient-low known header message _ _) rs
+recipients-low known header message t rs = each-low _ (λ r. recipient-low known _ _ _) rs
 
 json-low : (message : List ℕ) (known : List (List ℕ)) (recipient : ℕ) →
     any beyond (jsonOrder message known recipient) ≡ false
-unfolding any jsonOrder
+unfolding any jsonOrder jsonSpelled jsonLater
 json-low message known recipient =
     let es = topEntries message in
     let rs = recipientsIn message es in
-    both-low (topOrder message) _ (top-low message)
-    (both-low (elementsOrder message es) _ (elements-low message es)
-    (both-low (protectedOrder es _) _ (protected-low es _)
-    (both-low (headersOrder _ message es rs) _ (headers-low _ message es rs)
-    (both-low (recipientsOrder known _ message es rs) _ (recipients-low known _ message es rs) refl))))
+    both-low (jsonSpelled message) _
+    (both-low (topOrder message) _ (top-low message)
+    (both-low (elementsOrder message es) _ (elements-low message es) refl))
+    (both-low (protectedOrder (topOf es) _) _ (protected-low (topOf es) _)
+    (both-low (headersOrder _ message (topOf es) rs) _ (headers-low _ message (topOf es) rs)
+    (both-low (recipientsOrder known _ message (topOf es) rs) _ (recipients-low known _ message (topOf es) rs) refl)))
 
 module _ (message known : List ℕ) (recipient headerLent listLent : ℕ) where
   order-low : any beyond (order message known recipient headerLent listLent) ≡ false

@@ -13,8 +13,9 @@ use Rattle.prelude.specs.Any.{any}
 use Rattle.headers.specs.Components as headers
 use Rattle.prelude.specs.Ascii.{fullStop}
 use Rattle.jwe.specs.Compact.{after, Stops, stops, fourStops, between, compactComponents}
-use Rattle.jwe.specs.Answers.{codePlace, codeComponents, componentsOf, splitOf}
-use Rattle.jwe.specs.declared.Components.{Components}
+use Rattle.headers.specs.Answers.{codePlace, codeComponents, componentsOf}
+use Rattle.jwe.specs.Answers.{splitOf}
+use Rattle.headers.specs.declared.Components.{Components}
 use Rattle.jwe.specs.declared.compact.FullStops.{FullStops}
 use Rattle.jwe.specs.declared.compact.FullStops.the-variants.{Four, Other}
 

@@ -8,18 +8,18 @@ use lib.ListN.{length, take}
 use borrow.Author.Tests.{ltb-false}
 use Rattle.prelude.specs.Buffer.{written}
 use Rattle.prelude.proofs.Writing.{written-length, begins}
-use Rattle.rows.specs.Rows.{Entry}
+use Rattle.rows.specs.Rows.{Entry, readTexts}
 use Rattle.rows.specs.Inner.Prints.{Printed}
 use Rattle.prelude.specs.Refusals.{Test, first, stageOf}
 use Rattle.jose.specs.HeaderRules.{modeIn}
 use Rattle.headers.specs.Headers.{tooLong, textOrder}
-use Rattle.headers.specs.Answers.{headerBuffer}
+use Rattle.headers.specs.Answers.{codeComponents, headerBuffer}
 use Rattle.prelude.specs.declared.Stage.the-variants as stage
 use Rattle.headers.proofs.Stages.{passed-is, not-long}
 use Rattle.jwe.specs.Compact.{compactComponents}
 use Rattle.jwe.specs.Judge.{Outcome, compactOutcome, accepted}
-use Rattle.jwe.specs.Answers.{Judges, codeComponents, numbers}
-use Rattle.jwe.specs.declared.Components.{Components}
+use Rattle.jwe.specs.Answers.{Judges, numbers}
+use Rattle.headers.specs.declared.Components.{Components}
 use Rattle.jwe.specs.declared.judged.Judged.{Judged}
 use Rattle.jwe.specs.declared.judged.Judged.the-variants.{Accepted, Refused}
 use Rattle.jwe.proofs.CompactOrder.{header, entries}
@@ -76,15 +76,15 @@ read-passed header before after n room e l =
 
 -- Fingerprints that fit, of a text and entries known by other names.
 pub printed-as : (message h : List ℕ) (es : List Entry) (header : List ℕ) (entries : List Entry) → h ≡ header →
-    es ≡ entries → Printed header message entries → Printed h message es
+    es ≡ entries → Printed (readTexts header message) entries → Printed (readTexts h message) es
 printed-as message h es header entries e f p =
-    subst (λ (x : List ℕ). Printed x message es) (sym e)
-    (subst (λ (l : List Entry). Printed header message l) (sym f) p)
+    subst (λ (x : List ℕ). Printed (readTexts x message) es) (sym e)
+    (subst (λ (l : List Entry). Printed (readTexts header message) l) (sym f) p)
 
 -- The numbers of an accepted compact message
 pub accepted-are : (message : List ℕ) (m n count : ℕ) (q : Components) →
     q ≡ codeComponents (compactComponents message) →
-    m ≡ modeIn (header message) message (entries message) →
+    m ≡ modeIn (readTexts (header message) message) (entries message) →
     n ≡ length (header message) → count ≡ length (entries message) →
     numbers (record {
       number = 0;
@@ -111,7 +111,7 @@ accepted-are message m n count q e f g h =
       number = 0;
       form = 0;
       recipients = 1;
-      mode = modeIn (header message) message (entries message);
+      mode = modeIn (readTexts (header message) message) (entries message);
       components = codeComponents (compactComponents message);
       header = x;
       parameters = y;

@@ -2,50 +2,25 @@
 use mathlib.Core.Path.{_≡_}
 use mathlib.Core.Bool.{cond}
 use mathlib.Core.List.{List, [], _∷_}
-use Prim.Native.Nat.{ℕ, _<_}
+use Prim.Native.Nat.{ℕ, _*_, _≤_, _<_}
 use lib.ListN.{length}
 use Rattle.prelude.specs.Buffer.{written}
 use Rattle.grammar.specs.Places as json
 use Rattle.prelude.specs.declared.Place.{Place}
 use Rattle.headers.specs.Components as headers
-use Rattle.headers.specs.Answers.{placeOf}
+use Rattle.headers.specs.Answers.{codeComponents}
 use Rattle.prelude.specs.declared.Stage.{Stage}
 use Rattle.prelude.specs.declared.Stage.the-variants as stage
-use Rattle.rows.specs.Tables.{flat}
+use Rattle.rows.specs.Rows.{Entry}
+use Rattle.rows.specs.Tables.{entriesOf, width}
 use Rattle.prelude.specs.Refusals.{Test, first}
 use Rattle.jwe.specs.Judge.{Outcome, accepted}
 use Rattle.jwe.specs.Compact.{fourStops, compactComponents}
-use Rattle.jwe.specs.declared.Components.{Components}
 use Rattle.jwe.specs.declared.Result.{Result}
 use Rattle.jwe.specs.declared.compact.FullStops.{FullStops}
 use Rattle.jwe.specs.declared.compact.FullStops.the-variants.{Four, Other}
 use Rattle.jwe.specs.declared.judged.Judged.{Judged}
 use Rattle.jwe.specs.declared.judged.Judged.the-variants.{Accepted, Refused}
-
--- Places and components of the code for those of the definitions, and back.
-
-abbrev pub codePlace : json.Place → Place
-codePlace q = record { start = q .start; len = q .size }
-
-abbrev pub codeComponents : headers.Components → Components
-codeComponents q = record {
-  protected = codePlace (q .protected);
-  key = codePlace (q .key);
-  iv = codePlace (q .iv);
-  aad = codePlace (q .aad);
-  ciphertext = codePlace (q .ciphertext);
-  tag = codePlace (q .tag);
-}
-
-abbrev pub componentsOf : Components → headers.Components
-componentsOf q = record {
-  protected = placeOf (q .protected);
-  key = placeOf (q .key);
-  iv = placeOf (q .iv);
-  aad = placeOf (q .aad);
-  ciphertext = placeOf (q .ciphertext);
-  tag = placeOf (q .tag);
-}
 
 -- A message split at its full stops.
 unfoldable pub splitOf : List ℕ → FullStops
@@ -68,6 +43,11 @@ numbers r =
     (placeNumbers (r .components .aad)
     (placeNumbers (r .components .ciphertext) (placeNumbers (r .components .tag) (r .header ∷ r .parameters ∷ []))))))
 
+-- A table as long as before that begins with some entries.
+abbrev pub BeginsWith : List Entry → List ℕ → List ℕ → Type 0
+BeginsWith es before after =
+    (length after ≡ length before) × ((length es * width ≤ length after) × (entriesOf (length es) after ≡ es))
+
 -- A message judged by an order: refused by its first failing test, or accepted with the numbers of its outcome, the decoded
 -- header at the start of the text buffer and the entries at the start of the table. Where it is refused the contents of
 -- both are free and their lengths are kept: they are local ones of `read`, which does not read them then.
@@ -76,7 +56,7 @@ Judges message order x (Accepted r) text₀ text table₀ table =
     (first order ≡ 0)
     × (numbers r ≡ accepted message x)
     × (text ≡ written 0 (x .header) text₀)
-    × (table ≡ written 0 (flat (x .entries)) table₀)
+    × BeginsWith (x .entries) table₀ table
 Judges message order x (Refused n) text₀ text table₀ table =
     (first order ≡ n)
     × (0 < n)

@@ -7,10 +7,11 @@ use lib.Dec.{eqb, leb, ltb}
 use Rattle.parts.specs.Parts.{seek}
 use Rattle.grammar.specs.Places.{Place}
 use Rattle.prelude.specs.Any.{any}
+use Rattle.rows.specs.Rows.{readTexts}
 use Rattle.prelude.specs.Refusals.{Test, _if_}
 use Rattle.jose.specs.HeaderRules.{recipientOrder}
 use Rattle.prelude.specs.Ascii.{fullStop}
-use Rattle.headers.specs.Components.{absent, Components, places, misspelled}
+use Rattle.headers.specs.Components.{absent, Components, places, misspelled, sizesOf}
 use Rattle.headers.specs.Headers.{headerText, textOrder, protectedEntries, objectOrder}
 
 -- The position of the first full stop after a position.
@@ -55,15 +56,21 @@ compactComponents message =
       tag = between (s .fourth) (length message);
     }
 
+-- The refusals of a compact message until its spelling is judged.
+abbrev pub compactSpelled : List ℕ → List Test
+compactSpelled message =
+    4 if not (fourStops message) ∷ 5 if any (misspelled message) (places (compactComponents message)) ∷ []
+
+-- Those after it, of its components.
+abbrev pub compactLater : List (List ℕ) → List ℕ → Components → ℕ → List Test
+compactLater known message q recipient =
+    let header = headerText message (q .protected) in
+    let es = protectedEntries header in
+    textOrder header
+    ++ (objectOrder header es
+    ++ (recipientOrder known (readTexts header message) es (sizesOf q) ++ (19 if leb 1 recipient ∷ [])))
+
 -- The refusals of a compact message, from 4 on.
 unfoldable pub compactOrder : List ℕ → List (List ℕ) → ℕ → List Test
 compactOrder message known recipient =
-    let q = compactComponents message in
-    let header = headerText message (q .protected) in
-    let es = protectedEntries header in
-    4 if not (fourStops message)
-    ∷ 5 if any (misspelled message) (places q)
-    ∷ (textOrder header
-    ++ (objectOrder header es
-    ++ (recipientOrder known header message es (eqb (q .key .size) 0)
-    ++ (19 if leb 1 recipient ∷ []))))
+    compactSpelled message ++ compactLater known message (compactComponents message) recipient

@@ -9,15 +9,15 @@ use Rattle.prelude.specs.Buffer.{written}
 use Rattle.names.specs.Names.{names, sound}
 use Rattle.grammar.specs.Places.{Place}
 use Rattle.grammar.specs.Reader.{opensObject}
-use Rattle.rows.specs.Rows.{Entry, present}
+use Rattle.rows.specs.Rows.{Entry, readTexts}
 use Rattle.rows.specs.Tables.{listed}
 use Rattle.prelude.specs.Refusals.{Test, _if_, first}
 use Rattle.jose.specs.HeaderRules.{modeIn}
 use Rattle.prelude.specs.Limits.{longest, headerRoom, listRoom}
-use Rattle.headers.specs.Components.{Components}
+use Rattle.headers.specs.Components.{Components, compactForm}
 use Rattle.headers.specs.Headers.{headerText, protectedEntries}
-use Rattle.shape.specs.Shape.{recipients, Recipient, recipientOf}
-use Rattle.shape.specs.Recipients.{topEntries, recipientsIn, componentsIn}
+use Rattle.shape.specs.Shape.{Recipient, recipientOf}
+use Rattle.shape.specs.Recipients.{Top, topOf, topEntries, recipientsIn, componentsIn}
 use Rattle.jwe.specs.Compact.{compactComponents, compactOrder}
 use Rattle.jwe.specs.General.{parameters, jsonOrder}
 
@@ -46,7 +46,7 @@ unfoldable pub compactOutcome : List ℕ → Outcome
 compactOutcome message =
     let q = compactComponents message in
     let header = headerText message (q .protected) in
-    record { form = 0; recipients = 1; components = q; header = header; entries = protectedEntries header }
+    record { form = compactForm; recipients = 1; components = q; header = header; entries = protectedEntries header }
 
 -- The n-th recipient, counted from 0; the flattened form's, or one without header and key, where there is none.
 unfoldable pub asked : List Recipient → ℕ → Recipient
@@ -54,20 +54,23 @@ asked [] n = recipientOf []
 asked (r ∷ rs) zero = r
 asked (r ∷ rs) (suc n) = asked rs n
 
+-- By what the top level holds and by the recipients.
+unfoldable pub outcomeOf : List ℕ → Top → List Recipient → ℕ → Outcome
+outcomeOf message t rs recipient =
+    let r = asked rs recipient in
+    let header = headerText message (t .components .protected) in
+    record {
+      form = t .form;
+      recipients = length rs;
+      components = componentsIn t r;
+      header = header;
+      entries = parameters header message t r;
+    }
+
 unfoldable pub jsonOutcome : List ℕ → ℕ → Outcome
 jsonOutcome message recipient =
     let es = topEntries message in
-    let rs = recipientsIn message es in
-    let r = asked rs recipient in
-    let q = componentsIn es r in
-    let header = headerText message (q .protected) in
-    record {
-      form = cond (present recipients es) 2 1;
-      recipients = length rs;
-      components = q;
-      header = header;
-      entries = parameters header message es r;
-    }
+    outcomeOf message (topOf es) (recipientsIn message es) recipient
 
 unfoldable pub outcome : List ℕ → ℕ → Outcome
 outcome message recipient =
@@ -85,7 +88,7 @@ accepted message x =
     0
     ∷ x .form
     ∷ x .recipients
-    ∷ modeIn (x .header) message (x .entries)
+    ∷ modeIn (readTexts (x .header) message) (x .entries)
     ∷ place (x .components .protected)
     (place (x .components .key)
     (place (x .components .iv)

@@ -10,11 +10,12 @@ ghost use Rattle.rows.specs.Tables.{recipientTable};
 ghost use Rattle.headers.specs.Components.{misspelled, places};
 ghost use Rattle.jwe.specs.Compact.{between, fourStops, compactComponents, compactOrder};
 ghost use Rattle.jwe.specs.Judge.{compactOutcome};
-ghost use Rattle.jwe.specs.Answers.{codePlace, codeComponents, componentsOf, splitOf, Judges};
-use crate::Components;
+ghost use Rattle.headers.specs.Answers.{codePlace, codeComponents, componentsOf};
+ghost use Rattle.jwe.specs.Answers.{splitOf, Judges};
 use crate::Result;
 use crate::judged::Judged;
 use crate::judged::handed;
+use headers::Components;
 use prelude::Place;
 use prelude::Stage;
 
@@ -112,7 +113,15 @@ fn judge_header(
     let Stage::Passed(count) = collected else {
         return handed(collected);
     };
-    let judged = jose::judge::judge(&text[..n], message, known, table, count, q.key.len == 0);
+    let judged = jose::judge::judge(
+        &text[..n],
+        message,
+        message,
+        known,
+        table,
+        count,
+        headers::sizes(q),
+    );
     let Stage::Passed(mode) = judged else {
         return handed(judged);
     };

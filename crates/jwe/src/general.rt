@@ -2,59 +2,35 @@
 // for each; a table of recipients three: where the own header stands, the key's start and its length. What each
 // function answers stands in specs/Inner/Stages.
 ghost use mathlib.Core.Path.{_≡_};
-ghost use mathlib.Core.Bool.{true, false, cond};
+ghost use mathlib.Core.Bool.{true, false};
 ghost use mathlib.Core.List.{_++_, map};
 ghost use Prim.Native.Nat.{_+_, _*_, _≤_, _<_};
 ghost use lib.ListN.{length, drop, getD};
-ghost use lib.Dec.{eqb};
 ghost use Rattle.prelude.specs.Buffer.{written};
 ghost use Rattle.prelude.specs.Limits.{headerRoom, longest, mostMembers, mostRecipients};
 ghost use Rattle.names.specs.Names.{names, filled};
 ghost use Rattle.prelude.specs.Any.{any};
-ghost use Rattle.rows.specs.Rows.{present, valueOf};
+ghost use Rattle.rows.specs.Rows.{readTexts};
 ghost use Rattle.rows.specs.Inner.Prints.{Printed};
 ghost use Rattle.rows.specs.Tables.{flat, entriesOf, collectedTable, headerTable, recipientTable, width};
 ghost use Rattle.prelude.specs.Refusals.{first, stageOf};
-ghost use Rattle.jose.specs.HeaderRules.{recipientOrder, modeIn};
-ghost use Rattle.headers.specs.Components.{misspelled};
+ghost use Rattle.headers.specs.Components.{absent, misspelled};
 ghost use Rattle.headers.specs.Headers.{headerText, protectedEntries, headerEntries, objectOrder};
-ghost use Rattle.headers.specs.Answers.{placeOf, headerBuffer};
-ghost use Rattle.shape.specs.Shape.{component, protected, recipients, unprotected};
-ghost use Rattle.shape.specs.Recipients.{componentsIn};
-ghost use Rattle.shape.specs.Inner.Answers.{recipientWidth};
-ghost use Rattle.jwe.specs.General.{allPlaces, jsonOrder};
-ghost use Rattle.jwe.specs.Judge.{jsonOutcome};
-ghost use Rattle.jwe.specs.Answers.{componentsOf, Judges};
+ghost use Rattle.headers.specs.Answers.{placeOf, componentsOf, headerBuffer};
+ghost use Rattle.shape.specs.Inner.Answers.{recipientWidth, topIn};
+ghost use Rattle.jwe.specs.General.{allPlaces, jsonLater, jsonOrder};
+ghost use Rattle.jwe.specs.Judge.{accepted, outcomeOf, jsonOutcome};
+ghost use Rattle.jwe.specs.Answers.{numbers, BeginsWith, Judges};
 ghost use Rattle.jwe.specs.Inner.Stages.{recipientAt, recipientsOf, Owned, LeavesOwn, textTests, protectedTests, ownTests, ruleTests};
-ghost use Rattle.jwe.specs.Inner.Stages.{HeaderKnown, HeadersKnown, headedOrder, shapedOrder, headedOutcome, shapedOutcome, Heads, ownTable};
-use crate::Components;
+ghost use Rattle.jwe.specs.Inner.Stages.{HeaderKnown, HeadersKnown, allTests, headedOrder, headedOutcome, Heads, ownTable};
 use crate::Result;
 use crate::judged::Judged;
 use crate::judged::handed;
+use headers::Components;
 use json::Position;
 use prelude::Place;
 use prelude::Stage;
-
-// The place of a component of the top level without its quotation marks; 0, 0 where it is absent.
-fn component(top: &[u32], count: usize, n: u32) -> Place
-    requires { ⌜ count * width ≤ length (now top) ⌝ }
-    ensures { λ r. ⌜ placeOf r ≡ component n (entriesOf count (now (top .entry))) ⌝ }
-{
-    let value = rows::ask::value_of(top, count, n);
-    if value.len == 0 {
-        return Place { start: 0, len: 0 };
-    }
-    if value.len == 1 {
-        return Place {
-            start: value.start + 1,
-            len: 0,
-        };
-    }
-    Place {
-        start: value.start + 1,
-        len: value.len - 2,
-    }
-}
+use shape::held::Top;
 
 // The place of a recipient's key.
 fn key(of: &[usize], i: usize) -> Place
@@ -83,42 +59,41 @@ fn keys_misspelled(message: &[u8], of: &[usize], number: usize) -> bool
     false
 }
 
-// 5 on all components.
-fn misspelled(message: &[u8], top: &[u32], count: usize, of: &[usize], number: usize) -> bool
-    requires { ⌜ count * width ≤ length (now top) ⌝ }
+// 5 on all components: those of the top level, and the keys.
+fn misspelled(message: &[u8], q: Components, of: &[usize], number: usize) -> bool
     requires { ⌜ number * recipientWidth ≤ length (now of) ⌝ }
-    ensures { λ r. ⌜ r ≡ any (misspelled (now (message .entry))) (allPlaces (entriesOf count (now (top .entry))) (recipientsOf number (now (of .entry)))) ⌝ }
+    ensures { λ r. ⌜ r ≡ any (misspelled (now (message .entry))) (allPlaces (componentsOf q) (recipientsOf number (now (of .entry)))) ⌝ }
 {
-    if headers::misspelled(message, component(top, count, 1)) {
+    if headers::misspelled(message, q.protected) {
         return true;
     }
-    if headers::misspelled(message, component(top, count, 6)) {
+    if headers::misspelled(message, q.iv) {
         return true;
     }
-    if headers::misspelled(message, component(top, count, 7)) {
+    if headers::misspelled(message, q.aad) {
         return true;
     }
-    if headers::misspelled(message, component(top, count, 8)) {
+    if headers::misspelled(message, q.ciphertext) {
         return true;
     }
-    if headers::misspelled(message, component(top, count, 9)) {
+    if headers::misspelled(message, q.tag) {
         return true;
     }
     keys_misspelled(message, of, number)
 }
 
-// 6 and 7 on the protected header: it is decoded into the buffer, and how long it is, 0 where there is none.
-fn decoded(message: &[u8], top: &[u32], count: usize, text: &mut [u8]) -> Stage
-    requires { ⌜ count * width ≤ length (now top) ⌝ }
-    requires { ⌜ misspelled (now message) (component protected (entriesOf count (now top))) ≡ false ⌝ }
+// 6 and 7 on the protected header, if it is there: it is decoded into the buffer, and how long it is, 0 where there is none.
+fn decoded(message: &[u8], there: bool, place: Place, text: &mut [u8]) -> Stage
+    requires { ⌜ misspelled (now message) (placeOf place) ≡ false ⌝ }
+    requires { ⌜ (there ≡ false → placeOf place ≡ absent) ⌝ }
     requires { ⌜ length (now text) ≡ headerRoom ⌝ }
-    ensures { λ r. ⌜ r ≡ stageOf (first (textTests (present protected (entriesOf count (now (top .entry)))) (headerText (now (message .entry)) (component protected (entriesOf count (now (top .entry))))))) (length (headerText (now (message .entry)) (component protected (entriesOf count (now (top .entry)))))) ⌝ }
-    ensures { λ _. ⌜ now (text .exit) ≡ headerBuffer (headerText (now (message .entry)) (component protected (entriesOf count (now (top .entry))))) (now (text .entry)) ⌝ }
+    ensures { λ r. ⌜ r ≡ stageOf (first (textTests there (headerText (now (message .entry)) (placeOf place)))) (length (headerText (now (message .entry)) (placeOf place))) ⌝ }
+    ensures { λ _. ⌜ now (text .exit) ≡ headerBuffer (headerText (now (message .entry)) (placeOf place)) (now (text .entry)) ⌝ }
 {
-    if !rows::ask::present(top, count, 1) {
+    if !there {
         return Stage::Passed(0);
     }
-    headers::header(message, component(top, count, 1), text)
+    headers::header(message, place, text)
 }
 
 // 10 where the protected header is there and has no member; 8 and 9 on it: its parameters as entries of the table.
@@ -213,6 +188,7 @@ fn rules(
     header: &[u8],
     message: &[u8],
     known: &[u8],
+    q: Components,
     of: &[usize],
     number: usize,
     own: &[u32],
@@ -227,14 +203,15 @@ fn rules(
     requires { ⌜ length (now counts) ≡ mostRecipients ⌝ }
     requires { ⌜ Owned number (now message) (now of) (now own) (now counts) ⌝ }
     requires { ⌜ front * width + headerTable ≤ length (now table) ⌝ }
-    requires { ⌜ Printed (now header) (now message) (entriesOf front (now table)) ⌝ }
-    ensures { λ r. ⌜ r ≡ stageOf (first (ruleTests (names (now (known .entry))) (now (header .entry)) (now (message .entry)) (entriesOf front (now (table .entry))) (recipientsOf number (now (of .entry))))) number ⌝ }
+    requires { ⌜ Printed (readTexts (now header) (now message)) (entriesOf front (now table)) ⌝ }
+    ensures { λ r. ⌜ r ≡ stageOf (first (ruleTests (names (now (known .entry))) (now (header .entry)) (now (message .entry)) (entriesOf front (now (table .entry))) (componentsOf q) (recipientsOf number (now (of .entry))))) number ⌝ }
     ensures { λ _. ⌜ entriesOf front (now (table .exit)) ≡ entriesOf front (now (table .entry)) ⌝ }
 {
     let mut i: usize = 0;
     while i < number {
         let count = gather(own, counts, i, table, front);
-        let judged = jose::judge::judge(header, message, known, table, count, key(of, i).len == 0);
+        let sizes = headers::sizes(headers::with_key(q, key(of, i)));
+        let judged = jose::judge::judge(header, message, message, known, table, count, sizes);
         let Stage::Passed(_) = judged else {
             return judged;
         };
@@ -243,98 +220,148 @@ fn rules(
     Stage::Passed(number)
 }
 
-// 1 flattened, 2 general.
-fn form(top: &[u32], count: usize) -> u32
-    requires { ⌜ count * width ≤ length (now top) ⌝ }
-    ensures { λ r. ⌜ r ≡ cond (present recipients (entriesOf count (now (top .entry)))) 2 1 ⌝ }
+// All recipients judged: 8 and 9 on their own headers, whose parameters are left in a table, and 12 to 18 on each. The first
+// entries of the working table, which are all recipients', stay as they are.
+fn judged(
+    header: &[u8],
+    message: &[u8],
+    known: &[u8],
+    q: Components,
+    of: &[usize],
+    number: usize,
+    own: &mut [u32],
+    counts: &mut [usize],
+    table: &mut [u32],
+    front: usize,
+) -> Stage
+    requires { ⌜ length (now message) ≤ longest ⌝ }
+    requires { ⌜ filled (now known) ≡ true ⌝ }
+    requires { ⌜ number ≤ mostRecipients ⌝ }
+    requires { ⌜ number * recipientWidth ≤ length (now of) ⌝ }
+    requires { ⌜ length (now own) ≡ ownTable ⌝ }
+    requires { ⌜ length (now counts) ≡ mostRecipients ⌝ }
+    requires { ⌜ front * width + headerTable ≤ length (now table) ⌝ }
+    requires { ⌜ Printed (readTexts (now header) (now message)) (entriesOf front (now table)) ⌝ }
+    requires { ⌜ HeadersKnown (now message) (recipientsOf number (now of)) ⌝ }
+    ensures { λ r. ⌜ r ≡ stageOf (first (allTests (names (now (known .entry))) (now (header .entry)) (now (message .entry)) (entriesOf front (now (table .entry))) (componentsOf q) (recipientsOf number (now (of .entry))))) number ⌝ }
+    ensures { λ r. ⌜ LeavesOwn number (now (message .entry)) (now (of .entry)) (now (own .exit)) (now (counts .exit)) r ⌝ }
+    ensures { λ _. ⌜ entriesOf front (now (table .exit)) ≡ entriesOf front (now (table .entry)) ⌝ }
 {
-    if rows::ask::present(top, count, 5) {
-        2
-    } else {
-        1
+    let collected = own_headers(message, of, number, own, counts);
+    let Stage::Passed(_) = collected else {
+        return collected;
+    };
+    rules(
+        header,
+        message,
+        known,
+        q,
+        of,
+        number,
+        own,
+        counts,
+        table,
+        front,
+    )
+}
+
+// What is handed out for a recipient; its parameters stand at the start of the table.
+fn hand_out(
+    header: &[u8],
+    message: &[u8],
+    top: Top,
+    of: &[usize],
+    number: usize,
+    own: &[u32],
+    counts: &[usize],
+    i: usize,
+    table: &mut [u32],
+    front: usize,
+) -> Result
+    requires { ⌜ number ≤ mostRecipients ⌝ }
+    requires { ⌜ number * recipientWidth ≤ length (now of) ⌝ }
+    requires { ⌜ length (now own) ≡ ownTable ⌝ }
+    requires { ⌜ length (now counts) ≡ mostRecipients ⌝ }
+    requires { ⌜ Owned number (now message) (now of) (now own) (now counts) ⌝ }
+    requires { ⌜ i < number ⌝ }
+    requires { ⌜ front * width + headerTable ≤ length (now table) ⌝ }
+    ensures { λ r. ⌜ numbers r ≡ accepted (now (message .entry)) (headedOutcome (now (header .entry)) (now (message .entry)) (topIn top) (entriesOf front (now (table .entry))) (recipientsOf number (now (of .entry))) i) ⌝ }
+    ensures { λ _. ⌜ BeginsWith (headedOutcome (now (header .entry)) (now (message .entry)) (topIn top) (entriesOf front (now (table .entry))) (recipientsOf number (now (of .entry))) i .entries) (now (table .entry)) (now (table .exit)) ⌝ }
+{
+    let parameters = gather(own, counts, i, table, front);
+    Result {
+        number: 0,
+        form: top.form,
+        recipients: number,
+        mode: jose::rules::mode(header, message, message, table, parameters),
+        components: headers::with_key(top.components, key(of, i)),
+        header: header.len(),
+        parameters,
     }
 }
 
-// The components that apply to a recipient.
-fn components(top: &[u32], count: usize, of: &[usize], i: usize) -> Components
-    requires { ⌜ count * width ≤ length (now top) ⌝ }
-    requires { ⌜ i * recipientWidth + recipientWidth ≤ length (now of) ⌝ }
-    ensures { λ r. ⌜ componentsOf r ≡ componentsIn (entriesOf count (now (top .entry))) (recipientAt (drop (i * recipientWidth) (now (of .entry)))) ⌝ }
-{
-    Components {
-        protected: component(top, count, 1),
-        key: key(of, i),
-        iv: component(top, count, 6),
-        aad: component(top, count, 7),
-        ciphertext: component(top, count, 8),
-        tag: component(top, count, 9),
-    }
-}
-
-// From the own headers on; the first entries of the working table are all recipients'. Accepted, the table begins with
-// the
-// entries of the asked recipient.
+// From the own headers on; the first entries of the table are all recipients'. Accepted, it begins with the entries of the
+// asked recipient.
 fn headed(
     header: &[u8],
     message: &[u8],
     known: &[u8],
     recipient: u32,
-    top: &[u32],
-    count: usize,
+    top: Top,
     of: &[usize],
     number: usize,
-    work: &mut [u32],
-    front: usize,
     table: &mut [u32],
+    front: usize,
 ) -> Judged
     requires { ⌜ length (now message) ≤ longest ⌝ }
     requires { ⌜ filled (now known) ≡ true ⌝ }
-    requires { ⌜ count * width ≤ length (now top) ⌝ }
     requires { ⌜ number ≤ mostRecipients ⌝ }
     requires { ⌜ number * recipientWidth ≤ length (now of) ⌝ }
-    requires { ⌜ length (now work) ≡ recipientTable ⌝ }
-    requires { ⌜ front ≤ 2 * mostMembers ⌝ }
-    requires { ⌜ Printed (now header) (now message) (entriesOf front (now work)) ⌝ }
     requires { ⌜ length (now table) ≡ recipientTable ⌝ }
+    requires { ⌜ front ≤ 2 * mostMembers ⌝ }
+    requires { ⌜ Printed (readTexts (now header) (now message)) (entriesOf front (now table)) ⌝ }
     requires { ⌜ HeadersKnown (now message) (recipientsOf number (now of)) ⌝ }
-    ensures { λ r. ⌜ Heads (now (message .entry)) (headedOrder (names (now (known .entry))) (now (header .entry)) (now (message .entry)) (entriesOf front (now (work .entry))) (recipientsOf number (now (of .entry))) recipient) (headedOutcome (now (header .entry)) (now (message .entry)) (entriesOf count (now (top .entry))) (entriesOf front (now (work .entry))) (recipientsOf number (now (of .entry))) recipient) r (now (table .entry)) (now (table .exit)) ⌝ }
+    ensures { λ r. ⌜ Heads (now (message .entry))
+        (headedOrder (names (now (known .entry))) (now (header .entry)) (now (message .entry))
+        (entriesOf front (now (table .entry))) (componentsOf (top .components)) (recipientsOf number (now (of .entry))) recipient)
+        (headedOutcome (now (header .entry)) (now (message .entry)) (topIn top) (entriesOf front (now (table .entry)))
+        (recipientsOf number (now (of .entry))) recipient)
+        r (now (table .entry)) (now (table .exit)) ⌝ }
 {
     let mut own = [0u32; 2048];
     let mut counts = [0usize; 8];
-    let collected = own_headers(message, of, number, &mut own, &mut counts);
-    let Stage::Passed(_) = collected else {
-        return handed(collected);
-    };
-    let ruled = rules(
+    let q = top.components;
+    let all = judged(
         header,
         message,
         known,
+        q,
         of,
         number,
-        &own,
-        &counts,
-        work,
+        &mut own,
+        &mut counts,
+        table,
         front,
     );
-    let Stage::Passed(_) = ruled else {
-        return handed(ruled);
+    let Stage::Passed(_) = all else {
+        return handed(all);
     };
     let i = recipient as usize;
     if number <= i {
         return Judged::Refused(19);
     }
-    let parameters = gather(&own, &counts, i, work, front);
-    let end = parameters * 8;
-    rows::copy::copy(&work[..end], table, 0);
-    Judged::Accepted(Result {
-        number: 0,
-        form: form(top, count),
-        recipients: number,
-        mode: jose::rules::mode(header, message, work, parameters),
-        components: components(top, count, of, i),
-        header: header.len(),
-        parameters,
-    })
+    Judged::Accepted(hand_out(
+        header,
+        message,
+        top,
+        of,
+        number,
+        &own,
+        &counts,
+        i,
+        table,
+        front,
+    ))
 }
 
 // From the protected header on, all components being base64url.
@@ -342,8 +369,7 @@ fn shaped(
     message: &[u8],
     known: &[u8],
     recipient: u32,
-    top: &[u32],
-    count: usize,
+    top: Top,
     of: &[usize],
     number: usize,
     text: &mut [u8],
@@ -351,27 +377,28 @@ fn shaped(
 ) -> Judged
     requires { ⌜ length (now message) ≤ longest ⌝ }
     requires { ⌜ filled (now known) ≡ true ⌝ }
-    requires { ⌜ count * width ≤ length (now top) ⌝ }
     requires { ⌜ number ≤ mostRecipients ⌝ }
     requires { ⌜ number * recipientWidth ≤ length (now of) ⌝ }
-    requires { ⌜ misspelled (now message) (component protected (entriesOf count (now top))) ≡ false ⌝ }
+    requires { ⌜ misspelled (now message) (topIn top .components .protected) ≡ false ⌝ }
+    requires { ⌜ (topIn top .protected ≡ false → topIn top .components .protected ≡ absent) ⌝ }
     requires { ⌜ length (now text) ≡ headerRoom ⌝ }
     requires { ⌜ length (now table) ≡ recipientTable ⌝ }
-    requires { ⌜ HeaderKnown (now message) (valueOf unprotected (entriesOf count (now top)) .start) ⌝ }
+    requires { ⌜ HeaderKnown (now message) (topIn top .shared) ⌝ }
     requires { ⌜ HeadersKnown (now message) (recipientsOf number (now of)) ⌝ }
-    ensures { λ r. ⌜ Judges (now (message .entry)) (shapedOrder (names (now (known .entry))) (now (message .entry)) (entriesOf count (now (top .entry))) (recipientsOf number (now (of .entry))) recipient) (shapedOutcome (now (message .entry)) (entriesOf count (now (top .entry))) (recipientsOf number (now (of .entry))) recipient) r (now (text .entry)) (now (text .exit)) (now (table .entry)) (now (table .exit)) ⌝ }
+    ensures { λ r. ⌜ Judges (now (message .entry))
+        (jsonLater (names (now (known .entry))) (now (message .entry)) (topIn top) (recipientsOf number (now (of .entry))) recipient)
+        (outcomeOf (now (message .entry)) (topIn top) (recipientsOf number (now (of .entry))) recipient)
+        r (now (text .entry)) (now (text .exit)) (now (table .entry)) (now (table .exit)) ⌝ }
 {
-    let header = decoded(message, top, count, text);
+    let header = decoded(message, top.protected, top.components.protected, text);
     let Stage::Passed(h) = header else {
         return handed(header);
     };
-    let mut work = [0u32; 768];
-    let own = protected(&text[..h], rows::ask::present(top, count, 1), &mut work);
+    let own = protected(&text[..h], top.protected, table);
     let Stage::Passed(p) = own else {
         return handed(own);
     };
-    let start = rows::ask::value_of(top, count, 2).start;
-    let shared = unprotected(message, start, 1, &mut work, p);
+    let shared = unprotected(message, top.shared, 1, table, p);
     let Stage::Passed(s) = shared else {
         return handed(shared);
     };
@@ -381,12 +408,10 @@ fn shaped(
         known,
         recipient,
         top,
-        count,
         of,
         number,
-        &mut work,
-        p + s,
         table,
+        p + s,
     )
 }
 
@@ -404,28 +429,19 @@ pub(crate) fn judge(
     requires { ⌜ length (now table) ≡ recipientTable ⌝ }
     ensures { λ r. ⌜ Judges (now (message .entry)) (jsonOrder (now (message .entry)) (names (now (known .entry))) recipient) (jsonOutcome (now (message .entry)) recipient) r (now (text .entry)) (now (text .exit)) (now (table .entry)) (now (table .exit)) ⌝ }
 {
-    let mut top = [0u32; 256];
-    let members = shape::top(message, &mut top);
-    let Stage::Passed(count) = members else {
-        return handed(members);
+    let mut members = [0u32; 256];
+    let outermost = shape::top(message, &mut members);
+    let Stage::Passed(count) = outermost else {
+        return handed(outermost);
     };
     let mut of = [0usize; 24];
-    let elements = shape::recipients(message, &top, count, &mut of);
+    let elements = shape::recipients(message, &members, count, &mut of);
     let Stage::Passed(number) = elements else {
         return handed(elements);
     };
-    if misspelled(message, &top, count, &of, number) {
+    let top = shape::held::held(&members, count);
+    if misspelled(message, top.components, &of, number) {
         return Judged::Refused(5);
     }
-    shaped(
-        message,
-        known,
-        recipient,
-        &top,
-        count,
-        &of,
-        number,
-        text,
-        table,
-    )
+    shaped(message, known, recipient, top, &of, number, text, table)
 }

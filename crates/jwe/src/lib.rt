@@ -11,22 +11,13 @@ ghost use Rattle.jwe.specs.Compact.{compactOrder};
 ghost use Rattle.jwe.specs.General.{jsonOrder};
 ghost use Rattle.jwe.specs.Judge.{outcome, result, refused, headerAfter, listAfter};
 ghost use Rattle.jwe.specs.Answers.{numbers, refusedBy, Judges};
+use headers::Components;
 use judged::Judged;
 use prelude::Place;
 
 mod compact;
 mod general;
 mod judged;
-
-// The encoded components by their places in the message; 0, 0 where one is absent.
-pub struct Components {
-    pub protected: Place,
-    pub key: Place,
-    pub iv: Place,
-    pub aad: Place,
-    pub ciphertext: Place,
-    pub tag: Place,
-}
 
 // What the reader answers (document 01, 'What the reader hands out').
 pub struct Result {

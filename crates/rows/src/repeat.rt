@@ -17,14 +17,7 @@ fn apart(across: bool, o: usize, p: usize) -> bool
 }
 
 // Whether the name of an entry, which stands in the text that its origin says, says what a spelling does.
-pub fn says(
-    header: &[u8],
-    shared: &[u8],
-    own: &[u8],
-    table: &[u32],
-    i: usize,
-    w: &[u8],
-) -> bool
+pub fn says(header: &[u8], shared: &[u8], own: &[u8], table: &[u32], i: usize, w: &[u8]) -> bool
     requires { ⌜ i * width + width ≤ length (now table) ⌝ }
     ensures { λ r. ⌜ r ≡ nameSays (texts (now (header .entry)) (now (shared .entry)) (now (own .entry))) (now (w .entry)) (firstOf (drop (i * width) (now (table .entry)))) ⌝ }
 {
@@ -55,7 +48,15 @@ fn same(header: &[u8], shared: &[u8], own: &[u8], table: &[u32], i: usize, j: us
 }
 
 // Whether two entries clash: their fingerprints are compared first.
-fn clash(header: &[u8], shared: &[u8], own: &[u8], table: &[u32], across: bool, i: usize, j: usize) -> bool
+fn clash(
+    header: &[u8],
+    shared: &[u8],
+    own: &[u8],
+    table: &[u32],
+    across: bool,
+    i: usize,
+    j: usize,
+) -> bool
     requires { ⌜ i * width + width ≤ length (now table) ⌝ }
     requires { ⌜ j * width + width ≤ length (now table) ⌝ }
     ensures { λ r. ⌜ r ≡ clash across (texts (now (header .entry)) (now (shared .entry)) (now (own .entry))) (firstOf (drop (i * width) (now (table .entry)))) (firstOf (drop (j * width) (now (table .entry)))) ⌝ }
@@ -95,7 +96,14 @@ fn clashes_with(
 
 // Whether two of the first entries say the same, both of one origin, or, across, of two. Names with different
 // fingerprints are not compared, so that long names are read once.
-pub fn clashes(header: &[u8], shared: &[u8], own: &[u8], table: &[u32], count: usize, across: bool) -> bool
+pub fn clashes(
+    header: &[u8],
+    shared: &[u8],
+    own: &[u8],
+    table: &[u32],
+    count: usize,
+    across: bool,
+) -> bool
     requires { ⌜ count * width ≤ length (now table) ⌝ }
     ensures { λ r. ⌜ r ≡ clashes across (texts (now (header .entry)) (now (shared .entry)) (now (own .entry))) (entriesOf count (now (table .entry))) ⌝ }
 {

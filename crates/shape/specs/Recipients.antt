@@ -1,6 +1,6 @@
 -- The members of a JSON message, its recipients and its components; its refusals 7 to 11.
 use mathlib.Core.List.{List, [], _∷_, _++_, map, flatMap}
-use mathlib.Core.Bool.{cond}
+use mathlib.Core.Bool.{Bool, cond}
 use Prim.Native.Nat.{ℕ}
 use lib.ListN.{length}
 use lib.Dec.{ltb}
@@ -10,9 +10,9 @@ use Rattle.rows.specs.Rows.{Entry, present, valueOf}
 use Rattle.rows.specs.Tables.{collectedTable}
 use Rattle.prelude.specs.Refusals.{Test, _if_}
 use Rattle.prelude.specs.Limits.{levels, mostRecipients}
-use Rattle.headers.specs.Components.{Components}
+use Rattle.headers.specs.Components.{Components, absent, withKey, flattenedForm, generalForm}
 use Rattle.headers.specs.Headers.{unread, outermost, objectOrder}
-use Rattle.shape.specs.Shape.{memberEntries, protected, recipients, iv, aad, ciphertext, tag, component, wrongTop}
+use Rattle.shape.specs.Shape.{memberEntries, protected, unprotected, recipients, iv, aad, ciphertext, tag, component, wrongTop}
 use Rattle.shape.specs.Shape.{wrongElements, wrongElement, Recipient, recipientOf}
 
 -- The entries of the top level.
@@ -61,13 +61,29 @@ recipientsIn message es =
     (map (λ x. recipientOf (elementEntries message (x .start))) (elementsIn message es))
     (recipientOf es ∷ [])
 
--- The components, the key that of one recipient.
-unfoldable pub componentsIn : List Entry → Recipient → Components
-componentsIn es r = record {
-  protected = component protected es;
-  key = r .key;
-  iv = component iv es;
-  aad = component aad es;
-  ciphertext = component ciphertext es;
-  tag = component tag es;
+-- What the top level holds: the form, whether a protected header is there, where the shared header stands (0 where there is
+-- none), and the components but the keys.
+pub record Top : Type 0 where
+  pub form : ℕ
+  pub protected : Bool
+  pub shared : ℕ
+  pub components : Components
+
+abbrev pub topOf : List Entry → Top
+topOf es = record {
+  form = cond (present recipients es) generalForm flattenedForm;
+  protected = present protected es;
+  shared = valueOf unprotected es .start;
+  components = record {
+    protected = component protected es;
+    key = absent;
+    iv = component iv es;
+    aad = component aad es;
+    ciphertext = component ciphertext es;
+    tag = component tag es;
+  };
 }
+
+-- The components of a recipient.
+unfoldable pub componentsIn : Top → Recipient → Components
+componentsIn t r = withKey (t .components) (r .key)

@@ -12,31 +12,20 @@ ghost use Rattle.prelude.specs.Any.{any};
 ghost use Rattle.rows.specs.Tables.{entriesOf, width};
 ghost use Rattle.prelude.specs.Refusals.{first, stageOf};
 ghost use Rattle.jose.specs.Inner.Elements.{elementsFrom};
-ghost use Rattle.shape.specs.Shape.{noObject, encryptedKey, component, recipientOf};
+ghost use Rattle.shape.specs.Shape.{noObject, recipientOf};
 ghost use Rattle.shape.specs.Recipients.{elementEntries, elementOrder};
 ghost use Rattle.shape.specs.Inner.Answers.{three, flatRecipients, startsOf, arrayOrder, counted};
 ghost use Rattle.shape.specs.Inner.Answers.{startsOrder, passedAt, Leaves, LeavesAt, recipientWidth};
+use crate::held::component;
 use crate::member;
 use json::Position;
 use json::member::Member;
-use prelude::Place;
 use prelude::Stage;
 
-// The place of the encrypted key without its quotation marks; 0, 0 where it is absent.
-fn key(table: &[u32], count: usize) -> Place
-    requires { ⌜ count * width ≤ length (now table) ⌝ }
-    ensures { λ r. ⌜ r .start ≡ component encryptedKey (entriesOf count (now (table .entry))) .start ⌝ }
-    ensures { λ r. ⌜ r .len ≡ component encryptedKey (entriesOf count (now (table .entry))) .size ⌝ }
-{
-    let value = rows::ask::value_of(table, count, 4);
-    if value.len == 0 {
-        return Place { start: 0, len: 0 };
-    }
-    Place {
-        start: value.start + 1,
-        len: prelude::minus(value.len, 2),
-    }
-}
+// The numbers of the members of a recipient (specs/Shape).
+const HEADER: u32 = 3;
+
+const ENCRYPTED_KEY: u32 = 4;
 
 // The recipient of the first entries, written from a position on.
 pub(crate) fn put(table: &[u32], count: usize, into: &mut [usize], at: usize)
@@ -44,8 +33,8 @@ pub(crate) fn put(table: &[u32], count: usize, into: &mut [usize], at: usize)
     requires { ⌜ at + recipientWidth ≤ length (now into) ⌝ }
     ensures { λ _. ⌜ now (into .exit) ≡ written at (three (recipientOf (entriesOf count (now (table .entry))))) (now (into .entry)) ⌝ }
 {
-    let header = rows::ask::value_of(table, count, 3);
-    let key = key(table, count);
+    let header = rows::ask::value_of(table, count, HEADER);
+    let key = component(table, count, ENCRYPTED_KEY);
     into[at] = header.start;
     into[at + 1] = key.start;
     into[at + 2] = key.len;

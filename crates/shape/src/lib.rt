@@ -26,6 +26,7 @@ pub const MEMBERS: [u8; 77] = *b"\x09\
     tag";
 
 mod element;
+pub mod held;
 mod member;
 
 // 7, and 8 to 10 on the top level: its members as entries of the table, and how many they are. What a refusal leaves in the

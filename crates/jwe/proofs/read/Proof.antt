@@ -53,7 +53,7 @@ held c =
     let call = c .before .before .before .before .before in
     let given = start-of call .args in
     let k = accepted-told _ _ _ (call .judge .result) _ _ _ _ (call .judge .ensures) _ (c .before .judged .given .1) in
-    holds (given .message .now) _ _ _ _ _ _ (k .1) (k .2) (k .3) (search needs) (search needs)
+    holds (given .message .now) _ _ _ _ _ (k .1) (k .2) (k .3 .1) (search needs) (search needs)
 
 refused-requires : tie.Need-refused-requires
 refused-requires c κs = search needs

@@ -4,25 +4,25 @@ use mathlib.Core.List.{List, [], _∷_, _++_, flatMap}
 use mathlib.Core.Bool.{Bool, cond}
 use Prim.Native.Nat.{ℕ, zero, suc, _*_, _≤_, _<_}
 use lib.ListN.{length, drop, getD}
-use lib.Dec.{eqb, leb}
-use Rattle.prelude.specs.Buffer.{written}
+use lib.Dec.{leb}
 use Rattle.prelude.specs.Limits.{levels, mostMembers, mostRecipients}
 use Rattle.grammar.specs.Grammar.{curly}
 use Rattle.grammar.specs.Bounds.{Every}
 use Rattle.json.specs.Inner.Known.{KnownIn}
-use Rattle.rows.specs.Rows.{Entry, present}
-use Rattle.rows.specs.Tables.{flat, entriesOf, headerTable}
+use Rattle.rows.specs.Rows.{Entry, readTexts}
+use Rattle.rows.specs.Tables.{entriesOf, headerTable}
 use Rattle.prelude.specs.Refusals.{Test, _if_, first}
 use Rattle.jose.specs.HeaderRules.{recipientOrder}
-use Rattle.headers.specs.Headers.{headerText, textOrder, outermost, protectedEntries, objectOrder}
+use Rattle.headers.specs.Headers.{textOrder, outermost, protectedEntries, objectOrder}
 use Rattle.prelude.specs.declared.Stage.{Stage}
 use Rattle.prelude.specs.declared.Stage.the-variants.{Passed, Refused}
-use Rattle.shape.specs.Shape.{protected, recipients, component, Recipient}
-use Rattle.shape.specs.Recipients.{componentsIn}
+use Rattle.headers.specs.Components.{Components, withKey, sizesOf}
+use Rattle.shape.specs.Shape.{Recipient}
+use Rattle.shape.specs.Recipients.{Top, componentsIn}
 use Rattle.shape.specs.Inner.Answers.{recipientWidth}
-use Rattle.jwe.specs.General.{ownEntries, parameters, isHollow, protectedOrder, headersOrder, recipientsOrder}
+use Rattle.jwe.specs.General.{ownEntries, isHollow}
 use Rattle.jwe.specs.Judge.{Outcome, accepted, asked}
-use Rattle.jwe.specs.Answers.{numbers}
+use Rattle.jwe.specs.Answers.{numbers, BeginsWith}
 use Rattle.jwe.specs.declared.judged.Judged.{Judged}
 use Rattle.jwe.specs.declared.judged.Judged.the-variants as message
 
@@ -80,55 +80,39 @@ protectedTests there header =
 unfoldable pub ownTests : List ℕ → List Recipient → List Test
 ownTests message rs = flatMap (λ r. objectOrder message (ownEntries message r)) rs
 
--- 12 to 18 on each recipient, whose parameters are some that are all recipients', and its own.
-unfoldable pub ruleTests : List (List ℕ) → List ℕ → List ℕ → List Entry → List Recipient → List Test
-ruleTests known header message front rs =
-    flatMap (λ r. recipientOrder known header message (front ++ ownEntries message r) (eqb (r .key .size) 0)) rs
+-- 12 to 18 on each recipient, whose parameters are some that are all recipients', and its own; and whose components but the
+-- key are all recipients'.
+unfoldable pub ruleTests : List (List ℕ) → List ℕ → List ℕ → List Entry → Components → List Recipient → List Test
+ruleTests known header message front q rs =
+    flatMap
+    (λ r.
+    recipientOrder known (readTexts header message) (front ++ ownEntries message r) (sizesOf (withKey q (r .key))))
+    rs
+
+-- Both: all recipients judged.
+unfoldable pub allTests : List (List ℕ) → List ℕ → List ℕ → List Entry → Components → List Recipient → List Test
+allTests known header message front q rs = ownTests message rs ++ ruleTests known header message front q rs
 
 -- From the own headers on.
-unfoldable pub headedOrder : List (List ℕ) → List ℕ → List ℕ → List Entry → List Recipient → ℕ → List Test
-headedOrder known header message front rs recipient =
-    ownTests message rs ++ (ruleTests known header message front rs ++ (19 if leb (length rs) recipient ∷ []))
+unfoldable pub headedOrder : List (List ℕ) → List ℕ → List ℕ → List Entry → Components → List Recipient → ℕ → List Test
+headedOrder known header message front q rs recipient =
+    allTests known header message front q rs ++ (19 if leb (length rs) recipient ∷ [])
 
--- From the protected header on.
-unfoldable pub shapedOrder : List (List ℕ) → List ℕ → List Entry → List Recipient → ℕ → List Test
-shapedOrder known message es rs recipient =
-    let header = headerText message (component protected es) in
-    protectedOrder es header
-    ++ (headersOrder header message es rs
-    ++ (recipientsOrder known header message es rs
-    ++ (19 if leb (length rs) recipient ∷ [])))
-
--- What is handed out
-
--- By the top level, the header, the parameters that are all recipients', and the recipients.
-unfoldable pub headedOutcome : List ℕ → List ℕ → List Entry → List Entry → List Recipient → ℕ → Outcome
-headedOutcome header message es front rs recipient =
+-- What is handed out, by the top level, the header, the parameters that are all recipients', and the recipients.
+unfoldable pub headedOutcome : List ℕ → List ℕ → Top → List Entry → List Recipient → ℕ → Outcome
+headedOutcome header message t front rs recipient =
     let r = asked rs recipient in
     record {
-      form = cond (present recipients es) 2 1;
+      form = t .form;
       recipients = length rs;
-      components = componentsIn es r;
+      components = componentsIn t r;
       header = header;
       entries = front ++ ownEntries message r;
-    }
-
--- By the top level and the recipients.
-unfoldable pub shapedOutcome : List ℕ → List Entry → List Recipient → ℕ → Outcome
-shapedOutcome message es rs recipient =
-    let r = asked rs recipient in
-    let header = headerText message (component protected es) in
-    record {
-      form = cond (present recipients es) 2 1;
-      recipients = length rs;
-      components = componentsIn es r;
-      header = header;
-      entries = parameters header message es r;
     }
 
 -- As Answers' Judges, the header having been decoded before; where it is refused the table's contents are free likewise.
 abbrev pub Heads : List ℕ → List Test → Outcome → Judged → List ℕ → List ℕ → Type 0
 Heads text order x (message.Accepted r) table₀ table =
-    (first order ≡ 0) × (numbers r ≡ accepted text x) × (table ≡ written 0 (flat (x .entries)) table₀)
+    (first order ≡ 0) × (numbers r ≡ accepted text x) × BeginsWith (x .entries) table₀ table
 Heads text order x (message.Refused n) table₀ table =
     (first order ≡ n) × (0 < n) × (length table ≡ length table₀)

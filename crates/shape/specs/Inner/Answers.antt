@@ -13,7 +13,18 @@ use Rattle.prelude.specs.Limits.{mostRecipients}
 use Rattle.prelude.specs.declared.Stage.{Stage}
 use Rattle.prelude.specs.declared.Stage.the-variants.{Passed, Refused}
 use Rattle.shape.specs.Shape.{Recipient, recipientOf, recipients, wrongElements}
-use Rattle.shape.specs.Recipients.{elementsIn, elementEntries, elementOrder}
+use Rattle.headers.specs.Answers.{componentsOf}
+use Rattle.shape.specs.Recipients.{Top, elementsIn, elementEntries, elementOrder}
+use Rattle.shape.specs.declared.held.Top as declared
+
+-- What the code holds of the top level.
+abbrev pub topIn : declared.Top → Top
+topIn t = record {
+  form = t .form;
+  protected = t .protected;
+  shared = t .shared;
+  components = componentsOf (t .components);
+}
 
 -- Recipients as numbers in a table, three each: where the own header stands, the key's start and length.
 

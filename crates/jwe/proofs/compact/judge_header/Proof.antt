@@ -5,25 +5,25 @@ use mathlib.Core.List.{List}
 use Prim.Native.Nat.{ℕ}
 use native.Mathlib.Omega.{arith}
 use lib.ListN.{length}
-use lib.Dec.{eqb}
 use Rattle.names.specs.Names.{names}
 use Rattle.prelude.specs.Any.{any}
-use Rattle.rows.specs.Rows.{Entry}
-use Rattle.rows.specs.Tables.{collectedTable}
+use Rattle.rows.specs.Rows.{Entry, readTexts}
+use Rattle.rows.specs.Tables.{entriesOf, collectedTable}
 use Rattle.rows.specs.Inner.Prints.{Printed}
 use Rattle.rows.proofs.Printing.{entries-printed}
 use Rattle.jose.specs.Registered.{registered}
 use Rattle.prelude.specs.Refusals.{first, stageOf}
+use Rattle.jose.specs.declared.Sizes.{Sizes}
 use Rattle.jose.specs.HeaderRules.{recipientOrder, modeIn}
-use Rattle.headers.specs.Components.{misspelled, places}
+use Rattle.headers.specs.Components.{misspelled, places, sizesOf}
 use Rattle.headers.specs.Headers.{headerText, textOrder, outermost, protectedEntries, objectOrder}
-use Rattle.headers.specs.Answers.{placeOf, headerBuffer}
+use Rattle.headers.specs.Answers.{placeOf, componentsOf, headerBuffer}
 use Rattle.headers.proofs.Stages.{passed-is, refused-is}
 use Rattle.headers.proofs.Collected.{Kept, kept-passed, table-length}
 use Rattle.jwe.specs.Compact.{compactComponents, compactOrder}
 use Rattle.jwe.specs.Judge.{compactOutcome}
 use Rattle.jwe.specs.Answers.{handed}
-use Rattle.jwe.specs.declared.Components.{Components}
+use Rattle.headers.specs.declared.Components.{Components}
 use Rattle.jwe.proofs.SmallOutcomes.{mode-low}
 use Rattle.jwe.proofs.Splitting.{none-first, asked-are}
 use Rattle.jwe.proofs.CompactOrder.{header, entries, rules}
@@ -105,24 +105,28 @@ kept c =
     (omega (arith, start .pre .1 .1 .1 .1 .1))
     (sym (c .before .collected .given .1) ∙ entries-answer (c .before .before .before .before .before)) (entries-left (c .before .before .before .before .before))
 
+-- Back to where they passed, from behind the rules.
+abbrev known-of : tie.After-judge → tie.After-known-told2
+known-of c = c .before .before .before .before
+
 -- what the rules answer
 rules-answer : (c : tie.After-judge) →
-    let start = start-of (told-of (c .before .before .before .before)) in
+    let start = start-of (told-of (known-of c)) in
     c .judge .result
     ≡ stageOf (first (rules (message start) (names (start .args .known .now)) (start .args .recipient)))
-    (modeIn (header (message start)) (message start) (entries (message start)))
+    (modeIn (readTexts (header (message start)) (message start)) (entries (message start)))
 rules-answer c =
-    let start = start-of (told-of (c .before .before .before .before)) in
+    let start = start-of (told-of (known-of c)) in
     let known = names (start .args .known .now) in
     let m = message start in
     c .judge .ensures
     ∙ ap₂ (λ (h : List ℕ) (es : List Entry).
-    stageOf (first (recipientOrder known h m es (eqb (start .args .q .key .len) 0))) (modeIn h m es))
-    (read (told-of (c .before .before .before .before)) .front) (kept (c .before .before .before .before) .entries)
-    ∙ ap (λ (q : Components).
-    stageOf (first (recipientOrder known (header m) m (entries m) (eqb (q .key .len) 0)))
-    (modeIn (header m) m (entries m)))
-    (start .pre .1 .0)
+    stageOf (first (recipientOrder known (readTexts h m) es (c .before .sizes .result))) (modeIn (readTexts h m) es))
+    (read (told-of (known-of c)) .front) (kept (known-of c) .entries)
+    ∙ ap (λ (z : Sizes).
+    stageOf (first (recipientOrder known (readTexts (header m) m) (entries m) z))
+    (modeIn (readTexts (header m) m) (entries m)))
+    (c .before .sizes .ensures ∙ ap (λ (q : Components). sizesOf (componentsOf q)) (start .pre .1 .0))
 
 header-requires : tie.Need-header-requires
 header-requires c κs =
@@ -197,6 +201,9 @@ slice-reshare-prefix-judge c = read (told-of c) .fits
 slice-aggregate-judge : tie.Need-slice-aggregate-judge
 slice-aggregate-judge c = let r = read (told-of (c .before)) in r .size ∙ sym (ap length (r .front))
 
+sizes-requires : tie.Need-sizes-requires
+sizes-requires c κs = search needs
+
 judge-requires : tie.Need-judge-requires
 unfolding protectedEntries
 judge-requires c κs =
@@ -205,8 +212,8 @@ judge-requires c κs =
     let m = message start in
     let text = read told in
     let table = kept (c .before .before .before) in
-    let printed : Printed (header m) m (entries m) =
-    entries-printed registered (header m) m (header m) 0 (outermost (header m)) refl in (
+    let printed : Printed (readTexts (header m) m) (entries m) =
+    entries-printed registered (readTexts (header m) m) (header m) 0 (outermost (header m)) refl in (
       start .pre .1 .1 .1 .0,
       (
         table .fits,
@@ -224,14 +231,14 @@ handed-requires-3 : tie.Need-handed-requires-3
 handed-requires-3 c κs = search needs
 
 same-length-4 : tie.Need-same-length-4
-same-length-4 c = read (told-of (c .before .before .before .before .before .before .before)) .same
+same-length-4 c = read (told-of (known-of (c .before .before .before))) .same
 
 same-length-5 : tie.Need-same-length-5
 same-length-5 c = search needs
 
 returns-3 : tie.Need-returns-3
 returns-3 c =
-    let known = c .before .before .before .before .before .before .before in
+    let known = known-of (c .before .before .before) in
     let start = start-of (told-of known) in
     let told = c .before .enum-told3 .given in
     let text = read (told-of known) in
@@ -243,14 +250,14 @@ returns-3 c =
     (r .1) (text .same) (table .same) (c .handed3 .result) (c .handed3 .ensures ∙ ap handed (told .1))
 
 same-length-6 : tie.Need-same-length-6
-same-length-6 c = read (told-of (c .before .before .before .before .before .before .before .before)) .same
+same-length-6 c = read (told-of (known-of (c .before .before .before .before))) .same
 
 same-length-7 : tie.Need-same-length-7
 same-length-7 c = search needs
 
 returns-4 : tie.Need-returns-4
 returns-4 c =
-    let known = c .before .before .before .before .before .before .before .before in
+    let known = known-of (c .before .before .before .before) in
     let start = start-of (told-of known) in
     let text = read (told-of known) in
     let table = kept known in
@@ -264,15 +271,15 @@ returns-4 c =
     )
 
 -- a mode is at most 5
-cast-t24 : tie.Need-cast-t24
-cast-t24 c =
-    let m = message (start-of (told-of (c .before .before .before .before .before .before .before .before))) in
+cast-t25 : tie.Need-cast-t25
+cast-t25 c =
+    let m = message (start-of (told-of (known-of (c .before .before .before .before)))) in
     let mode = c .before .before .judged .given in
     let r = passed-is (mode .0 .0) _ _ (sym (mode .1) ∙ rules-answer (c .before .before .before .before)) in
-    omega (arith, r .1, mode-low (header m) m (entries m))
+    omega (arith, r .1, mode-low (readTexts (header m) m) (entries m))
 
 same-length-8 : tie.Need-same-length-8
-same-length-8 c = read (told-of (c .before .before .before .before .before .before .before .before)) .same
+same-length-8 c = read (told-of (known-of (c .before .before .before .before))) .same
 
 same-length-9 : tie.Need-same-length-9
 same-length-9 c = search needs
@@ -280,7 +287,7 @@ same-length-9 c = search needs
 returns-5 : tie.Need-returns-5
 unfolding compactOutcome
 returns-5 c =
-    let known = c .before .before .before .before .before .before .before .before in
+    let known = known-of (c .before .before .before .before) in
     let start = start-of (told-of known) in
     let text = read (told-of known) in
     let table = kept known in
@@ -290,7 +297,14 @@ returns-5 c =
           (c .if1 .left),
       accepted-are (message start) _ _ _ _ (start .pre .1 .0) (r .1) (text .size) (table .size),
       text .left,
-      table .left,
+      (
+        table .same,
+        (
+          omega (arith, table .size, table .fits),
+          ap (λ (n : ℕ). entriesOf n (known .before .before .before .before .before .protected-entries .last .1 .0))
+              (sym (table .size)) ∙ table .entries,
+        ),
+      ),
     )
 
 pub judge-header-spec : {M : Type 1} → statement M
@@ -314,6 +328,7 @@ judge-header-spec =
     returns-2
     slice-reshare-prefix-judge
     slice-aggregate-judge
+    sizes-requires
     judge-requires
     enum-known-judged
     enum-told-3
@@ -324,7 +339,7 @@ judge-header-spec =
     same-length-6
     same-length-7
     returns-4
-    cast-t24
+    cast-t25
     same-length-8
     same-length-9
     returns-5)

@@ -1,70 +1,106 @@
--- `judge` hands up the refusals of the top level, of the elements and of the components in their order; what stands in
--- its
+-- `judge` hands up the refusals of the top level, of the elements and of the components in their order; what stands in its
 -- tables then is the message's members and recipients.
 use mathlib.Core.Path.{_≡_, refl, ap, sym, subst, _∙_}
+use mathlib.Core.Bool.{false}
 use mathlib.Core.List.{List}
-use Prim.Native.Nat.{_≤_}
+use Prim.Native.Nat.{ℕ, _*_, _≤_}
 use native.Mathlib.Omega.{arith}
 use lib.ListN.{length, replicate}
 use Rattle.prelude.specs.Buffer.{written}
 use Rattle.names.specs.Names.{names}
-use Rattle.rows.specs.Rows.{Entry, valueOf}
+use Rattle.rows.specs.Rows.{Entry}
 use Rattle.rows.specs.Tables.{entriesOf}
 use Rattle.prelude.specs.Refusals.{first}
+use Rattle.headers.specs.Components.{absent}
 use Rattle.headers.proofs.Stages.{passed-is, refused-is}
 use Rattle.shape.specs.Shape.{Recipient}
-use Rattle.shape.specs.Recipients.{topEntries, topOrder, elementsOrder, recipientsIn}
-use Rattle.shape.specs.Inner.Answers.{flatRecipients}
+use Rattle.shape.specs.Recipients.{Top, topOf, topEntries, topOrder, elementsOrder, recipientsIn}
+use Rattle.shape.specs.Inner.Answers.{flatRecipients, topIn}
 use Rattle.shape.proofs.Objects.{top-written}
 use Rattle.shape.proofs.Forms.{all-written}
 use Rattle.shape.proofs.Known.{shared-known, own-known}
+use Rattle.jwe.specs.General.{anyMisspelled}
 use Rattle.jwe.specs.Inner.Stages.{HeaderKnown, HeadersKnown, recipientsOf}
 use Rattle.jwe.proofs.JsonOrder.{json-top, json-elements, json-misspelled}
+use Rattle.jwe.proofs.JsonHeaders.{no-component}
 use Rattle.jwe.proofs.JsonHeads.{judges-refused}
 use Rattle.jwe.proofs.JsonTop.{top-is, elements-as, listed-is, misspelled-as, protected-sound, judges-json}
 use borrow.Author.Needs.{needs}
 use Rattle.jwe.proofs.general.judge.Statement.{statement}
 use Rattle.jwe.proofs.general.judge.Tie as tie
 
+-- Back to the start from behind `top`; and from where a stage passed to behind the call, and to the stage before it.
+
+abbrev start : tie.After-top → tie.Start
+start c = c .before .before .before .before .before .before
+
+abbrev top-of : tie.After-known-told → tie.After-top
+top-of c = c .before .before .before .before
+
+abbrev told-of : tie.After-recipients → tie.After-known-told
+told-of c = c .before .before .before
+
+abbrev recipients-of : tie.After-known-told2 → tie.After-recipients
+recipients-of c = c .before .before .before .before
+
+abbrev listed-of : tie.After-held → tie.After-known-told2
+listed-of c = c .before .before
+
+abbrev held-of : tie.After-misspelled → tie.After-held
+held-of c = c .before .before
+
+abbrev begin : tie.After-known-told2 → tie.Start
+begin c = start (top-of (told-of (recipients-of c)))
+
+abbrev message : tie.Start → List ℕ
+message s = s .args .message .now
+
+-- the entries and the recipients that stand in the tables
+
+abbrev members : tie.After-known-told → List Entry
+members c = entriesOf (c .before .outermost .given .0 .0) (top-of c .top .last .1 .0)
+
+abbrev listed : tie.After-known-told2 → List Recipient
+listed c = recipientsOf (c .before .elements .given .0 .0) (recipients-of c .recipients .last .1 .1 .1 .0)
+
 -- where the top level passes
 tops : (c : tie.After-known-told) →
-    let message = c .before .before .before .before .before .before .before .before .before
-    .before .args .message .now in
-    let n = c .before .members .given .0 .0 in
-    (first (topOrder message) ≡ 0)
-    × ((n ≤ 32) × (entriesOf n (c .before .before .before .before .top2 .last .1 .0) ≡ topEntries message))
+    let m = message (start (top-of c)) in
+    (first (topOrder m) ≡ 0) × ((c .before .outermost .given .0 .0 ≤ 32) × (members c ≡ topEntries m))
 tops c =
-    let message = c .before .before .before .before .before .before .before .before .before
-    .before .args .message .now in
-    let call = c .before .before .before .before .top2 in
-    let told = c .before .members .given .1 in
-    let passed = passed-is _ (first (topOrder message)) (length (topEntries message)) (sym told ∙ call .ensures .0) in
-    top-is message (replicate 256 0) (call .last .1 .0) _ (sym told ∙ call .ensures .0)
-    (call .ensures .1 ∙ top-written message (replicate 256 0) (passed .0))
+    let m = message (start (top-of c)) in
+    let call = top-of c .top in
+    let told = sym (c .before .outermost .given .1) ∙ call .ensures .0 in
+    let passed = passed-is _ (first (topOrder m)) (length (topEntries m)) told in
+    top-is m (replicate 256 0) (call .last .1 .0) _ told
+    (call .ensures .1 ∙ top-written m (replicate 256 0) (passed .0))
 
 -- where the elements pass
 lists : (c : tie.After-known-told2) →
-    let message = c .before .before .before .before .before .before .before .before .before .before .before .before
-    .before .before .before .before .before .args .message .now in
-    let es = topEntries message in
-    let n = c .before .elements .given .0 .0 in
-    (first (elementsOrder message es) ≡ 0)
-    × ((n ≤ 8) × (recipientsOf n (c .before .before .before
-    .before .recipients .last .1 .1 .1 .0) ≡ recipientsIn message es))
+    let m = message (begin c) in
+    (first (elementsOrder m (topEntries m)) ≡ 0)
+    × ((c .before .elements .given .0 .0 ≤ 8) × (listed c ≡ recipientsIn m (topEntries m)))
 lists c =
-    let message = c .before .before .before .before .before .before .before .before .before .before .before .before
-    .before .before .before .before .before .args .message .now in
-    let call = c .before .before .before .before .recipients in
-    let told = c .before .elements .given .1 in
-    let fs = entriesOf (c .before .before .before .before .before .before .before .before .members .given .0 .0) (c
-    .before .before .before .before .before .before .before .before .before .before .before .top2 .last .1 .0) in
-    let passed = passed-is _ (first (elementsOrder message fs)) (length (recipientsIn message fs))
-    (sym told ∙ call .ensures .0) in
-    listed-is message (topEntries message) fs (tops (c .before .before .before .before .before .before
-    .before) .1 .1) (replicate 24 0) (call .last .1 .1 .1 .0) _
-    (sym told ∙ call .ensures .0)
+    let m = message (begin c) in
+    let before = told-of (recipients-of c) in
+    let fs = members before in
+    let call = recipients-of c .recipients in
+    let told = sym (c .before .elements .given .1) ∙ call .ensures .0 in
+    let passed = passed-is _ (first (elementsOrder m fs)) (length (recipientsIn m fs)) told in
+    listed-is m (topEntries m) fs (tops before .1 .1) (replicate 24 0) (call .last .1 .1 .1 .0) _ told
     (call .ensures .1 ∙ ap (λ (rs : List Recipient). written 0 (flatRecipients rs) (replicate 24 0))
-    (all-written message fs (passed .0)))
+    (all-written m fs (passed .0)))
+
+-- what the top level holds
+holds : (c : tie.After-held) → topIn (c .held .result) ≡ topOf (topEntries (message (begin (listed-of c))))
+holds c = c .held .ensures ∙ ap topOf (tops (told-of (recipients-of (listed-of c))) .1 .1)
+
+-- 5, asked of it, is asked of the message
+spelled : (c : tie.After-misspelled) →
+    let m = message (begin (listed-of (held-of c))) in c .misspelled .result ≡ anyMisspelled m (topEntries m)
+spelled c =
+    let m = message (begin (listed-of (held-of c))) in
+    c .misspelled .ensures ∙ misspelled-as m (topEntries m) _ _ (holds (held-of c)) (lists (listed-of (held-of c)) .1 .1)
 
 slice-aggregate-top : tie.Need-slice-aggregate-top
 slice-aggregate-top c = search needs
@@ -72,8 +108,8 @@ slice-aggregate-top c = search needs
 top-requires : tie.Need-top-requires
 top-requires c κs = (c .before .before .before .before .before .pre .0, omega arith)
 
-enum-known-members : tie.Need-enum-known-members
-enum-known-members c = search needs
+enum-known-outermost : tie.Need-enum-known-outermost
+enum-known-outermost c = search needs
 
 enum-told : tie.Need-enum-told
 enum-told c = search needs
@@ -83,13 +119,13 @@ handed-requires c κs = search needs
 
 returns : tie.Need-returns
 returns c =
-    let args = c .before .before .before .before .before .before .before .before .before .before .args in
-    let message = args .message .now in
+    let after = c .before .before .before .before in
+    let args = start after .args in
+    let m = args .message .now in
     let refusal = c .before .enum-told .given .1 in
-    let told = refused-is _ (first (topOrder message)) (length (topEntries message)) (sym refusal ∙ c .before
-    .before .before .before .top2 .ensures .0) in
-    judges-refused message _ _ _ _ _ (c .handed .ensures) refusal
-    (json-top message (names (args .known .now)) (args .recipient) (told .0) (told .1)) (told .1) (args .text .now)
+    let told = refused-is _ (first (topOrder m)) (length (topEntries m)) (sym refusal ∙ after .top .ensures .0) in
+    judges-refused m _ _ _ _ _ (c .handed .ensures) refusal
+    (json-top m (names (args .known .now)) (args .recipient) (told .0) (told .1)) (told .1) (args .text .now)
     (args .text .now) (args .table .now) (args .table .now) refl refl
 
 slice-aggregate-recipients : tie.Need-slice-aggregate-recipients
@@ -100,19 +136,10 @@ slice-aggregate-recipients-2 c = search needs
 
 recipients-requires : tie.Need-recipients-requires
 recipients-requires c κs =
-    let top = tops (c .before .before) in
-    let few = top .1 .0 in (
-      c .before .before .before .before .before .before .before .before
-          .before .before .before .before .pre .0,
-      (
-        omega (
-          arith,
-          few,
-          c .before .before .before .before .before
-              .before .top2 .kept .1 .0,
-        ),
-        (omega arith, (top .0, top .1 .1)),
-      ),
+    let told = c .before .before in
+    let top = tops told in (
+      start (top-of told) .pre .0,
+      (omega (arith, top .1 .0, top-of told .top .kept .1 .0), (omega arith, (top .0, top .1 .1))),
     )
 
 enum-known-elements : tie.Need-enum-known-elements
@@ -126,100 +153,73 @@ handed-requires-2 c κs = search needs
 
 returns-2 : tie.Need-returns-2
 returns-2 c =
-    let args = c .before .before .before .before .before .before .before .before .before .before .before .before
-    .before .before .before .before .before .args in
-    let message = args .message .now in
-    let top = tops (c .before .before .before .before .before .before .before) in
+    let after = c .before .before .before .before in
+    let told1 = told-of after in
+    let args = start (top-of told1) .args in
+    let m = args .message .now in
+    let top = tops told1 in
+    let fs = members told1 in
     let refusal = c .before .enum-told2 .given .1 in
-    let fs = entriesOf (c .before .before .before .before .before .before .before .before .members .given .0 .0) (c
-    .before .before .before .before .before .before .before .before .before .before .before .top2 .last .1 .0) in
-    let told = refused-is _ (first (elementsOrder message fs)) (length (recipientsIn message fs))
-    (sym refusal ∙ c .before .before .before .before .recipients .ensures .0) in
-    judges-refused message _ _ _ _ _ (c .handed2 .ensures) refusal
-    (json-elements message (names (args .known .now)) (args .recipient) (top .0)
-    (sym (elements-as message (topEntries message) fs (top .1 .1)) ∙ told .0) (told .1))
+    let told = refused-is _ (first (elementsOrder m fs)) (length (recipientsIn m fs))
+    (sym refusal ∙ after .recipients .ensures .0) in
+    judges-refused m _ _ _ _ _ (c .handed2 .ensures) refusal
+    (json-elements m (names (args .known .now)) (args .recipient) (top .0)
+    (sym (elements-as m (topEntries m) fs (top .1 .1)) ∙ told .0) (told .1))
     (told .1) (args .text .now) (args .text .now) (args .table .now) (args .table .now) refl refl
+
+slice-aggregate-held : tie.Need-slice-aggregate-held
+slice-aggregate-held c = search needs
+
+held-requires : tie.Need-held-requires
+held-requires c κs =
+    let told = told-of (recipients-of (c .before)) in
+    omega (arith, tops told .1 .0, top-of told .top .kept .1 .0)
 
 slice-aggregate-misspelled : tie.Need-slice-aggregate-misspelled
 slice-aggregate-misspelled c = search needs
 
-slice-aggregate-misspelled-2 : tie.Need-slice-aggregate-misspelled-2
-slice-aggregate-misspelled-2 c = search needs
-
 misspelled-requires : tie.Need-misspelled-requires
 misspelled-requires c κs =
-    let few = tops (c .before .before .before .before .before .before .before .before .before) .1 .0 in
-    let eight = lists (c .before .before) .1 .0 in (
-      omega (
-        arith,
-        few,
-        c .before .before .before .before .before .before .before .before .before .before .before
-            .before .before .top2 .kept .1 .0,
-      ),
-      omega (
-        arith,
-        eight,
-        c .before .before .before .before .before
-            .before .recipients .kept .1 .1 .1 .0,
-      ),
-    )
+    let list = listed-of (c .before) in
+    omega (arith, lists list .1 .0, recipients-of list .recipients .kept .1 .1 .1 .0)
 
 returns-3 : tie.Need-returns-3
 returns-3 c =
-    let args = c .before .before .before .before .before .before .before .before .before .before .before .before
-    .before .before .before .before .before .before .before .before .before .args in
-    let message = args .message .now in
-    let top = tops (c .before .before .before .before .before .before .before .before .before .before .before) in
-    let list = lists (c .before .before .before .before) in
-    let bad = sym (misspelled-as message (topEntries message) _ _ (top .1 .1) (list .1 .1)) ∙ sym (c
-    .before .misspelled .ensures)
-    ∙ c .if1 .taken in
-    (json-misspelled message (names (args .known .now)) (args .recipient) (top .0) (list .0) bad, omega arith, refl, refl)
+    let after = c .before in
+    let list = listed-of (held-of after) in
+    let args = begin list .args in (
+      json-misspelled (args .message .now) (names (args .known .now)) (args .recipient)
+          (tops (told-of (recipients-of list)) .0) (lists list .0) (sym (spelled after) ∙ c .if1 .taken),
+      omega arith,
+      refl,
+      refl,
+    )
 
 slice-aggregate-shaped : tie.Need-slice-aggregate-shaped
 slice-aggregate-shaped c = search needs
 
-slice-aggregate-shaped-2 : tie.Need-slice-aggregate-shaped-2
-slice-aggregate-shaped-2 c = search needs
-
 shaped-requires : tie.Need-shaped-requires
 shaped-requires c κs =
-    let start = c .before .before .before .before .before .before .before .before .before .before .before .before
-    .before .before .before .before .before .before .before .before .before .before .before .before .before in
-    let pre = start .pre in
-    let message = start .args .message .now in
-    let few = tops (c .before .before .before .before .before .before .before .before .before .before .before
-    .before .before .before .before) .1 .0 in
-    let eight = lists (c .before .before .before .before .before .before .before .before) .1 .0 in
-    let top = tops (c .before .before .before .before .before .before .before .before .before .before .before
-    .before .before .before .before) in
-    let list = lists (c .before .before .before .before .before .before .before .before) in
-    let shared = subst (λ (es : List Entry). HeaderKnown message (valueOf 2 es .start)) (sym (top .1 .1))
-    (shared-known message (top .0)) in
-    let own = subst (HeadersKnown message) (sym (list .1 .1)) (own-known message (top .0) (list .0)) in
-    let sound = sym (c .before .before .before .before .before .misspelled .ensures) ∙ c .before .before .before
-    .before .if1 .left in (
-      pre .0,
+    let after = c .before .before .before .before in
+    let list = listed-of (held-of after) in
+    let s = begin list in
+    let m = message s in
+    let top = tops (told-of (recipients-of list)) in
+    let rows = lists list in
+    let is = sym (holds (held-of after)) in
+    let shared = subst (λ (t : Top). HeaderKnown m (t .shared)) is (shared-known m (top .0)) in
+    let own = subst (HeadersKnown m) (sym (rows .1 .1)) (own-known m (top .0) (rows .0)) in
+    let none = subst (λ (t : Top). t .protected ≡ false → t .components .protected ≡ absent) is
+    (no-component 1 (topEntries m)) in
+    let sound = sym (after .misspelled .ensures) ∙ c .before .before .before .if1 .left in (
+      s .pre .0,
       (
-        pre .1 .0,
+        s .pre .1 .0,
         (
-          omega (
-            arith,
-            few,
-            c .before .before .before .before .before .before .before .before .before .before
-                .before .before .before .before .before .before .before .before .before .top2 .kept .1 .0,
-          ),
+          rows .1 .0,
           (
-            eight,
-            (
-              omega (
-                arith,
-                eight,
-                c .before .before .before .before .before .before .before .before .before .before
-                    .before .before .recipients .kept .1 .1 .1 .0,
-              ),
-              (protected-sound message _ _ sound, (pre .1 .1 .0, (pre .1 .1 .1, (shared, own)))),
-            ),
+            omega (arith, rows .1 .0, recipients-of list .recipients .kept .1 .1 .1 .0),
+            (protected-sound m _ _ sound, (none, (s .pre .1 .1 .0, (s .pre .1 .1 .1, (shared, own))))),
           ),
         ),
       ),
@@ -233,23 +233,15 @@ same-length-2 c = search needs
 
 returns-4 : tie.Need-returns-4
 returns-4 c =
-    let args = c .before .before .before .before .before .before .before .before .before .before .before .before
-    .before .before .before .before .before .before .before .before .before .before .before .before .before
-    .before .before .before .before .before .args in
-    let message = args .message .now in
-    let top = tops (c .before .before .before .before .before .before .before .before .before .before .before
-    .before .before .before .before .before .before .before .before .before) in
-    let list = lists (c .before .before .before .before .before .before .before .before .before .before .before
-    .before .before) in
-    let fine = sym (misspelled-as message (topEntries message) _ _ (top .1 .1) (list .1 .1))
-    ∙ sym (c .before .before .before .before .before .before .before .before .before
-    .before .misspelled .ensures) ∙ c .before .before .before .before .before .before .before .before
-    .before .if1 .left in
-    judges-json message (names (args .known .now)) (args .recipient) (top .0) (list .0) fine (c .before .before
-    .before .before .shaped .result) _ _
-    (args .text .now) (c .before .before .before .before .shaped .last .1 .1 .1 .1 .1 .1 .1 .0) (args .table .now)
-    (c .before .before .before .before .shaped .last .1 .1 .1 .1 .1 .1 .1 .1 .0) (top .1 .1) (list .1 .1) (c .before
-    .before .before .before .shaped .ensures)
+    let after = c .before .before .before .before .before .before .before .before .before in
+    let list = listed-of (held-of after) in
+    let args = begin list .args in
+    let top = tops (told-of (recipients-of list)) in
+    let rows = lists list in
+    let call = c .before .before .before .before .shaped in
+    judges-json (args .message .now) (names (args .known .now)) (args .recipient) (top .0) (rows .0)
+    (sym (spelled after) ∙ c .before .before .before .before .before .before .before .before .if1 .left) (call .result) _ _ (args .text .now) _ (args .table .now) _
+    (holds (held-of after)) (rows .1 .1) (call .ensures)
 
 pub judge-spec : {M : Type 1} → statement M
 judge-spec =
@@ -257,7 +249,7 @@ judge-spec =
     (tie.spec
     slice-aggregate-top
     top-requires
-    enum-known-members
+    enum-known-outermost
     enum-told
     handed-requires
     returns
@@ -268,12 +260,12 @@ judge-spec =
     enum-told-2
     handed-requires-2
     returns-2
+    slice-aggregate-held
+    held-requires
     slice-aggregate-misspelled
-    slice-aggregate-misspelled-2
     misspelled-requires
     returns-3
     slice-aggregate-shaped
-    slice-aggregate-shaped-2
     shaped-requires
     same-length
     same-length-2

@@ -1,96 +1,113 @@
--- `shaped` hands up the refusals of the headers in their order; where all pass, the working table begins with the
--- entries of the
+-- `shaped` hands up the refusals of the headers in their order; where all pass, the table begins with the entries of the
 -- protected and the shared header, and what comes behind answers.
 use mathlib.Core.Path.{_≡_, refl, ap, sym, subst, _∙_}
 use mathlib.Core.List.{List, _++_}
-use Prim.Native.Nat.{ℕ, _+_, _≤_}
+use Prim.Native.Nat.{ℕ, _+_, _*_, _≤_}
 use native.Mathlib.Omega.{arith}
-use lib.ListN.{length, replicate}
+use lib.ListN.{length}
 use lib.Seq.{length-take-le}
 use Rattle.names.specs.Names.{names}
-use Rattle.rows.specs.Rows.{present}
+use Rattle.rows.specs.Rows.{readTexts}
 use Rattle.rows.specs.Inner.Prints.{Printed}
 use Rattle.rows.specs.Tables.{entriesOf}
 use Rattle.prelude.specs.Refusals.{first}
 use Rattle.headers.specs.Headers.{protectedEntries, objectOrder}
 use Rattle.headers.proofs.Stages.{passed-is, refused-is}
+use Rattle.shape.specs.Shape.{Recipient}
+use Rattle.shape.specs.Recipients.{Top}
+use Rattle.shape.specs.Inner.Answers.{topIn}
 use Rattle.jwe.specs.General.{sharedEntries}
-use Rattle.jwe.specs.Inner.Stages.{HeaderKnown, recipientsOf, textTests, protectedTests}
+use Rattle.jwe.specs.Inner.Stages.{recipientsOf, textTests, protectedTests}
 use Rattle.jwe.proofs.JsonHeads.{judges-refused}
-use Rattle.jwe.proofs.JsonShaped.{Begun, begun, Collected, protected-as, protected-collected, shared-as}
-use Rattle.jwe.proofs.JsonShaped.{shared-collected}
+use Rattle.jwe.proofs.JsonShaped.{Begun, begun, Collected, protected-as, protected-collected, shared-collected}
 use Rattle.jwe.proofs.JsonShaped.{text, behind, front-printed, shaped-text, shaped-protected, shaped-shared}
 use Rattle.jwe.proofs.JsonShaped.{shaped-rest, judges}
 use borrow.Author.Needs.{needs}
 use Rattle.jwe.proofs.general.shaped.Statement.{statement}
 use Rattle.jwe.proofs.general.shaped.Tie as tie
 
+-- Back to the start from behind `decoded`; and from where each header passed to behind the call, and to the header before it.
+
+abbrev start : tie.After-decoded → tie.Start
+start c = c .before .before .before .before .before .before .before
+
+abbrev decoded-of : tie.After-known-told → tie.After-decoded
+decoded-of c = c .before .before .before .before .before
+
+abbrev text-of : tie.After-protected → tie.After-known-told
+text-of c = c .before .before .before
+
+abbrev protected-of : tie.After-known-told2 → tie.After-protected
+protected-of c = c .before .before .before .before .before
+
+abbrev own-of : tie.After-unprotected → tie.After-known-told2
+own-of c = c .before .before
+
+abbrev shared-of : tie.After-known-told3 → tie.After-unprotected
+shared-of c = c .before .before .before .before .before
+
+abbrev begin : tie.After-known-told3 → tie.Start
+begin c = start (decoded-of (text-of (protected-of (own-of (shared-of c)))))
+
+-- what was given
+
+abbrev message : tie.Start → List ℕ
+message s = s .args .message .now
+
+abbrev top : tie.Start → Top
+top s = topIn (s .args .top)
+
+abbrev header : tie.Start → List ℕ
+header s = text (message s) (top s)
+
+abbrev rs : tie.Start → List Recipient
+rs s = recipientsOf (s .args .number) (s .args .of .now)
+
 -- where the header is decoded
 decodes : (c : tie.After-known-told) →
-    let args = c .before .before .before .before .before .before .before .before .before .before .before .before
-    .before .args in
-    let es = entriesOf (args .count) (args .top .now) in
-    let header = text (args .message .now) es in
-    (first (textTests (present 1 es) header) ≡ 0)
-    × Begun header (args .text .now) (c .before .before .before .before .before .decoded .last .1 .1 .1 .0) (c
-    .before .header .given .0 .0)
+    let s = start (decoded-of c) in
+    (first (textTests (top s .protected) (header s)) ≡ 0)
+    × Begun (header s) (s .args .text .now) (decoded-of c .decoded .last .1 .1 .1 .0) (c .before .header .given .0 .0)
 decodes c =
-    let start = c .before .before .before .before .before .before .before .before .before .before .before .before
-    .before in
-    let args = start .args in
-    let message = args .message .now in
-    let es = entriesOf (args .count) (args .top .now) in
-    let answer = sym (c .before .header .given .1) ∙ c .before .before .before .before .before .decoded .ensures .0 in (
-      passed-is _ (first (textTests (present 1 es) (text message es))) (length (text message es)) answer .0,
-      begun message es (args .text .now) _ _ answer (c .before .before .before .before
-          .before .decoded .ensures .1) (start .pre .1 .1 .1 .1 .1 .1 .0),
+    let s = start (decoded-of c) in
+    let call = decoded-of c .decoded in
+    let answer = sym (c .before .header .given .1) ∙ call .ensures .0 in (
+      passed-is _ (first (textTests (top s .protected) (header s))) (length (header s)) answer .0,
+      begun (message s) (top s) (s .pre .1 .1 .1 .1 .1 .0) (s .args .text .now) _ _ answer (call .ensures .1) (s .pre .1 .1 .1 .1 .1 .1 .0),
     )
 
 -- where its entries are collected
 collects : (c : tie.After-known-told2) →
-    let args = c .before .before .before .before .before .before .before .before .before .before .before .before
-    .before .before .before .before .before .before .before .before .before .args in
-    let es = entriesOf (args .count) (args .top .now) in
-    let header = text (args .message .now) es in
-    (first (protectedTests (present 1 es) header) ≡ 0)
-    × Collected (protectedEntries header) 0 (replicate 768 0) (c .before .before .before
-    .before .protected .last .1 .1 .0) (c .before .own .given .0 .0)
+    let s = start (decoded-of (text-of (protected-of c))) in
+    (first (protectedTests (top s .protected) (header s)) ≡ 0)
+    × Collected (protectedEntries (header s)) 0 (s .args .table .now) (protected-of c .protected .last .1 .1 .0)
+    (c .before .own .given .0 .0)
 collects c =
-    let args = c .before .before .before .before .before .before .before .before .before .before .before .before
-    .before .before .before .before .before .before .before .before .before .args in
-    let es = entriesOf (args .count) (args .top .now) in
-    let call = c .before .before .before .before .protected .ensures in
-    protected-collected (text (args .message .now) es) (present 1 es) _ _ (decodes (c .before .before .before
-    .before .before .before .before .before) .1 .front)
-    (c .before .before .before .before .before .before .present .ensures) _ _ _ (sym (c
-    .before .own .given .1) ∙ call .0) (call .1)
+    let s = start (decoded-of (text-of (protected-of c))) in
+    let call = protected-of c .protected .ensures in
+    protected-collected (header s) (top s .protected) _ _ (decodes (text-of (protected-of c)) .1 .front) refl _ _ _
+    (sym (c .before .own .given .1) ∙ call .0) (call .1)
+
+-- the table behind it, as long as before
+collected-long : (c : tie.After-protected) → length (c .protected .last .1 .1 .0) ≡ 768
+collected-long c = c .protected .kept .1 .1 .0 ∙ start (decoded-of (text-of c)) .pre .1 .1 .1 .1 .1 .1 .1 .0
 
 -- where the shared header's are collected too: that it passes, how many there are, the table's length and its entries
 gathers : (c : tie.After-known-told3) →
-    let args = c .before .before .before .before .before .before .before .before .before .before .before .before
-    .before .before .before .before .before .before .before .before .before .before .before .before .before
-    .before .before .before .args in
-    let message = args .message .now in
-    let es = entriesOf (args .count) (args .top .now) in
-    let n = c .before .before .before .before .before .before .before .before .own .given .0 .0 + c
-    .before .shared .given .0 .0 in
-    let last = c .before .before .before .before .unprotected .last .1 .1 .1 .0 in
-    (first (objectOrder message (sharedEntries message es)) ≡ 0)
+    let s = begin c in
+    let n = own-of (shared-of c) .before .own .given .0 .0 + c .before .shared .given .0 .0 in
+    let last = shared-of c .unprotected .last .1 .1 .1 .0 in
+    (first (objectOrder (message s) (sharedEntries (message s) (top s))) ≡ 0)
     × ((n ≤ 64)
-    × ((length last ≡ 768) × (entriesOf n last ≡ protectedEntries (text message es) ++ sharedEntries message es)))
+    × ((length last ≡ 768)
+    × (entriesOf n last ≡ protectedEntries (header s) ++ sharedEntries (message s) (top s))))
 gathers c =
-    let args = c .before .before .before .before .before .before .before .before .before .before .before .before
-    .before .before .before .before .before .before .before .before .before .before .before .before .before
-    .before .before .before .args in
-    let es = entriesOf (args .count) (args .top .now) in
-    let call = c .before .before .before .before .unprotected in
-    let own = collects (c .before .before .before .before .before .before .before) in
-    let shared = shared-collected (args .message .now) es _ (c .before .before .before .before .before
-    .before .value-of .ensures .0) _ _ _ _
+    let s = begin c in
+    let call = shared-of c .unprotected in
+    let own = collects (own-of (shared-of c)) in
+    let shared = shared-collected (message s) (top s) _ _ _ _
     (sym (c .before .shared .given .1) ∙ call .ensures .0) (call .ensures .1) in
-    let long : length (c .before .before .before .before .before .before .before .before .before .before
-    .before .protected .last .1 .1 .0) ≡ 768 = c .before .before .before .before .before .before .before .before
-    .before .before .before .protected .kept .1 .1 .0 in (
+    let long = collected-long (protected-of (own-of (shared-of c))) in (
       shared .0,
       (
         omega (arith, own .1 .short, shared .1 .short),
@@ -100,8 +117,8 @@ gathers c =
 
 decoded-requires : tie.Need-decoded-requires
 decoded-requires c κs =
-    let pre = c .before .before .before .before .before .before
-    .before .pre in (pre .1 .1 .0, (pre .1 .1 .1 .1 .1 .0, pre .1 .1 .1 .1 .1 .1 .0))
+    let pre = c .before .before .before .before .before .before .pre in
+    (pre .1 .1 .1 .1 .0, (pre .1 .1 .1 .1 .1 .0, pre .1 .1 .1 .1 .1 .1 .0))
 
 enum-known-header : tie.Need-enum-known-header
 enum-known-header c = search needs
@@ -117,17 +134,14 @@ same-length c = search needs
 
 returns : tie.Need-returns
 returns c =
-    let args = c .before .before .before .before .before .before .before .before .before .before .before .before
-    .before .args in
-    let message = args .message .now in
-    let es = entriesOf (args .count) (args .top .now) in
-    let rs = recipientsOf (args .number) (args .of .now) in
+    let after = c .before .before .before .before .before in
+    let s = start after in
     let refusal = c .before .enum-told .given .1 in
-    let told = refused-is _ (first (textTests (present 1 es) (text message es))) (length (text message es))
-    (sym refusal ∙ c .before .before .before .before .before .decoded .ensures .0) in
-    judges-refused message _ _ _ _ _ (c .handed .ensures) refusal
-    (shaped-text (names (args .known .now)) message es rs (args .recipient) (told .0) (told .1)) (told .1) (args .text .now) _
-    (args .table .now) _ (c .before .before .before .before .before .decoded .kept .1 .1 .1 .0) refl
+    let told = refused-is _ (first (textTests (top s .protected) (header s))) (length (header s))
+    (sym refusal ∙ after .decoded .ensures .0) in
+    judges-refused (message s) _ _ _ _ _ (c .handed .ensures) refusal
+    (shaped-text (names (s .args .known .now)) (message s) (top s) (rs s) (s .args .recipient) (told .0) (told .1)) (told .1)
+    (s .args .text .now) _ (s .args .table .now) _ (after .decoded .kept .1 .1 .1 .0) refl
 
 slice-reshare-prefix-protected : tie.Need-slice-reshare-prefix-protected
 slice-reshare-prefix-protected c = decodes c .1 .fits
@@ -135,15 +149,11 @@ slice-reshare-prefix-protected c = decodes c .1 .fits
 slice-aggregate-protected : tie.Need-slice-aggregate-protected
 slice-aggregate-protected c = sym (length-take-le _ _ (decodes (c .before) .1 .fits))
 
-present-requires : tie.Need-present-requires
-present-requires c κs = search needs
-
-slice-aggregate-protected-2 : tie.Need-slice-aggregate-protected-2
-slice-aggregate-protected-2 c = search needs
-
 protected-requires : tie.Need-protected-requires
-protected-requires c κs = let b = decodes (c .before .before
-    .before) .1 in (omega (arith, ap length (b .front), b .small), omega arith)
+protected-requires c κs =
+    let told = c .before .before in
+    let b = decodes told .1 in
+    (omega (arith, ap length (b .front), b .small), omega (arith, start (decoded-of told) .pre .1 .1 .1 .1 .1 .1 .1 .0))
 
 enum-known-own : tie.Need-enum-known-own
 enum-known-own c = search needs
@@ -155,49 +165,35 @@ handed-requires-2 : tie.Need-handed-requires-2
 handed-requires-2 c κs = search needs
 
 same-length-2 : tie.Need-same-length-2
-same-length-2 c = search needs
+same-length-2 c =
+    let told = text-of (c .before .before .before .before .before) in
+    decodes told .1 .long ∙ sym (start (decoded-of told) .pre .1 .1 .1 .1 .1 .1 .0)
+
+same-length-3 : tie.Need-same-length-3
+same-length-3 c = search needs
 
 returns-2 : tie.Need-returns-2
 returns-2 c =
-    let args = c .before .before .before .before .before .before .before .before .before .before .before .before
-    .before .before .before .before .before .before .before .before .before .args in
-    let message = args .message .now in
-    let es = entriesOf (args .count) (args .top .now) in
-    let rs = recipientsOf (args .number) (args .of .now) in
-    let header = text message es in
-    let text-is = decodes (c .before .before .before .before .before .before .before .before) in
+    let after = c .before .before .before .before .before in
+    let decoded = text-of after in
+    let s = start (decoded-of decoded) in
+    let text-is = decodes decoded in
     let refusal = c .before .enum-told2 .given .1 in
-    let told = refused-is _ (first (protectedTests (present 1 es) header)) (length (protectedEntries header))
-    (sym refusal ∙ c .before .before .before .before .protected .ensures .0
-    ∙ protected-as header (present 1 es) _ _ (text-is .1 .front) (c .before .before .before .before .before
-    .before .present .ensures)) in
-    judges-refused message _ _ _ _ _ (c .handed2 .ensures) refusal
-    (shaped-protected (names (args .known .now)) message es rs (args .recipient) (text-is .0) (told .0) (told .1)) (told .1)
-    (args .text .now) _ (args .table .now) _ (c .before .before .before .before .before .before .before .before
-    .before .before .before .before .before .decoded .kept .1 .1 .1 .0) refl
-
-value-of-requires : tie.Need-value-of-requires
-value-of-requires c κs = search needs
-
-slice-aggregate-unprotected : tie.Need-slice-aggregate-unprotected
-slice-aggregate-unprotected c = search needs
+    let told = refused-is _ (first (protectedTests (top s .protected) (header s))) (length (protectedEntries (header s)))
+    (sym refusal ∙ after .protected .ensures .0
+    ∙ protected-as (header s) (top s .protected) _ _ (text-is .1 .front) refl) in
+    judges-refused (message s) _ _ _ _ _ (c .handed2 .ensures) refusal
+    (shaped-protected (names (s .args .known .now)) (message s) (top s) (rs s) (s .args .recipient) (text-is .0) (told .0)
+    (told .1)) (told .1)
+    (s .args .text .now) _ (s .args .table .now) _ (decoded-of decoded .decoded .kept .1 .1 .1 .0)
+    (after .protected .kept .1 .1 .0)
 
 unprotected-requires : tie.Need-unprotected-requires
 unprotected-requires c κs =
-    let start = c .before .before .before .before .before .before .before .before .before .before .before .before
-    .before .before .before .before .before .before .before .before .before .before .before in
-    let has = collects (c .before .before) .1 in (
-      start .pre .0,
-      (
-        omega (
-          arith,
-          has .short,
-          c .before .before .before .before .before
-              .before .protected .kept .1 .1 .0,
-        ),
-        subst (HeaderKnown (start .args .message .now)) (sym (c .before .value-of .ensures .0)) (start .pre .1 .1 .1 .1 .1 .1 .1 .1 .0),
-      ),
-    )
+    let told = c .before in
+    let s = start (decoded-of (text-of (protected-of told))) in
+    let has = collects told .1 in
+    (s .pre .0, (omega (arith, has .short, collected-long (protected-of told)), s .pre .1 .1 .1 .1 .1 .1 .1 .1 .0))
 
 enum-known-shared : tie.Need-enum-known-shared
 enum-known-shared c = search needs
@@ -208,57 +204,50 @@ enum-told-3 c = search needs
 handed-requires-3 : tie.Need-handed-requires-3
 handed-requires-3 c κs = search needs
 
-same-length-3 : tie.Need-same-length-3
-same-length-3 c = search needs
+same-length-4 : tie.Need-same-length-4
+same-length-4 c =
+    let told = text-of (protected-of (own-of (c .before .before .before .before .before))) in
+    decodes told .1 .long ∙ sym (start (decoded-of told) .pre .1 .1 .1 .1 .1 .1 .0)
+
+same-length-5 : tie.Need-same-length-5
+same-length-5 c = search needs
 
 returns-3 : tie.Need-returns-3
+unfolding sharedEntries
 returns-3 c =
-    let args = c .before .before .before .before .before .before .before .before .before .before .before .before
-    .before .before .before .before .before .before .before .before .before .before .before .before .before
-    .before .before .before .args in
-    let message = args .message .now in
-    let es = entriesOf (args .count) (args .top .now) in
-    let rs = recipientsOf (args .number) (args .of .now) in
+    let after = c .before .before .before .before .before in
+    let own = own-of after in
+    let decoded = text-of (protected-of own) in
+    let s = start (decoded-of decoded) in
+    let entries = sharedEntries (message s) (top s) in
     let refusal = c .before .enum-told3 .given .1 in
-    let told = refused-is _ (first (objectOrder message (sharedEntries message es))) (length (sharedEntries message es))
-    (sym refusal ∙ c .before .before .before .before .unprotected .ensures .0 ∙ shared-as message es _ (c .before
-    .before .before .before .before .before .value-of .ensures .0)) in
-    judges-refused message _ _ _ _ _ (c .handed3 .ensures) refusal
-    (shaped-shared (names (args .known .now)) message es rs (args .recipient) (decodes (c .before .before .before
-    .before .before .before .before .before .before .before .before .before .before .before
-    .before) .0) (collects (c .before .before .before .before .before .before .before) .0)
-    (told .0) (told .1))
-    (told .1) (args .text .now) _ (args .table .now) _ (c .before .before .before .before .before .before .before
-    .before .before .before .before .before .before .before .before .before .before .before .before
-    .before .decoded .kept .1 .1 .1 .0) refl
+    let told = refused-is _ (first (objectOrder (message s) entries)) (length entries)
+    (sym refusal ∙ after .unprotected .ensures .0) in
+    judges-refused (message s) _ _ _ _ _ (c .handed3 .ensures) refusal
+    (shaped-shared (names (s .args .known .now)) (message s) (top s) (rs s) (s .args .recipient) (decodes decoded .0)
+    (collects own .0) (told .0) (told .1)) (told .1)
+    (s .args .text .now) _ (s .args .table .now) _ (decoded-of decoded .decoded .kept .1 .1 .1 .0)
+    (after .unprotected .kept .1 .1 .1 .0 ∙ protected-of own .protected .kept .1 .1 .0)
 
 slice-reshare-prefix-headed : tie.Need-slice-reshare-prefix-headed
-slice-reshare-prefix-headed c = decodes (c .before .before .before .before .before .before .before .before .before
-    .before .before .before .before .before .before) .1 .fits
+slice-reshare-prefix-headed c = decodes (text-of (protected-of (own-of (shared-of c)))) .1 .fits
 
 slice-aggregate-headed : tie.Need-slice-aggregate-headed
-slice-aggregate-headed c = sym (length-take-le _ _ (decodes (c .before .before .before .before .before .before
-    .before .before .before .before .before .before .before .before .before .before) .1 .fits))
-
-slice-aggregate-headed-2 : tie.Need-slice-aggregate-headed-2
-slice-aggregate-headed-2 c = search needs
+slice-aggregate-headed c =
+    sym (length-take-le _ _ (decodes (text-of (protected-of (own-of (shared-of (c .before))))) .1 .fits))
 
 add-headed : tie.Need-add-headed
 add-headed c = let has = gathers (c .before .before) in omega (arith, has .1 .0)
 
 headed-requires : tie.Need-headed-requires
 headed-requires c κs =
-    let start = c .before .before .before .before .before .before .before .before .before .before .before .before
-    .before .before .before .before .before .before .before .before .before .before .before .before .before
-    .before .before .before .before .before .before in
-    let args = start .args in
-    let message = args .message .now in
-    let pre = start .pre in
-    let es = entriesOf (args .count) (args .top .now) in
-    let header = text message es in
-    let has = gathers (c .before .before .before) in
-    let printed = subst (Printed header message) (sym (has .1 .1 .1)) (front-printed header message es) in
-    let fits : _ ≤ 64 = has .1 .0 in (
+    let told = c .before .before in
+    let s = begin told in
+    let pre = s .pre in
+    let has = gathers told in
+    let decoded = text-of (protected-of (own-of (shared-of told))) in
+    let printed = subst (Printed (readTexts (header s) (message s))) (sym (has .1 .1 .1))
+    (front-printed (header s) (message s) (top s)) in (
       pre .0,
       (
         pre .1 .0,
@@ -267,24 +256,17 @@ headed-requires c κs =
           (
             pre .1 .1 .1 .0,
             (
-              pre .1 .1 .1 .1 .0,
+              has .1 .1 .0,
               (
-                has .1 .1 .0,
+                has .1 .0,
                 (
-                  fits,
-                  (
-                    subst
-                        (λ (l : List ℕ).
-                        Printed l message
-                        (entriesOf (c .before .before .before .before .before .before .before .before .before
-                        .before .before .own .given .0 .0 + c .before .before .before
-                        .before .shared .given .0 .0) (c .before .before .before .before .before .before
-                        .before .unprotected .last .1 .1 .1 .0)))
-                        (sym (decodes (c .before .before .before .before .before .before .before .before .before
-                        .before .before .before .before .before .before .before .before
-                        .before) .1 .front)) printed,
-                    (pre .1 .1 .1 .1 .1 .1 .1 .0, pre .1 .1 .1 .1 .1 .1 .1 .1 .1),
-                  ),
+                  subst
+                      (λ (l : List ℕ).
+                      Printed (readTexts l (message s))
+                      (entriesOf (own-of (shared-of told) .before .own .given .0 .0 + told .before .shared .given .0 .0)
+                      (shared-of told .unprotected .last .1 .1 .1 .0)))
+                      (sym (decodes decoded .1 .front)) printed,
+                  pre .1 .1 .1 .1 .1 .1 .1 .1 .1,
                 ),
               ),
             ),
@@ -293,37 +275,27 @@ headed-requires c κs =
       ),
     )
 
-same-length-4 : tie.Need-same-length-4
-same-length-4 c =
-    decodes (c .before .before .before .before .before .before .before .before .before .before .before .before
-    .before .before .before .before .before .before .before .before .before .before) .1 .long ∙ sym (c .before
-    .before .before .before .before .before .before .before .before .before .before .before .before .before
-    .before .before .before .before .before .before .before .before .before .before .before .before .before
-    .before .before .before .before .before .before .before .before .pre .1 .1 .1 .1 .1 .1 .0)
+same-length-6 : tie.Need-same-length-6
+same-length-6 c =
+    let told = text-of (protected-of (own-of (shared-of (c .before .before .before .before .before)))) in
+    decodes told .1 .long ∙ sym (start (decoded-of told) .pre .1 .1 .1 .1 .1 .1 .0)
 
-same-length-5 : tie.Need-same-length-5
-same-length-5 c = search needs
+same-length-7 : tie.Need-same-length-7
+same-length-7 c = search needs
 
 returns-4 : tie.Need-returns-4
 returns-4 c =
-    let start = c .before .before .before .before .before .before .before .before .before .before .before .before
-    .before .before .before .before .before .before .before .before .before .before .before .before .before
-    .before .before .before .before .before .before .before .before .before .before in
-    let args = start .args in
-    let message = args .message .now in
-    let es = entriesOf (args .count) (args .top .now) in
-    let rs = recipientsOf (args .number) (args .of .now) in
-    let known = names (args .known .now) in
-    let begins = decodes (c .before .before .before .before .before .before .before .before .before .before .before
-    .before .before .before .before .before .before .before .before .before .before .before) in
-    let has = gathers (c .before .before .before .before .before .before .before) in
-    judges known message es rs (args .recipient) (c .before .before
-    .before .headed .result) _ _ (args .text .now) _ (args .table .now)
-    (c .before .before .before .headed .last .1 .1 .1 .1 .1 .1 .1 .1 .1 .1 .0) (begins .1 .front)
-    (has .1 .1 .1) (shaped-rest known message es rs (args .recipient) (begins .0) (collects (c .before .before
-    .before .before .before .before .before .before .before .before .before .before .before .before) .0) (has .0))
-    (begins .1 .wrote) (begins .1 .long ∙ sym (start .pre .1 .1 .1 .1 .1 .1 .0)) (c .before .before
-    .before .headed .ensures)
+    let call = c .before .before .headed in
+    let told = c .before .before .before .before .before in
+    let s = begin told in
+    let own = own-of (shared-of told) in
+    let begins = decodes (text-of (protected-of own)) in
+    let has = gathers told in
+    judges (names (s .args .known .now)) (message s) (top s) (rs s) (s .args .recipient) (call .result) _ _ (s .args .text .now) _
+    (s .args .table .now) _ _ (begins .1 .front) (has .1 .1 .1)
+    (shaped-rest (names (s .args .known .now)) (message s) (top s) (rs s) (s .args .recipient) (begins .0) (collects own .0)
+    (has .0))
+    (begins .1 .wrote) (begins .1 .long ∙ sym (s .pre .1 .1 .1 .1 .1 .1 .0)) (has .1 .1 .0 ∙ sym (s .pre .1 .1 .1 .1 .1 .1 .1 .0)) (call .ensures)
 
 pub shaped-spec : {M : Type 1} → statement M
 shaped-spec =
@@ -337,27 +309,24 @@ shaped-spec =
     returns
     slice-reshare-prefix-protected
     slice-aggregate-protected
-    present-requires
-    slice-aggregate-protected-2
     protected-requires
     enum-known-own
     enum-told-2
     handed-requires-2
     same-length-2
+    same-length-3
     returns-2
-    value-of-requires
-    slice-aggregate-unprotected
     unprotected-requires
     enum-known-shared
     enum-told-3
     handed-requires-3
-    same-length-3
+    same-length-4
+    same-length-5
     returns-3
     slice-reshare-prefix-headed
     slice-aggregate-headed
-    slice-aggregate-headed-2
     add-headed
     headed-requires
-    same-length-4
-    same-length-5
+    same-length-6
+    same-length-7
     returns-4)

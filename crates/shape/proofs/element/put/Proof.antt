@@ -14,13 +14,12 @@ use Rattle.shape.proofs.element.put.Tie as tie
 use Rattle.shape.proofs.element.put.Reads as reads
 use Rattle.shape.proofs.element.put.Lts as lts
 use Rattle.rows.proofs.ask.value_of.Reads as value-of-reads
-use Rattle.shape.proofs.element.key.Reads as key-reads
 
 value-of-requires : tie.Need-value-of-requires
 value-of-requires c κs = search needs
 
-key-requires : tie.Need-key-requires
-key-requires c κs = search needs
+component-requires : tie.Need-component-requires
+component-requires c κs = search needs
 
 mul-into : tie.Need-mul-into
 mul-into c = search needs
@@ -54,8 +53,7 @@ returns c =
     let start = c .before .before .before .before in
     let at = start .args .at in
     let es = entriesOf (start .args .count) (start .args .table .now) in
-    let key = c .key in
-    let is = recipient-numbers es _ _ _ (c .before .value-of .ensures .0) (key .ensures .0) (key .ensures .1) in
+    let is = recipient-numbers es _ _ _ (c .before .value-of .ensures .0) (c .component .ensures) in
     let opened = begin-as at (three (recipientOf es)) _ (start .args .into .now) is (start .pre .1) in
     let one = put _ (at + 1) refl opened in
     let two = put _ (at + 2) (omega arith) one in
@@ -66,7 +64,7 @@ put-spec =
     tie.close
     (tie.spec
     value-of-requires
-    key-requires
+    component-requires
     mul-into
     slice-write-into
     add-into

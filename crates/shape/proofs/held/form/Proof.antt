@@ -3,8 +3,8 @@ use mathlib.Core.Path.{ap, sym, _∙_}
 use mathlib.Core.Bool.{Bool, cond}
 use Prim.Native.Nat.{ℕ}
 use borrow.Author.Needs.{needs}
-use Rattle.jwe.proofs.general.form.Statement.{statement}
-use Rattle.jwe.proofs.general.form.Tie as tie
+use Rattle.shape.proofs.held.form.Statement.{statement}
+use Rattle.shape.proofs.held.form.Tie as tie
 
 present-requires : tie.Need-present-requires
 present-requires c κs = search needs
