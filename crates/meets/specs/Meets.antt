@@ -1,5 +1,5 @@
 -- What a message has to meet (demand 2): the rules of RFC 7516 as document 01 fixes them, over the grammar's trees and leaves
--- and the encoding. Nothing is searched.
+-- and the encoding. Nothing is searched, and nothing of the reader is named but `Call`, what it is called with.
 use mathlib.Core.Path.{_≡_}
 use mathlib.Core.Logic.{_⊎_}
 use mathlib.Core.List.{List, [], _∷_, _++_, map}
@@ -15,6 +15,7 @@ use Rattle.grammar.specs.Grammar as grammar
 use Rattle.grammar.specs.Places.{kind}
 use Rattle.grammar.specs.Bounds.{Every}
 use Rattle.grammar.specs.Readings.{Reading}
+use Rattle.jwe.specs.Judge.{Call}
 use Rattle.meets.specs.Members.{Member, membersOf, elementsOf, namesOf, IsString, Distinct, Named, Absent}
 use Rattle.meets.specs.Rules.{EveryNamed, Present, Rules}
 
@@ -186,9 +187,9 @@ pub record Known (list : List ℕ) : Type 0 where
   pub limited : Limited names
 
 -- What is lent is enough, and the message meets the rules and has the recipient.
-pub record Meets (message known : List ℕ) (recipient headerLent listLent : ℕ) : Type 0 where
-  pub room : (headerRoom ≤ headerLent) × (listRoom ≤ listLent)
-  pub size : length message ≤ longest
-  pub list : Known known
-  pub form : Message (list .names) message
-  pub asked : recipient < count form
+pub record Meets (c : Call) : Type 0 where
+  pub room : (headerRoom ≤ c .headerLent) × (listRoom ≤ c .listLent)
+  pub size : length (c .message) ≤ longest
+  pub list : Known (c .known)
+  pub form : Message (list .names) (c .message)
+  pub asked : c .recipient < count form
