@@ -1,6 +1,6 @@
 -- What is handed out means (document 01, 'What the reader hands out'; demand 3), by what the message meets: each number of
 -- the result, the header and each row of the list, over the forms, components and members of crate meets, the grammar's
--- trees and places, and the encoding. Nothing of the reader is named but `result`, `headerAfter` and `listAfter`.
+-- trees and places, and the encoding. Nothing of the reader is named but `Call`, `result`, `headerAfter` and `listAfter`.
 use mathlib.Core.Path.{_≡_}
 use mathlib.Core.Logic.{_↔_, _⊎_, inl, inr}
 use mathlib.Core.List.{List, [], _∷_, _++_}
@@ -20,7 +20,7 @@ use Rattle.algorithms.specs.Algorithms.{algName, mode}
 use Rattle.algorithms.specs.declared.Alg.{Alg}
 use Rattle.headers.specs.Components.{absent, Components}
 use Rattle.headers.specs.Components as components
-use Rattle.jwe.specs.Judge.{placesIn, result, headerAfter, listAfter}
+use Rattle.jwe.specs.Judge.{Call, placesIn, result, headerAfter, listAfter}
 use Rattle.jwe_write.specs.Write.{Raw}
 use Rattle.round_trips.specs.Trips.{writtenPlaces}
 use Rattle.meets.specs.Members.{Member, Some, OneForOne}
@@ -199,25 +199,24 @@ abbrev pub NoProtected : List ℕ → Type 0
 NoProtected message =
     (r : Reading levels message) × NoMember message (ascii "protected") (partsOf (placedText (r .text)))
 
--- What is handed out for recipient n of a message that meets the rules, with what was known and lent.
-pub record HandsOut (known : List ℕ) (buffer list : List ℕ) {names : List (List ℕ)} {message : List ℕ}
-    (f : Message names message) (n : ℕ) : Type 0 where
+-- What is handed out by a call on a message that meets the rules, into the lent header buffer and list.
+pub record HandsOut (c : Call) (buffer list : List ℕ) {names : List (List ℕ)} (f : Message names (c .message)) : Type 0 where
   -- The header and the rows that apply, and no others do.
   pub header : List ℕ
   pub rows : Rows
-  pub applies : Applies message n header rows
-  pub only : (h : List ℕ) (x : Rows) → Applies message n h x → (h ≡ header) × (x ≡ rows)
+  pub applies : Applies (c .message) (c .recipient) header rows
+  pub only : (h : List ℕ) (x : Rows) → Applies (c .message) (c .recipient) h x → (h ≡ header) × (x ≡ rows)
   -- They are in the lent memory, its rest unchanged, and the result has their lengths.
-  pub headerLeft : headerAfter message known n buffer list ≡ written 0 header buffer
-  pub listLeft : listAfter message known n buffer list ≡ written 0 (entries rows) list
-  pub headerFits : length header ≤ length buffer
-  pub listFits : length (entries rows) ≤ length list
-  pub headerLength : getD (result message known n (length buffer) (length list)) 16 0 ≡ length header
-  pub parameterCount : getD (result message known n (length buffer) (length list)) 17 0 ≡ handed.count rows
+  pub headerLeft : headerAfter c buffer ≡ written 0 header buffer
+  pub listLeft : listAfter c list ≡ written 0 (entries rows) list
+  pub headerFits : length header ≤ c .headerLent
+  pub listFits : length (entries rows) ≤ c .listLent
+  pub headerLength : getD (result c) 16 0 ≡ length header
+  pub parameterCount : getD (result c) 17 0 ≡ handed.count rows
   -- They are those of what the message meets: the header's octets, and a row for each parameter.
   pub headerIs : header ≡ headerOf f
-  pub shows : RowsShow header message (headersOf f n) rows
-  pub counted : handed.count rows ≡ length (parameters (headersOf f n))
+  pub shows : RowsShow header (c .message) (headersOf f (c .recipient)) rows
+  pub counted : handed.count rows ≡ length (parameters (headersOf f (c .recipient)))
   -- Exactly one reading.
-  pub messageRead : OpensCurly message → ExactlyOne message
-  pub headerRead : ((header ≡ []) × NoProtected message) ⊎ ExactlyOne header
+  pub messageRead : OpensCurly (c .message) → ExactlyOne (c .message)
+  pub headerRead : ((header ≡ []) × NoProtected (c .message)) ⊎ ExactlyOne header

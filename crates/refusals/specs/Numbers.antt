@@ -1,5 +1,5 @@
 -- What each number of refusal says (document 01, 'Numbers of refusal, in order'), over the grammar's trees, the encoding, lists
--- and ≡, with the sentences of crate meets. Nothing of the reader is named.
+-- and ≡, with the sentences of crate meets. Nothing of the reader is named but `Call`, what it is called with.
 use mathlib.Core.Path.{_≡_}
 use mathlib.Core.List.{List, [], _∷_, _++_}
 use Prim.Native.Nat.{ℕ, _≤_, _<_}
@@ -11,6 +11,7 @@ use Rattle.grammar.specs.Bounds.{Every}
 use Rattle.grammar.specs.Readings.{Reading}
 use Rattle.algorithms.specs.Algorithms.{algName, mode, algNames, encNames, zipNames}
 use Rattle.algorithms.specs.declared.Alg.{Alg}
+use Rattle.jwe.specs.Judge.{Call}
 use Rattle.meets.specs.Members.{Member, membersOf, namesOf, Distinct}
 use Rattle.meets.specs.Rules.{Headers, parameters, EveryNamed, NamesApart, Present, stringNames, objectNames, arrayNames}
 use Rattle.meets.specs.Rules.{OfKind, ValueAmong, Critical, KeyFits}
@@ -145,10 +146,11 @@ jsonTable known message recipient =
     (textTable (c .0 .0) λ hs. rule 10 (hs ≡ [] → ⊥) λ some. headersTable known ps (g .0) (c .5) recipient hs)
     (headersTable known ps (g .0) (c .5) recipient [])))
 
--- All numbers, of a message, a list of known names, a recipient number and the lengths of the lent outputs.
-unfoldable pub numbersTable : List ℕ → List ℕ → ℕ → ℕ → ℕ → Table
-numbersTable message known recipient headerLent listLent =
-    rule 1 ((headerRoom ≤ headerLent) × (listRoom ≤ listLent)) λ room.
-    rule 2 (length message ≤ longest) λ size.
-    rule 3 (Known known) λ k.
-    fork (OpensCurly message) (jsonTable (k .names) message recipient) (compactTable (k .names) message recipient)
+-- All numbers.
+unfoldable pub numbersTable : Call → Table
+numbersTable c =
+    rule 1 ((headerRoom ≤ c .headerLent) × (listRoom ≤ c .listLent)) λ room.
+    rule 2 (length (c .message) ≤ longest) λ size.
+    rule 3 (Known (c .known)) λ k.
+    fork (OpensCurly (c .message))
+    (jsonTable (k .names) (c .message) (c .recipient)) (compactTable (k .names) (c .message) (c .recipient))
