@@ -96,9 +96,15 @@ pub fn read(
     header: &mut [u8],
     list: &mut [u32],
 ) -> Result
-    ensures { λ r. ⌜ numbers r ≡ result (call (now (message .entry)) (now (known .entry)) recipient (length (now (header .entry))) (length (now (list .entry)))) ⌝ }
-    ensures { λ _. ⌜ now (header .exit) ≡ headerAfter (call (now (message .entry)) (now (known .entry)) recipient (length (now (header .entry))) (length (now (list .entry)))) (now (header .entry)) ⌝ }
-    ensures { λ _. ⌜ now (list .exit) ≡ listAfter (call (now (message .entry)) (now (known .entry)) recipient (length (now (header .entry))) (length (now (list .entry)))) (now (list .entry)) ⌝ }
+    ensures { λ r. ⌜ numbers r
+        ≡ result (call (now (message .entry)) (now (known .entry)) recipient
+        (length (now (header .entry))) (length (now (list .entry)))) ⌝ }
+    ensures { λ _. ⌜ now (header .exit)
+        ≡ headerAfter (call (now (message .entry)) (now (known .entry)) recipient
+        (length (now (header .entry))) (length (now (list .entry)))) (now (header .entry)) ⌝ }
+    ensures { λ _. ⌜ now (list .exit)
+        ≡ listAfter (call (now (message .entry)) (now (known .entry)) recipient
+        (length (now (header .entry))) (length (now (list .entry)))) (now (list .entry)) ⌝ }
 {
     if header.len() < 4096 {
         return refused(1);

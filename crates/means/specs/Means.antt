@@ -199,7 +199,7 @@ abbrev pub NoProtected : List ℕ → Type 0
 NoProtected message =
     (r : Reading levels message) × NoMember message (ascii "protected") (partsOf (placedText (r .text)))
 
--- What is handed out by a call on a message that meets the rules, into the lent header buffer and list.
+-- What is handed out by a call on a message that meets the rules, into the header buffer and the list that were lent.
 pub record HandsOut (c : Call) (buffer list : List ℕ) {names : List (List ℕ)} (f : Message names (c .message)) : Type 0 where
   -- The header and the rows that apply, and no others do.
   pub header : List ℕ

@@ -1,11 +1,8 @@
 -- `report` asks the reader with as much lent as it wants, and writes the text that its answer asks for.
-use mathlib.Core.Path.{_≡_, refl, ap, ap₂, sym, subst, _∙_}
-use mathlib.Core.List.{List, [], _∷_}
-use Prim.Native.Nat.{ℕ, zero, suc}
+use mathlib.Core.Path.{_≡_, sym, subst, _∙_}
 use native.Mathlib.Omega.{arith}
-use lib.ListN.{length, replicate}
+use lib.ListN.{replicate}
 use Rattle.prelude.specs.Buffer.{AllBelow}
-use Rattle.prelude.specs.Limits.{headerRoom, listRoom}
 use Rattle.jwe.specs.Judge.{result}
 use Rattle.jwe.specs.Answers.{numbers}
 use Rattle.jwe.proofs.Small.{limit, result-small}
