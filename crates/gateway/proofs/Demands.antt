@@ -2,11 +2,12 @@
 --
 -- Demand 1's first half, that any octets, lent lengths and recipient number get an answer, is the contracts themselves: no function of
 -- crates/gateway/src/lib.rt has a condition, and each is proved to answer and leave what its definitions say, for every input.
--- Those definitions are, for reading, `refusal`, `result`, `headerAfter` and `listAfter` (crates/jwe/specs/Judge.antt); for
--- decoding, AAD and writing a refusal (`decodeRefusal`, `aadRefusal`, `writeRefusal`), what is written (`decoded`, `aadText`,
--- `compactText`), and of both the octets written and the output afterwards (crates/prelude/specs/Outputs.antt); for the header
--- walk `opened`, `handedBy` and `moved` (crates/walk/specs/Walk.antt). What a message has to meet stands in
--- crates/meets/specs/Meets.antt, over the trees of crate grammar and the encoding of crate base64url.
+-- Those definitions are, for reading, `refusal`, `result`, `headerAfter` and `listAfter` (crates/jwe/specs/Judge.antt) of what the
+-- reader is called with (`Call`, crates/prelude/specs/Call.antt); for decoding, AAD and writing a refusal (`decodeRefusal`,
+-- `aadRefusal`, `writeRefusal`), what is written (`decoded`, `aadText`, `compactText`), and of both the octets written and the
+-- output afterwards (crates/prelude/specs/Outputs.antt); for the header walk `opened`, `handedBy` and `moved`
+-- (crates/walk/specs/Walk.antt). What a message has to meet stands in crates/meets/specs/Meets.antt, over the trees of crate
+-- grammar and the encoding of crate base64url.
 use mathlib.Core.Path.{_≡_}
 use mathlib.Core.Logic.{_↔_}
 use mathlib.Core.List.{List, map}

@@ -12,6 +12,7 @@ use Rattle.rows.specs.Rows.{Entry, present}
 use Rattle.rows.specs.Tables.{listed}
 use Rattle.prelude.specs.Refusals.{Test, _if_, first}
 use Rattle.prelude.specs.Outputs.{outputAfter}
+pub use Rattle.prelude.specs.Call.{Call, call, callFor}
 use Rattle.jose.specs.HeaderRules.{modeIn}
 use Rattle.prelude.specs.Limits.{longest, headerRoom, listRoom}
 use Rattle.headers.specs.Components.{Components}
@@ -21,29 +22,7 @@ use Rattle.shape.specs.Recipients.{topEntries, recipientsIn, componentsIn}
 use Rattle.jwe.specs.Compact.{compactComponents, compactOrder}
 use Rattle.jwe.specs.General.{parameters, jsonOrder}
 
--- What the reader is called with: the message, the list of known names, the recipient's number, and how much was lent for the
--- header and for the list.
-pub record Call : Type 0 where
-  pub message : List ℕ
-  pub known : List ℕ
-  pub recipient : ℕ
-  pub headerLent : ℕ
-  pub listLent : ℕ
-
-abbrev pub call : List ℕ → List ℕ → ℕ → ℕ → ℕ → Call
-call message known recipient headerLent listLent = record {
-  message = message;
-  known = known;
-  recipient = recipient;
-  headerLent = headerLent;
-  listLent = listLent;
-}
-
--- The same call for another recipient.
-abbrev pub callFor : ℕ → Call → Call
-callFor n c = call (c .message) (c .known) n (c .headerLent) (c .listLent)
-
--- All refusals in order.
+-- All refusals in order, of what the reader is called with.
 unfoldable pub order : Call → List Test
 order c =
     1 if (ltb (c .headerLent) headerRoom || ltb (c .listLent) listRoom)

@@ -1,6 +1,6 @@
 -- What is handed out means (document 01, 'What the reader hands out'; demand 3), by what the message meets: each number of
 -- the result, the header and each row of the list, over the forms, components and members of crate meets, the grammar's
--- trees and places, and the encoding. Nothing of the reader is named but `Call`, `result`, `headerAfter` and `listAfter`.
+-- trees and places, and the encoding. Nothing of the reader is named but `result`, `headerAfter` and `listAfter`.
 use mathlib.Core.Path.{_≡_}
 use mathlib.Core.Logic.{_↔_, _⊎_, inl, inr}
 use mathlib.Core.List.{List, [], _∷_, _++_}
@@ -9,6 +9,7 @@ use lib.ListN.{length, getD}
 use Rattle.prelude.specs.Ascii.{ascii}
 use Rattle.prelude.specs.Limits.{levels}
 use Rattle.prelude.specs.Buffer.{written}
+use Rattle.prelude.specs.Call.{Call}
 use Rattle.base64url.specs.Base64url.{encoded}
 use Rattle.grammar.specs.Grammar.{octets, leavesChars, leavesValue, Text, leaves}
 use Rattle.grammar.specs.Places.{kind, leading, trailing, Place, Placed, Parts, placedText, partsOf, emptiedText}
@@ -20,7 +21,7 @@ use Rattle.algorithms.specs.Algorithms.{algName, mode}
 use Rattle.algorithms.specs.declared.Alg.{Alg}
 use Rattle.headers.specs.Components.{absent, Components}
 use Rattle.headers.specs.Components as components
-use Rattle.jwe.specs.Judge.{Call, placesIn, result, headerAfter, listAfter}
+use Rattle.jwe.specs.Judge.{placesIn, result, headerAfter, listAfter}
 use Rattle.jwe_write.specs.Write.{Raw}
 use Rattle.round_trips.specs.Trips.{writtenPlaces}
 use Rattle.meets.specs.Members.{Member, Some, OneForOne}

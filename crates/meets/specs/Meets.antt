@@ -1,5 +1,5 @@
 -- What a message has to meet (demand 2): the rules of RFC 7516 as document 01 fixes them, over the grammar's trees and leaves
--- and the encoding. Nothing is searched, and nothing of the reader is named but `Call`, what it is called with.
+-- and the encoding. Nothing is searched.
 use mathlib.Core.Path.{_≡_}
 use mathlib.Core.Logic.{_⊎_}
 use mathlib.Core.List.{List, [], _∷_, _++_, map}
@@ -8,6 +8,7 @@ use lib.ListN.{length}
 use Rattle.prelude.specs.Ascii.{ascii, fullStop}
 use Rattle.prelude.specs.Limits.{longest, headerRoom, listRoom, levels, mostMembers, mostRecipients}
 use Rattle.prelude.specs.Buffer.{AllBelow}
+use Rattle.prelude.specs.Call.{Call}
 use Rattle.base64url.specs.Base64url.{encoded}
 use Rattle.names.specs.Names.{listOf, Limited}
 use Rattle.grammar.specs.Grammar.{Char, Str, leavesChars, Value, string}
@@ -15,7 +16,6 @@ use Rattle.grammar.specs.Grammar as grammar
 use Rattle.grammar.specs.Places.{kind}
 use Rattle.grammar.specs.Bounds.{Every}
 use Rattle.grammar.specs.Readings.{Reading}
-use Rattle.jwe.specs.Judge.{Call}
 use Rattle.meets.specs.Members.{Member, membersOf, elementsOf, namesOf, IsString, Distinct, Named, Absent}
 use Rattle.meets.specs.Rules.{EveryNamed, Present, Rules}
 

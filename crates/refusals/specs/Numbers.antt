@@ -1,17 +1,17 @@
 -- What each number of refusal says (document 01, 'Numbers of refusal, in order'), over the grammar's trees, the encoding, lists
--- and ≡, with the sentences of crate meets. Nothing of the reader is named but `Call`, what it is called with.
+-- and ≡, with the sentences of crate meets. Nothing of the reader is named.
 use mathlib.Core.Path.{_≡_}
 use mathlib.Core.List.{List, [], _∷_, _++_}
 use Prim.Native.Nat.{ℕ, _≤_, _<_}
 use lib.ListN.{length}
 use Rattle.prelude.specs.Ascii.{ascii, fullStop}
 use Rattle.prelude.specs.Limits.{longest, headerRoom, listRoom, levels, mostMembers, mostRecipients}
+use Rattle.prelude.specs.Call.{Call}
 use Rattle.base64url.specs.Base64url.{encoded}
 use Rattle.grammar.specs.Bounds.{Every}
 use Rattle.grammar.specs.Readings.{Reading}
 use Rattle.algorithms.specs.Algorithms.{algName, mode, algNames, encNames, zipNames}
 use Rattle.algorithms.specs.declared.Alg.{Alg}
-use Rattle.jwe.specs.Judge.{Call}
 use Rattle.meets.specs.Members.{Member, membersOf, namesOf, Distinct}
 use Rattle.meets.specs.Rules.{Headers, parameters, EveryNamed, NamesApart, Present, stringNames, objectNames, arrayNames}
 use Rattle.meets.specs.Rules.{OfKind, ValueAmong, Critical, KeyFits}
