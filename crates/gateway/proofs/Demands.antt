@@ -2,11 +2,12 @@
 --
 -- Demand 1's first half, that any octets, lent lengths and recipient number get an answer, is the contracts themselves: no function of
 -- crates/gateway/src/lib.rt has a condition, and each is proved to answer and leave what its definitions say, for every input.
--- Those definitions are, for reading, `refusal`, `result`, `headerAfter` and `listAfter` (crates/jwe/specs/Judge.antt); for
--- decoding, AAD and writing a refusal (`decodeRefusal`, `aadRefusal`, `writeRefusal`), what is written (`decoded`, `aadText`,
--- `compactText`), and of both the octets written and the output afterwards (crates/prelude/specs/Outputs.antt); for the header
--- walk `opened`, `handedBy` and `moved` (crates/walk/specs/Walk.antt). What a message has to meet stands in
--- crates/meets/specs/Meets.antt, over the trees of crate grammar and the encoding of crate base64url.
+-- Those definitions are, for reading, `refusal`, `result`, `headerAfter` and `listAfter` (crates/jwe/specs/Judge.antt) of what the
+-- reader is called with (`Call`, crates/prelude/specs/Call.antt); for decoding, AAD and writing a refusal (`decodeRefusal`,
+-- `aadRefusal`, `writeRefusal`), what is written (`decoded`, `aadText`, `compactText`), and of both the octets written and the
+-- output afterwards (crates/prelude/specs/Outputs.antt); for the header walk `opened`, `handedBy` and `moved`
+-- (crates/walk/specs/Walk.antt). What a message has to meet stands in crates/meets/specs/Meets.antt, over the trees of crate
+-- grammar and the encoding of crate base64url.
 use mathlib.Core.Path.{_≡_}
 use mathlib.Core.Logic.{_↔_}
 use mathlib.Core.List.{List, map}
@@ -22,7 +23,7 @@ use Rattle.grammar.specs.Readings.{Reading}
 use Rattle.walk.specs.Walk.{walkRefusal, opened, handedBy, after, rowsOf, rowOr}
 use Rattle.walk.specs.declared.Handed.the-variants.{End}
 use Rattle.walk.proofs.Theorems as Walk
-use Rattle.jwe.specs.Judge.{refusal, refused, placesIn, result, headerAfter, listAfter}
+use Rattle.jwe.specs.Judge.{Call, call, callFor, refusal, refused, placesIn, result, headerAfter, listAfter}
 use Rattle.aad.specs.Aad.{aadText, aadRefusal, aadBuffer}
 use Rattle.jwe_write.specs.Write.{Raw, compactText, writeRefusal}
 use Rattle.jwe_write.specs.Answers.{writeBuffer}
@@ -47,17 +48,12 @@ use Rattle.gateway.proofs.Samples as Samples
 
 -- Demand 1. A refusal has a number from document 01's table; its result is that number with zeros, and both lent buffers are
 -- unchanged.
-pub refusal-changes-nothing : (message known : List ℕ) (recipient : ℕ) (buffer list : List ℕ) →
-    let n = refusal message known recipient (length buffer) (length list) in
+pub refusal-changes-nothing : (c : Call) (buffer list : List ℕ) →
+    let n = refusal c in
     (n ≡ 0 → ⊥) →
-    OneOf n readNumbers
-    × ((result message known recipient (length buffer) (length list) ≡ refused n)
-    × (headerAfter message known recipient buffer list ≡ buffer)
-    × (listAfter message known recipient buffer list ≡ list))
-refusal-changes-nothing message known recipient buffer list n = (
-  Refusing.read-listed message known recipient (length buffer) (length list) n,
-  Refused.refusal-changes-nothing message known recipient buffer list n,
-)
+    OneOf n readNumbers × ((result c ≡ refused n) × (headerAfter c buffer ≡ buffer) × (listAfter c list ≡ list))
+refusal-changes-nothing c buffer list n =
+    (Refusing.read-listed c n, Refused.refusal-changes-nothing c n buffer list)
 
 -- So have decoding, AAD and writing, with no octets and the output unchanged.
 
@@ -78,15 +74,12 @@ writing-changes-nothing = Refusing.writing-changes-nothing
 
 -- Demand 2, acceptance. A message is accepted exactly when what is lent is enough and it meets the rules and has the
 -- recipient.
-pub accepted-exactly : (message known : List ℕ) (recipient headerLent listLent : ℕ) →
-    (refusal message known recipient headerLent listLent ≡ 0) ↔ Meets message known recipient headerLent listLent
+pub accepted-exactly : (c : Call) → (refusal c ≡ 0) ↔ Meets c
 accepted-exactly = Accepted.accepted-exactly
 
 -- Demand 2, refusal. A number is given exactly where its rule is the first in document 01's order that is broken: its sentence
 -- does not hold, and those before it do (crates/refusals/specs/Numbers.antt). 0: none is broken.
-pub refused-exactly : (message known : List ℕ) (recipient headerLent listLent k : ℕ) →
-    (refusal message known recipient headerLent listLent ≡ k)
-    ↔ Refuses (numbersTable message known recipient headerLent listLent) k
+pub refused-exactly : (c : Call) (k : ℕ) → (refusal c ≡ k) ↔ Refuses (numbersTable c) k
 refused-exactly = Numbers.refused-exactly
 
 -- So are the numbers of opening a header walk, decoding, AAD and writing (crates/refusals/specs/Further.antt).
@@ -106,25 +99,25 @@ pub write-refused-exactly : (c : Raw) (known : List ℕ) (room k : ℕ) →
     (writeRefusal c known room ≡ k) ↔ Refuses (writeTable c known room) k
 write-refused-exactly = Further.write-refused-exactly
 
--- Demand 2, round trips (crates/round_trips/specs/Trips.antt). What the compact writer leaves of octets, read with the same list
--- and the room that is asked for, reads back to what was given.
+-- Demand 2, round trips (crates/round_trips/specs/Trips.antt). What the compact writer leaves of octets, read for recipient 0 with
+-- the same list and the room that is asked for, reads back to what was given.
 pub written-reads-back : (c : Raw) (known out buffer list : List ℕ) → RawOctets c →
     writeRefusal c known (length out) ≡ 0 → headerRoom ≤ length buffer → listRoom ≤ length list →
-    ReadsBack c known (wrote c known out) buffer list
+    ReadsBack c (call (wrote c known out) known 0 (length buffer) (length list)) buffer list
 written-reads-back = RoundTrips.written-reads-back
 
 -- An accepted compact message, taken apart at the places of its result and written again with the same list and room for it,
 -- gives the same octets.
-pub read-writes-back : (message known : List ℕ) (recipient headerLent listLent : ℕ) →
-    let r = result message known recipient headerLent listLent in
-    getD r 0 0 ≡ 0 → getD r 1 0 ≡ 0 → (out : List ℕ) → length message ≤ length out →
-    WritesBack message known out (placesIn r)
+pub read-writes-back : (c : Call) →
+    let r = result c in
+    getD r 0 0 ≡ 0 → getD r 1 0 ≡ 0 → (out : List ℕ) → length (c .message) ≤ length out →
+    WritesBack (c .message) (c .known) out (placesIn r)
 read-writes-back = RoundTrips.read-writes-back
 
 -- The writer refuses nothing exactly when what it would write meets demand 2 and fits.
 pub writes-exactly : (c : Raw) (known : List ℕ) (room : ℕ) → RawOctets c →
     (writeRefusal c known room ≡ 0)
-    ↔ (Meets (compactText c) known 0 headerRoom listRoom × (length (compactText c) ≤ room))
+    ↔ (Meets (call (compactText c) known 0 headerRoom listRoom) × (length (compactText c) ≤ room))
 writes-exactly = RoundTrips.writes-exactly
 
 -- Demand 3 (crates/means/specs/Means.antt). For each message that demand 2 accepts with what is lent, and each recipient
@@ -132,21 +125,17 @@ writes-exactly = RoundTrips.writes-exactly
 -- what the lent memory begins with, its rest unchanged, and their lengths stand in the result; they are the header's octets
 -- and, one for one, the parameters of what the message meets; and the message, if it is JSON, and the header, if there is one,
 -- each have exactly one reading.
-pub handed-out : (message known buffer list : List ℕ) (recipient : ℕ)
-    (m : Meets message known recipient (length buffer) (length list)) (n : ℕ) → n < count (m .form) →
-    HandsOut known buffer list (m .form) n
+pub handed-out : (c : Call) (m : Meets c) (n : ℕ) → n < count (m .form) → (buffer list : List ℕ) →
+    HandsOut (callFor n c) buffer list (m .form)
 handed-out = HandsOut.hands-out
 
 -- The numbers of the result mean what the message meets, and no other numbers do.
 
-pub result-means : (message known : List ℕ) (recipient headerLent listLent : ℕ)
-    (m : Meets message known recipient headerLent listLent) (n : ℕ) → n < count (m .form) →
-    ResultMeans (m .form) n (result message known n headerLent listLent)
+pub result-means : (c : Call) (m : Meets c) (n : ℕ) → n < count (m .form) → ResultMeans (m .form) n (result (callFor n c))
 result-means = ResultMeans.result-means
 
-pub result-once : (message known : List ℕ) (recipient headerLent listLent : ℕ)
-    (m : Meets message known recipient headerLent listLent) (n : ℕ) → n < count (m .form) →
-    (r : List ℕ) → ResultMeans (m .form) n r → r ≡ result message known n headerLent listLent
+pub result-once : (c : Call) (m : Meets c) (n : ℕ) → n < count (m .form) → (r : List ℕ) → ResultMeans (m .form) n r →
+    r ≡ result (callFor n c)
 result-once = ResultOnce.result-once
 
 -- The header walk. Call k on a text that is not refused hands out the k-th member of its reading by the grammar, every member

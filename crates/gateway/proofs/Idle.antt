@@ -36,7 +36,8 @@ use Rattle.shape.specs.Recipients.{recipientsIn, componentsIn}
 use Rattle.jwe.specs.Compact.{stops, fourStops, compactComponents, compactOrder}
 use Rattle.jwe.specs.General.{sharedEntries, ownEntries, parameters, allPlaces, anyMisspelled, protectedOrder}
 use Rattle.jwe.specs.General.{headersOrder, recipientsOrder, jsonOrder}
-use Rattle.jwe.specs.Judge.{order, refusal, compactOutcome, asked, jsonOutcome, outcome, accepted, refused, result, listAfter}
+use Rattle.jwe.specs.Judge.{Call, call, callFor, order, refusal, compactOutcome, asked, jsonOutcome, outcome, accepted}
+use Rattle.jwe.specs.Judge.{refused, result, listAfter}
 use Rattle.meets.specs.Meets.{Meets}
 use Rattle.meets.proofs.Accepted.{accepted-exactly}
 use Rattle.refusals.specs.Table.{Refuses}
@@ -62,17 +63,21 @@ broken = ascii "eyJlbmMiOjF9...."
 abbrev none : List ℕ
 none = 0 ∷ []
 
+-- A message read for a recipient, with just enough room.
+abbrev ask : List ℕ → ℕ → Call
+ask message n = call message none n 4096 576
+
 abbrev answered : List ℕ → ℕ → ℕ → ℕ
-answered message n i = getD (result message none n 4096 576) i 0
+answered message n i = getD (result (ask message n)) i 0
 
 abbrev list : ℕ → List ℕ
-list n = listAfter two none n (replicate 4096 0) (replicate 576 0)
+list n = listAfter (ask two n) (replicate 576 0)
 
 record Computed : Type 0 where
-  one : refusal M none 0 4096 576 ≡ 0
-  other : refusal three none 0 4096 576 ≡ 0
-  first : refusal two none 0 4096 576 ≡ 0
-  second : refusal two none 1 4096 576 ≡ 0
+  one : refusal (ask M 0) ≡ 0
+  other : refusal (ask three 0) ≡ 0
+  first : refusal (ask two 0) ≡ 0
+  second : refusal (ask two 1) ≡ 0
   forms : (answered M 0 1 ≡ 0) × (answered three 0 1 ≡ 1)
   counts : (answered M 0 2 ≡ 1) × (answered two 0 2 ≡ 2)
   modes : (answered two 0 3 ≡ 5) × (answered two 1 3 ≡ 2) × (answered M 0 3 ≡ 5) × (answered three 0 3 ≡ 2)
@@ -80,7 +85,7 @@ record Computed : Type 0 where
   parameters : (answered M 0 17 ≡ 2) × (answered three 0 17 ≡ 3)
   lists : (getD (list 0) 7 0 ≡ 59) × (getD (list 1) 7 0 ≡ 84)
   numbers : (answered M 0 0 ≡ 0) × (answered broken 0 0 ≡ 13)
-  exchanged : refusal broken none 0 4096 576 ≡ 13
+  exchanged : refusal (ask broken 0) ≡ 13
 
 computed : Computed
 unfolding ascii alphabet character placeIn sixBits sextets octets encoded decoded firstOutside spareBits fault names sound limited filled total cut numberIn part seek seekIn holds utf8 utf8After follow encode undo undoFrom adds next equal has alike fingerprint passOver skip turn scanString stringAt digitsAt intAt perhapsAt fractionAt exponentAt numberAt wordAt beforeAt entryAt entriesAt rowsAt nestedAt rowsIn valueWith valueAt membersAt elementsOf elementsAt readText opensObject any anyPair entriesIn present valueOf repeated listed registered kindAsked algs algName encs encName algNames encNames zipNames nth first incomplete wrongCrit modeIn recipientOrder misspelled headerText unread textOrder outermost protectedEntries membersOf headerEntries objectOrder memberNames memberEntries wrongMember wrongTop wrongElements wrongElement topEntries topOrder elementsIn elementEntries elementOrder elementsOrder recipientsIn componentsIn stops fourStops compactComponents compactOrder sharedEntries ownEntries parameters allPlaces anyMisspelled protectedOrder headersOrder recipientsOrder jsonOrder order refusal compactOutcome asked jsonOutcome outcome accepted refused result written listAfter flatMap xor
@@ -99,38 +104,34 @@ computed = record {
   exchanged = refl;
 }
 
-meets : (message : List ℕ) (n : ℕ) → refusal message none n 4096 576 ≡ 0 → Meets message none n 4096 576
-meets message n = accepted-exactly message none n 4096 576 .0
+meets : (c : Call) → refusal c ≡ 0 → Meets c
+meets c = accepted-exactly c .0
 
 apart : (m n : ℕ) (k l : ℕ) → m ≡ k → n ≡ l → (k ≡ l → ⊥) → m ≡ n → ⊥
 apart m n k l p q d e = d (sym p ∙ e ∙ q)
 
 -- Always refusing.
-pub not-always-refusing : ((message known : List ℕ) (recipient headerLent listLent : ℕ) →
-    refusal message known recipient headerLent listLent ≡ 0 → ⊥) → ⊥
-not-always-refusing refuses = refuses M none 0 4096 576 (computed .one)
+pub not-always-refusing : ((c : Call) → refusal c ≡ 0 → ⊥) → ⊥
+not-always-refusing refuses = refuses (ask M 0) (computed .one)
 
 -- One constant answer.
-pub not-constant : (r : List ℕ) → ((message known : List ℕ) (recipient headerLent listLent : ℕ) →
-    result message known recipient headerLent listLent ≡ r) → ⊥
+pub not-constant : (r : List ℕ) → ((c : Call) → result c ≡ r) → ⊥
 not-constant r same =
     let c = computed in
     apart (answered M 0 0) (answered broken 0 0) 0 13 (c .numbers .0) (c .numbers .1) (λ z. omega arith)
-    (ap (λ (x : List ℕ). getD x 0 0) (same M none 0 4096 576 ∙ sym (same broken none 0 4096 576)))
+    (ap (λ (x : List ℕ). getD x 0 0) (same (ask M 0) ∙ sym (same (ask broken 0))))
 
 -- 13 for 14 and 14 for 13: the sentences of document 01 with these two exchanged are not what the reader gives.
 
 abbrev exchanged : ℕ → ℕ
 exchanged n = cond (eqb n 13) 14 (cond (eqb n 14) 13 n)
 
-pub not-exchanged : ((message known : List ℕ) (recipient headerLent listLent : ℕ) →
-    Refuses (renumber exchanged (numbersTable message known recipient headerLent listLent))
-    (refusal message known recipient headerLent listLent)) → ⊥
+pub not-exchanged : ((c : Call) → Refuses (renumber exchanged (numbersTable c)) (refusal c)) → ⊥
 not-exchanged other =
     let gives = computed .exchanged in
     let z : _≡_ {A = ℕ} 13 14 =
-    numbers-fixed exchanged broken none 0 4096 576 13 (λ e. omega arith) gives
-    (subst (Refuses (renumber exchanged (numbersTable broken none 0 4096 576))) gives (other broken none 0 4096 576)) in
+    numbers-fixed exchanged (ask broken 0) 13 (λ e. omega arith) gives
+    (subst (Refuses (renumber exchanged (numbersTable (ask broken 0)))) gives (other (ask broken 0))) in
     omega arith
 
 -- On accepted messages alone
@@ -144,34 +145,30 @@ unlisted x p e =
     omega arith
 
 -- No list.
-pub not-listless : ((message known buffer list : List ℕ) (n : ℕ) →
-    Meets message known n (length buffer) (length list) → listAfter message known n buffer list ≡ list) → ⊥
+pub not-listless : ((c : Call) (list : List ℕ) → c .listLent ≡ length list → Meets c → listAfter c list ≡ list) → ⊥
 not-listless same =
     let c = computed in
-    unlisted (list 1) (c .lists .1) (same two none (replicate 4096 0) (replicate 576 0) 1 (meets two 1 (c .second)))
+    unlisted (list 1) (c .lists .1) (same (ask two 1) (replicate 576 0) refl (meets (ask two 1) (c .second)))
 
 -- One list for every recipient.
-pub not-the-same-for-all : ((message known buffer list : List ℕ) (n : ℕ) →
-    Meets message known n (length buffer) (length list) →
-    listAfter message known n buffer list ≡ listAfter message known 0 buffer list) → ⊥
+pub not-the-same-for-all : ((c : Call) (list : List ℕ) → c .listLent ≡ length list → Meets c →
+    listAfter c list ≡ listAfter (callFor 0 c) list) → ⊥
 not-the-same-for-all same =
     let c = computed in
     lists-apart (list 1) (list 0) (c .lists .1) (c .lists .0)
-    (same two none (replicate 4096 0) (replicate 576 0) 1 (meets two 1 (c .second)))
+    (same (ask two 1) (replicate 576 0) refl (meets (ask two 1) (c .second)))
 
 -- One number of the result for every recipient: its mode (3), the length of its key (7).
 abbrev pub Shared : ℕ → Type 0
-Shared i =
-    (message known : List ℕ) (n headerLent listLent : ℕ) → Meets message known n headerLent listLent →
-    getD (result message known n headerLent listLent) i 0 ≡ getD (result message known 0 headerLent listLent) i 0
+Shared i = (c : Call) → Meets c → getD (result c) i 0 ≡ getD (result (callFor 0 c)) i 0
 
 pub not-shared : (Shared 3 → ⊥) × (Shared 7 → ⊥)
 not-shared =
     let c = computed in (
       (λ same. apart (answered two 1 3) (answered two 0 3) 2 5 (c .modes .1) (c .modes .0) (λ z. omega arith)
-          (same two none 1 4096 576 (meets two 1 (c .second)))),
+          (same (ask two 1) (meets (ask two 1) (c .second)))),
       (λ same. apart (answered two 1 7) (answered two 0 7) 2 0 (c .keys .1) (c .keys .0) (λ z. omega arith)
-          (same two none 1 4096 576 (meets two 1 (c .second)))),
+          (same (ask two 1) (meets (ask two 1) (c .second)))),
     )
 
 -- A number of the result that is made up of everything but the message: its form (1), the recipient count (2), the mode (3),
@@ -179,12 +176,11 @@ not-shared =
 abbrev pub MadeUp : ℕ → Type 0
 MadeUp i =
     (k : List ℕ → ℕ → ℕ → ℕ → ℕ)
-    × ((message known : List ℕ) (n headerLent listLent : ℕ) → Meets message known n headerLent listLent →
-    getD (result message known n headerLent listLent) i 0 ≡ k known n headerLent listLent)
+    × ((c : Call) → Meets c → getD (result c) i 0 ≡ k (c .known) (c .recipient) (c .headerLent) (c .listLent))
 
-made-up : (i : ℕ) (s t : List ℕ) → refusal s none 0 4096 576 ≡ 0 → refusal t none 0 4096 576 ≡ 0 →
+made-up : (i : ℕ) (s t : List ℕ) → refusal (ask s 0) ≡ 0 → refusal (ask t 0) ≡ 0 →
     (answered s 0 i ≡ answered t 0 i → ⊥) → MadeUp i → ⊥
-made-up i s t a b d (k, e) = d (e s none 0 4096 576 (meets s 0 a) ∙ sym (e t none 0 4096 576 (meets t 0 b)))
+made-up i s t a b d (k, e) = d (e (ask s 0) (meets (ask s 0) a) ∙ sym (e (ask t 0) (meets (ask t 0) b)))
 
 pub not-made-up : (MadeUp 1 → ⊥) × (MadeUp 2 → ⊥) × (MadeUp 3 → ⊥) × (MadeUp 17 → ⊥)
 not-made-up =

@@ -16,7 +16,7 @@ use Rattle.prelude.proofs.Outputs.{changes-nothing}
 use Rattle.base64url.specs.Base64url.{decoded}
 use Rattle.base64url.specs.Answers.{decodeOrder, decodeRefusal, decodeBuffer}
 use Rattle.headers.specs.Headers.{textOrder, objectOrder}
-use Rattle.jwe.specs.Judge.{refusal}
+use Rattle.jwe.specs.Judge.{Call, refusal}
 use Rattle.aad.specs.Aad.{aadText, aadOrder, aadRefusal, aadBuffer}
 use Rattle.jwe_write.specs.Write.{Raw, compactText, writeOrder, writeRefusal}
 use Rattle.jwe_write.specs.Answers.{writeBuffer}
@@ -46,12 +46,8 @@ numbered n some low =
     (subst (λ (b : Bool). T (b || among n readNumbers)) (ne-eqb n 0 some)
     (below (λ (k : ℕ). eqb k 0 || among k readNumbers) 20 tt n (omega arith)))
 
-pub read-listed : (message known : List ℕ) (recipient headerLent listLent : ℕ) →
-    (refusal message known recipient headerLent listLent ≡ 0 → ⊥) →
-    OneOf (refusal message known recipient headerLent listLent) readNumbers
-read-listed message known recipient headerLent listLent n =
-    numbered (refusal message known recipient headerLent listLent) n
-    (refusal-numbered message known recipient headerLent listLent n .1)
+pub read-listed : (c : Call) → (refusal c ≡ 0 → ⊥) → OneOf (refusal c) readNumbers
+read-listed c n = numbered (refusal c) n (refusal-numbered c n .1)
 
 -- Decoding, AAD and writing: the numbers of their orders
 

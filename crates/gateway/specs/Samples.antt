@@ -11,7 +11,7 @@ use Rattle.base64url.specs.Answers.{decodeRefusal, decodeBuffer}
 use Rattle.grammar.specs.Places.{Place}
 use Rattle.shown.specs.Shown.{componentShown}
 use Rattle.aad.specs.Aad.{aadText, aadRefusal, aadBuffer}
-use Rattle.jwe.specs.Judge.{refused, placesIn, result, listAfter}
+use Rattle.jwe.specs.Judge.{call, refused, placesIn, result, listAfter}
 
 pub data Question : Type 0 where
   -- How many characters octets make encoded.
@@ -34,14 +34,14 @@ zeros n = replicate n 0
 -- Read with no known names and just enough room: the result's eighteen numbers, then as much of the list as they say.
 unfoldable pub readAnswer : List ℕ → ℕ → List ℕ
 readAnswer message recipient =
-    let known : List ℕ = 0 ∷ [] in
-    let r = result message known recipient headerRoom listRoom in
-    r ++ take (6 * getD r 17 0) (listAfter message known recipient (zeros headerRoom) (zeros listRoom))
+    let c = call message (0 ∷ []) recipient headerRoom listRoom in
+    let r = result c in
+    r ++ take (6 * getD r 17 0) (listAfter c (zeros listRoom))
 
 -- The AAD of the encoded protected header and aad as reading for recipient 0 shows them, into 64 octets.
 unfoldable pub aadAnswer : List ℕ → List ℕ
 aadAnswer message =
-    let q = placesIn (result message (0 ∷ []) 0 headerRoom listRoom) in
+    let q = placesIn (result (call message (0 ∷ []) 0 headerRoom listRoom)) in
     let shown : Place → List ℕ = λ p. componentShown message (p .start) (p .size) in
     let header = shown (q .protected) in
     let aad = shown (q .aad) in

@@ -3,7 +3,7 @@
 ghost use mathlib.Core.Path.{_≡_};
 ghost use lib.ListN.{length};
 ghost use denote.Ref.{ptr};
-ghost use Rattle.jwe.specs.Judge.{result, headerAfter, listAfter};
+ghost use Rattle.jwe.specs.Judge.{call, result, headerAfter, listAfter};
 ghost use Rattle.jwe.specs.Answers.{numbers};
 ghost use Rattle.base64url.specs.Answers.{Decodes};
 ghost use Rattle.shown.specs.Shown.{componentShown, componentAt, valueShown, valueAt};
@@ -36,14 +36,14 @@ pub fn read(
     list: &mut [u32],
 ) -> Result
     ensures answered { λ r. ⌜ numbers r
-        ≡ result (now (message .entry)) (now (known .entry)) recipient
-        (length (now (header .entry))) (length (now (list .entry))) ⌝ }
+        ≡ result (call (now (message .entry)) (now (known .entry)) recipient
+        (length (now (header .entry))) (length (now (list .entry)))) ⌝ }
     ensures decoded { λ _. ⌜ now (header .exit)
-        ≡ headerAfter (now (message .entry)) (now (known .entry)) recipient
-        (now (header .entry)) (now (list .entry)) ⌝ }
+        ≡ headerAfter (call (now (message .entry)) (now (known .entry)) recipient
+        (length (now (header .entry))) (length (now (list .entry)))) (now (header .entry)) ⌝ }
     ensures listed { λ _. ⌜ now (list .exit)
-        ≡ listAfter (now (message .entry)) (now (known .entry)) recipient
-        (now (header .entry)) (now (list .entry)) ⌝ }
+        ≡ listAfter (call (now (message .entry)) (now (known .entry)) recipient
+        (length (now (header .entry))) (length (now (list .entry)))) (now (list .entry)) ⌝ }
 {
     jwe::read(message, known, recipient, header, list)
 }

@@ -18,9 +18,8 @@ use Rattle.parts.specs.Parts.{part}
 use Rattle.parts.proofs.Laws.{part-fits}
 use Rattle.grammar.specs.Bounds.{Every}
 use Rattle.grammar.specs.Places.{Place}
-use Rattle.prelude.specs.Limits.{headerRoom, listRoom}
 use Rattle.headers.specs.Components.{misspelled, octetsAt, absent, Components, places}
-use Rattle.jwe.specs.Judge.{refusal, refused, outcome, accepted, result}
+use Rattle.jwe.specs.Judge.{Call, refusal, refused, Outcome, outcome, accepted, result}
 use Rattle.jwe.specs.Answers.{numbers, componentsOf}
 use Rattle.jwe.specs.declared.Result.{Result}
 use Rattle.meets.proofs.ComponentsSpelled.{Sound, components-spelled}
@@ -68,54 +67,55 @@ same-components p q a b c d e f = λ i. record {
   tag = f i;
 }
 
-module _ (message known : List ℕ) (recipient n : ℕ) where
+module _ (c : Call) (n : ℕ) where
   abbrev number : ℕ
-  number = refusal message known recipient headerRoom listRoom
+  number = refusal c
+
+  abbrev handed : Outcome
+  handed = outcome (c .message) (c .recipient)
 
   abbrev place : Place
-  place = componentPlace (outcome message recipient .components) n
+  place = componentPlace (handed .components) n
 
   abbrev octets : List ℕ
-  octets = componentOctets message recipient n
+  octets = componentOctets (c .message) (c .recipient) n
 
   -- the promise, of an answer, the octets written and what the output holds then
   abbrev Answers : List ℕ → ℕ → ℕ → List ℕ → Type 0
   Answers out answer count last =
-      Writes (componentRefusal message known recipient n (length out)) octets out answer count last
+      Writes (componentRefusal c n (length out)) octets out answer count last
 
   pub refused-so : (out : List ℕ) (answer : ℕ) → answer ≡ number → (answer ≡ 0 → ⊥) → Answers out answer 0 out
   unfolding componentRefusal
   refused-so out answer e z =
-      writes-refused (componentRefusal message known recipient n (length out)) octets out answer
+      writes-refused (componentRefusal c n (length out)) octets out answer
       (e ∙ ap (λ (b : Bool). cond b (cond (ltb (length out) (length octets)) 1 0) number)
       (sym (ne-eqb number 0 (λ q. z (e ∙ q)))))
       z
 
-  component-sound : number ≡ 0 → Sound message place
+  component-sound : number ≡ 0 → Sound (c .message) place
   unfolding componentPlace
   component-sound z =
-      place-every (Sound message) (absent-sound message) (places (outcome message recipient .components))
-      (components-spelled message known recipient headerRoom listRoom z) n
+      place-every (Sound (c .message)) (absent-sound (c .message)) (places (handed .components)) (components-spelled c z) n
 
   -- accepted: what decoding the component's text answers
-  pub decoded-so : number ≡ 0 → (out text : List ℕ) (answer count : ℕ) (last : List ℕ) → text ≡ octetsAt message place →
+  pub decoded-so : number ≡ 0 → (out text : List ℕ) (answer count : ℕ) (last : List ℕ) → text ≡ octetsAt (c .message) place →
       Writes (decodeRefusal text (length out)) (decoded text) out answer count last → Answers out answer count last
   unfolding componentRefusal componentOctets misspelled
   decoded-so z out text answer count last t w =
       subst₂ (λ (k : ℕ) (xs : List ℕ). Writes k xs out answer count last)
       (ap (λ (l : List ℕ). decodeRefusal l (length out)) t
-      ∙ refusal-is (octetsAt message place) (length out) (component-sound z)
+      ∙ refusal-is (octetsAt (c .message) place) (length out) (component-sound z)
       ∙ ap (λ (b : Bool). cond b (cond (ltb (length out) (length octets)) 1 0) number) (sym (eq-eqb number 0 z)))
       (ap decoded t) w
 
   -- the components that the reader's result has
-  pub components-are : (r : Result) → numbers r ≡ result message known recipient headerRoom listRoom → number ≡ 0 →
-      componentsOf (r .components) ≡ outcome message recipient .components
+  pub components-are : (r : Result) → numbers r ≡ result c → number ≡ 0 →
+      componentsOf (r .components) ≡ outcome (c .message) (c .recipient) .components
   unfolding accepted result
   components-are r e z =
-      let x = outcome message recipient in
-      let is : numbers r ≡ accepted message x =
-      e ∙ ap (λ (b : Bool). cond b (accepted message x) (refused number)) (eq-eqb number 0 z) in
-      let nth : (k : ℕ) → getD (numbers r) k 0 ≡ getD (accepted message x) k 0 = λ k. ap (λ (l : List ℕ). getD l k 0) is in
+      let x = accepted (c .message) handed in
+      let is : numbers r ≡ x = e ∙ ap (λ (b : Bool). cond b x (refused number)) (eq-eqb number 0 z) in
+      let nth : (k : ℕ) → getD (numbers r) k 0 ≡ getD x k 0 = λ k. ap (λ (l : List ℕ). getD l k 0) is in
       same-components _ _ (same-place (nth 4) (nth 5)) (same-place (nth 6) (nth 7)) (same-place (nth 8) (nth 9))
       (same-place (nth 10) (nth 11)) (same-place (nth 12) (nth 13)) (same-place (nth 14) (nth 15))

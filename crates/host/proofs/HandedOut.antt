@@ -9,42 +9,40 @@ use lib.Dec.{eqb}
 use borrow.Author.Tests.{lt-ltb, le-ltb, eq-eqb, ne-eqb, eqb-true}
 use Rattle.prelude.specs.Buffer.{AllBelow, written}
 use Rattle.grammar.proofs.Endings.{either}
-use Rattle.jwe.specs.Judge.{refusal, accepted, refused, result, headerAfter, listAfter}
+use Rattle.jwe.specs.Judge.{Call, refusal, accepted, refused, result, headerAfter, listAfter}
 use Rattle.jwe.specs.Answers.{numbers}
 use Rattle.jwe.specs.declared.Result.{Result}
 use Rattle.jwe.proofs.Small.{limit, result-small}
 use Rattle.host.specs.Read.{resultRoom, readRefusal, readHeader, readList, readResult}
 
 -- The result begins with the refusal's number.
-pub number-first : (message known : List ℕ) (recipient headerLent listLent : ℕ) (r : Result) →
-    numbers r ≡ result message known recipient headerLent listLent →
-    r .number ≡ refusal message known recipient headerLent listLent
+pub number-first : (c : Call) (r : Result) → numbers r ≡ result c → r .number ≡ refusal c
 unfolding result accepted refused
-number-first message known recipient headerLent listLent r e =
-    let n = refusal message known recipient headerLent listLent in
+number-first c r e =
+    let n = refusal c in
     ap (λ (l : List ℕ). getD l 0 0) e
     ∙ either (λ (l : List ℕ). getD l 0 0 ≡ n) (eqb n 0) (λ t. sym (eqb-true n 0 t)) (λ _. refl)
 
-module _ (message known : List ℕ) (recipient : ℕ) (header list buffer : List ℕ) where
+module _ (c : Call) (header list buffer : List ℕ) where
   abbrev first : ℕ
-  first = refusal message known recipient (length header) (length list)
+  first = refusal c
 
   abbrev told : List ℕ
-  told = result message known recipient (length header) (length list)
+  told = result c
 
   abbrev after : List ℕ
-  after = headerAfter message known recipient header list
+  after = headerAfter c header
 
   abbrev listed : List ℕ
-  listed = listAfter message known recipient header list
+  listed = listAfter c list
 
   -- the four promises, of an answer and of what the lent memory holds then
   abbrev pub Reads : ℕ → List ℕ → List ℕ → List ℕ → Type 0
   Reads n h l b =
-      (n ≡ readRefusal message known recipient (length header) (length list) (length buffer))
-      × ((h ≡ readHeader message known recipient header list (length buffer))
-      × ((l ≡ readList message known recipient header list (length buffer))
-      × (b ≡ readResult message known recipient (length header) (length list) buffer)))
+      (n ≡ readRefusal c (length buffer))
+      × ((h ≡ readHeader c (length buffer) header)
+      × ((l ≡ readList c (length buffer) list)
+      × (b ≡ readResult c buffer)))
 
   pub too-little : length buffer < resultRoom → Reads 1 header list buffer
   unfolding readRefusal readHeader readList readResult
@@ -62,11 +60,10 @@ module _ (message known : List ℕ) (recipient : ℕ) (header list buffer : List
 
   module _ (r : Result) (e : numbers r ≡ told) where
     abbrev numbered : r .number ≡ first
-    numbered = number-first message known recipient (length header) (length list) r e
+    numbered = number-first c r e
 
     pub numbers-small : AllBelow limit (numbers r)
-    numbers-small =
-        subst (AllBelow limit) (sym e) (result-small message known recipient (length header) (length list))
+    numbers-small = subst (AllBelow limit) (sym e) (result-small c)
 
     module _ (h : resultRoom ≤ length buffer) (header' list' : List ℕ) (f : header' ≡ after) (g : list' ≡ listed) where
       -- enough is lent: what the reader answers and leaves

@@ -6,9 +6,8 @@ use lib.ListN.{length}
 use lib.Dec.{eqb, ltb}
 use Rattle.base64url.specs.Base64url.{decoded}
 use Rattle.grammar.specs.Places.{Place}
-use Rattle.prelude.specs.Limits.{headerRoom, listRoom}
 use Rattle.headers.specs.Components.{octetsAt, absent, Components, places}
-use Rattle.jwe.specs.Judge.{refusal, outcome}
+use Rattle.jwe.specs.Judge.{Call, refusal, outcome}
 
 -- The n-th of some places, counted from 0; where there is none, that of an absent component.
 unfoldable pub placeAt : List Place → ℕ → Place
@@ -26,7 +25,7 @@ componentOctets message recipient n =
     decoded (octetsAt message (componentPlace (outcome message recipient .components) n))
 
 -- The reader's refusal; then 1 where the output is shorter than the octets. (5 is the reader's.)
-unfoldable pub componentRefusal : List ℕ → List ℕ → ℕ → ℕ → ℕ → ℕ
-componentRefusal message known recipient n room =
-    let refused = refusal message known recipient headerRoom listRoom in
-    cond (eqb refused 0) (cond (ltb room (length (componentOctets message recipient n))) 1 0) refused
+unfoldable pub componentRefusal : Call → ℕ → ℕ → ℕ
+componentRefusal c n room =
+    let refused = refusal c in
+    cond (eqb refused 0) (cond (ltb room (length (componentOctets (c .message) (c .recipient) n))) 1 0) refused

@@ -3,7 +3,7 @@ ghost use mathlib.Core.Path.{_≡_};
 ghost use lib.ListN.{length};
 ghost use Rattle.prelude.specs.Outputs.{Writes};
 ghost use Rattle.prelude.specs.Limits.{headerRoom, listRoom};
-ghost use Rattle.jwe.specs.Judge.{refusal};
+ghost use Rattle.jwe.specs.Judge.{call, refusal};
 ghost use Rattle.jwe.specs.Answers.{codePlace, componentsOf};
 ghost use Rattle.host.specs.Component.{componentPlace, componentOctets, componentRefusal};
 use crate::jwe_decode;
@@ -13,7 +13,7 @@ use prelude::Place;
 // Judges a message for a recipient. What reading it hands out stays in here.
 #[no_mangle]
 pub extern "C" fn jwe_judge(message: &[u8], known: &[u8], recipient: u32) -> u32
-    ensures { λ r. ⌜ r ≡ refusal (now (message .entry)) (now (known .entry)) recipient headerRoom listRoom ⌝ }
+    ensures { λ r. ⌜ r ≡ refusal (call (now (message .entry)) (now (known .entry)) recipient headerRoom listRoom) ⌝ }
 {
     let mut header = [0u8; 4096];
     let mut list = [0u32; 576];
@@ -58,7 +58,8 @@ pub extern "C" fn jwe_component(
     octets: &mut usize,
 ) -> u32
     ensures { λ r. ⌜ Writes
-        (componentRefusal (now (message .entry)) (now (known .entry)) recipient component (length (now (out .entry))))
+        (componentRefusal (call (now (message .entry)) (now (known .entry)) recipient headerRoom listRoom)
+        component (length (now (out .entry))))
         (componentOctets (now (message .entry)) recipient component)
         (now (out .entry)) r (now (octets .exit)) (now (out .exit)) ⌝ }
 {

@@ -4,6 +4,7 @@ ghost use mathlib.Core.List.{[]};
 ghost use Prim.Native.Nat.{_+_, _≤_, _<_};
 ghost use lib.ListN.{length};
 ghost use Rattle.prelude.specs.Buffer.{AllBelow, written};
+ghost use Rattle.jwe.specs.Judge.{call};
 ghost use Rattle.jwe.specs.Answers.{numbers, placeNumbers};
 ghost use Rattle.host.specs.Read.{resultRoom, readRefusal, readHeader, readList, readResult};
 use jwe::Result;
@@ -52,17 +53,17 @@ pub extern "C" fn jwe_read(
     result: &mut [u32],
 ) -> u32
     ensures answered { λ r. ⌜ r
-        ≡ readRefusal (now (message .entry)) (now (known .entry)) recipient
-        (length (now (header .entry))) (length (now (list .entry))) (length (now (result .entry))) ⌝ }
+        ≡ readRefusal (call (now (message .entry)) (now (known .entry)) recipient
+        (length (now (header .entry))) (length (now (list .entry)))) (length (now (result .entry))) ⌝ }
     ensures decoded { λ _. ⌜ now (header .exit)
-        ≡ readHeader (now (message .entry)) (now (known .entry)) recipient
-        (now (header .entry)) (now (list .entry)) (length (now (result .entry))) ⌝ }
+        ≡ readHeader (call (now (message .entry)) (now (known .entry)) recipient
+        (length (now (header .entry))) (length (now (list .entry)))) (length (now (result .entry))) (now (header .entry)) ⌝ }
     ensures listed { λ _. ⌜ now (list .exit)
-        ≡ readList (now (message .entry)) (now (known .entry)) recipient
-        (now (header .entry)) (now (list .entry)) (length (now (result .entry))) ⌝ }
+        ≡ readList (call (now (message .entry)) (now (known .entry)) recipient
+        (length (now (header .entry))) (length (now (list .entry)))) (length (now (result .entry))) (now (list .entry)) ⌝ }
     ensures numbered { λ _. ⌜ now (result .exit)
-        ≡ readResult (now (message .entry)) (now (known .entry)) recipient
-        (length (now (header .entry))) (length (now (list .entry))) (now (result .entry)) ⌝ }
+        ≡ readResult (call (now (message .entry)) (now (known .entry)) recipient
+        (length (now (header .entry))) (length (now (list .entry)))) (now (result .entry)) ⌝ }
 {
     if result.len() < 18 {
         return 1;

@@ -18,7 +18,7 @@ use Rattle.prelude.proofs.Refusals.{first-fails, first-passes}
 use Rattle.prelude.specs.Limits.{longest, headerRoom, listRoom}
 use Rattle.jwe.specs.Compact.{compactOrder}
 use Rattle.jwe.specs.General.{jsonOrder}
-use Rattle.jwe.specs.Judge.{Outcome, order, refusal, compactOutcome, jsonOutcome, outcome, accepted, refused}
+use Rattle.jwe.specs.Judge.{Call, Outcome, order, refusal, compactOutcome, jsonOutcome, outcome, accepted, refused}
 use Rattle.jwe.specs.Judge.{result, headerAfter, listAfter}
 use Rattle.jwe.specs.Answers.{numbers, Judges}
 use Rattle.jwe.specs.declared.Result.{Result}
@@ -56,79 +56,78 @@ module _ (message : List ℕ) (order : List Test) (x : Outcome) (r : Judged) (te
 
 -- 1 to 3
 
-module _ (message known : List ℕ) (recipient a b : ℕ) where
-  pub refusal-header : a < 4096 → refusal message known recipient a b ≡ 1
+module _ (c : Call) where
+  abbrev lent : Test
+  lent = 1 if (ltb (c .headerLent) headerRoom || ltb (c .listLent) listRoom)
+
+  abbrev long : Test
+  long = 2 if ltb longest (length (c .message))
+
+  pub refusal-header : c .headerLent < 4096 → refusal c ≡ 1
   unfolding refusal order
-  refusal-header h =
-      first-fails (1 if (ltb a headerRoom || ltb b listRoom)) _
-      (ap (λ (t : Bool). t || ltb b listRoom) (lt-ltb a 4096 h))
+  refusal-header h = first-fails lent _ (ap (λ (t : Bool). t || ltb (c .listLent) listRoom) (lt-ltb (c .headerLent) 4096 h))
 
-  pub refusal-list : 4096 ≤ a → b < 576 → refusal message known recipient a b ≡ 1
+  pub refusal-list : 4096 ≤ c .headerLent → c .listLent < 576 → refusal c ≡ 1
   unfolding refusal order
-  refusal-list h l =
-      first-fails (1 if (ltb a headerRoom || ltb b listRoom)) _ (ap₂ _||_ (le-ltb a 4096 h) (lt-ltb b 576 l))
+  refusal-list h l = first-fails lent _ (ap₂ _||_ (le-ltb (c .headerLent) 4096 h) (lt-ltb (c .listLent) 576 l))
 
-  module _ (h : 4096 ≤ a) (l : 576 ≤ b) where
-    room : (ltb a headerRoom || ltb b listRoom) ≡ false
-    room = ap₂ _||_ (le-ltb a 4096 h) (le-ltb b 576 l)
+  module _ (h : 4096 ≤ c .headerLent) (l : 576 ≤ c .listLent) where
+    room : (ltb (c .headerLent) headerRoom || ltb (c .listLent) listRoom) ≡ false
+    room = ap₂ _||_ (le-ltb (c .headerLent) 4096 h) (le-ltb (c .listLent) 576 l)
 
-    pub refusal-long : longest < length message → refusal message known recipient a b ≡ 2
+    pub refusal-long : longest < length (c .message) → refusal c ≡ 2
     unfolding refusal order
-    refusal-long m =
-        first-passes (1 if (ltb a headerRoom || ltb b listRoom)) _ room
-        ∙ first-fails (2 if ltb longest (length message)) _ (lt-ltb longest (length message) m)
+    refusal-long m = first-passes lent _ room ∙ first-fails long _ (lt-ltb longest (length (c .message)) m)
 
-    module _ (m : length message ≤ longest) where
-      pub refusal-names : sound known ≡ false → refusal message known recipient a b ≡ 3
+    module _ (m : length (c .message) ≤ longest) where
+      pub refusal-names : sound (c .known) ≡ false → refusal c ≡ 3
       unfolding refusal order
       refusal-names s =
-          first-passes (1 if (ltb a headerRoom || ltb b listRoom)) _ room
-          ∙ first-passes (2 if ltb longest (length message)) _ (le-ltb longest (length message) m)
-          ∙ first-fails (3 if not (sound known)) _ (ap not s)
+          first-passes lent _ room
+          ∙ first-passes long _ (le-ltb longest (length (c .message)) m)
+          ∙ first-fails (3 if not (sound (c .known))) _ (ap not s)
 
-      pub refusal-judged : sound known ≡ true →
-          refusal message known recipient a b ≡ first (judging message (names known) recipient)
+      pub refusal-judged : sound (c .known) ≡ true →
+          refusal c ≡ first (judging (c .message) (names (c .known)) (c .recipient))
       unfolding refusal order
       refusal-judged s =
-          first-passes (1 if (ltb a headerRoom || ltb b listRoom)) _ room
-          ∙ first-passes (2 if ltb longest (length message)) _ (le-ltb longest (length message) m)
-          ∙ first-passes (3 if not (sound known)) _ (ap not s)
+          first-passes lent _ room
+          ∙ first-passes long _ (le-ltb longest (length (c .message)) m)
+          ∙ first-passes (3 if not (sound (c .known))) _ (ap not s)
 
 -- What the outputs hold afterwards
 
-module _ (message known : List ℕ) (recipient : ℕ) (header list : List ℕ) where
-  pub answers-refused : (n : ℕ) → refusal message known recipient (length header) (length list) ≡ n → 0 < n →
-      (r : Result) → numbers r ≡ refused n →
-      (numbers r ≡ result message known recipient (length header) (length list))
-      × ((header ≡ headerAfter message known recipient header list)
-      × (list ≡ listAfter message known recipient header list))
+module _ (c : Call) (header list : List ℕ) where
+  -- the three promises, of an answer and of what the outputs hold then
+  abbrev pub Answers : Result → List ℕ → List ℕ → Type 0
+  Answers r header' list' = (numbers r ≡ result c) × ((header' ≡ headerAfter c header) × (list' ≡ listAfter c list))
+
+  abbrev handed : Outcome
+  handed = outcome (c .message) (c .recipient)
+
+  pub answers-refused : (n : ℕ) → refusal c ≡ n → 0 < n → (r : Result) → numbers r ≡ refused n → Answers r header list
   unfolding result headerAfter listAfter
   answers-refused n e h r f =
-      let k = refusal message known recipient (length header) (length list) in
+      let k = refusal c in
       let no = ne-eqb k 0 (λ z. omega (arith, z, e, h)) in (
-        f ∙ ap refused (sym e)
-            ∙ sym (ap (λ (t : Bool). cond t (accepted message (outcome message recipient)) (refused k)) no),
+        f ∙ ap refused (sym e) ∙ sym (ap (λ (t : Bool). cond t (accepted (c .message) handed) (refused k)) no),
         (
-          sym (ap (λ (t : Bool). cond t (written 0 (outcome message recipient .header) header) header) no),
-          sym (ap (λ (t : Bool). cond t (written 0 (listed (outcome message recipient .entries)) list) list) no),
+          sym (ap (λ (t : Bool). cond t (written 0 (handed .header) header) header) no),
+          sym (ap (λ (t : Bool). cond t (written 0 (listed (handed .entries)) list) list) no),
         ),
       )
 
-  pub answers-accepted : refusal message known recipient (length header) (length list) ≡ 0 → (r : Result) →
-      numbers r ≡ accepted message (outcome message recipient) → (header' list' : List ℕ) →
-      header' ≡ written 0 (outcome message recipient .header) header →
-      list' ≡ written 0 (listed (outcome message recipient .entries)) list →
-      (numbers r ≡ result message known recipient (length header) (length list))
-      × ((header' ≡ headerAfter message known recipient header list)
-      × (list' ≡ listAfter message known recipient header list))
+  pub answers-accepted : refusal c ≡ 0 → (r : Result) → numbers r ≡ accepted (c .message) handed →
+      (header' list' : List ℕ) → header' ≡ written 0 (handed .header) header →
+      list' ≡ written 0 (listed (handed .entries)) list → Answers r header' list'
   unfolding result headerAfter listAfter
   answers-accepted e r f header' list' g h =
-      let k = refusal message known recipient (length header) (length list) in
+      let k = refusal c in
       let yes = eq-eqb k 0 e in (
-        f ∙ sym (ap (λ (t : Bool). cond t (accepted message (outcome message recipient)) (refused k)) yes),
+        f ∙ sym (ap (λ (t : Bool). cond t (accepted (c .message) handed) (refused k)) yes),
         (
-          g ∙ sym (ap (λ (t : Bool). cond t (written 0 (outcome message recipient .header) header) header) yes),
-          h ∙ sym (ap (λ (t : Bool). cond t (written 0 (listed (outcome message recipient .entries)) list) list) yes),
+          g ∙ sym (ap (λ (t : Bool). cond t (written 0 (handed .header) header) header) yes),
+          h ∙ sym (ap (λ (t : Bool). cond t (written 0 (listed (handed .entries)) list) list) yes),
         ),
       )
 

@@ -17,7 +17,7 @@ use Rattle.prelude.specs.Refusals.{_if_, first}
 use Rattle.prelude.specs.Limits.{longest, headerRoom, listRoom}
 use Rattle.jwe.specs.Compact.{compactOrder}
 use Rattle.jwe.specs.General.{jsonOrder}
-use Rattle.jwe.specs.Judge.{order, refusal, outcome, accepted, refused, result}
+use Rattle.jwe.specs.Judge.{Call, order, refusal, outcome, accepted, refused, result}
 use Rattle.jwe.specs.Answers.{numbers}
 use Rattle.jwe.specs.declared.Result.{Result}
 use Rattle.jwe.proofs.SmallRefusals.{refusal-low}
@@ -42,31 +42,31 @@ refused-small n h =
       (z, (z, (z, (z, (z, (z, (z, (z, (z, (z, (z, (z, (z, (z, (z, (z, (z, tt))))))))))))))))),
     )
 
-module _ (message known : List ℕ) (recipient headerLent listLent : ℕ) where
-  pub accepted-short : refusal message known recipient headerLent listLent ≡ 0 → length message ≤ longest
+module _ (c : Call) where
+  pub accepted-short : refusal c ≡ 0 → length (c .message) ≤ longest
   unfolding refusal order first
   accepted-short e =
-      let lent = ltb headerLent headerRoom || ltb listLent listRoom in
+      let lent = ltb (c .headerLent) headerRoom || ltb (c .listLent) listRoom in
       let rest =
-      3 if not (sound known)
-      ∷ cond (opensObject message)
-      (jsonOrder message (names known) recipient)
-      (compactOrder message (names known) recipient) in
-      let long = ltb longest (length message) in
-      ltb-false longest (length message) (second lent long (first rest) e)
+      3 if not (sound (c .known))
+      ∷ cond (opensObject (c .message))
+      (jsonOrder (c .message) (names (c .known)) (c .recipient))
+      (compactOrder (c .message) (names (c .known)) (c .recipient)) in
+      let long = ltb longest (length (c .message)) in
+      ltb-false longest (length (c .message)) (second lent long (first rest) e)
     where
       second : (a b : Bool) (rest : ℕ) → cond a 1 (cond b 2 rest) ≡ 0 → b ≡ false
       second true b rest h = absurd (omega (arith, h))
       second false true rest h = absurd (omega (arith, h))
       second false false rest h = refl
 
-  pub result-small : AllBelow limit (result message known recipient headerLent listLent)
+  pub result-small : AllBelow limit (result c)
   unfolding result
   result-small =
-      let n = refusal message known recipient headerLent listLent in
+      let n = refusal c in
       either (AllBelow limit) (eqb n 0)
-      (λ e. accepted-small message recipient (accepted-short (eqb-true n 0 e)))
-      (λ _. refused-small n (refusal-low message known recipient headerLent listLent))
+      (λ e. accepted-small (c .message) (c .recipient) (accepted-short (eqb-true n 0 e)))
+      (λ _. refused-small n (refusal-low c))
 
 -- The fields of a code's result, one law each
 
@@ -148,11 +148,8 @@ fields-small r h = (
   parameters-small r h,
 )
 
-pub result-fields : (message known : List ℕ) (recipient headerLent listLent : ℕ) (r : Result) →
-    numbers r ≡ result message known recipient headerLent listLent → SmallFields r
-result-fields message known recipient headerLent listLent r e =
-    fields-small r
-    (subst (AllBelow limit) (sym e) (result-small message known recipient headerLent listLent))
+pub result-fields : (c : Call) (r : Result) → numbers r ≡ result c → SmallFields r
+result-fields c r e = fields-small r (subst (AllBelow limit) (sym e) (result-small c))
 
 pub accepted-fields : (message : List ℕ) (recipient : ℕ) (r : Result) → length message ≤ longest →
     numbers r ≡ accepted message (outcome message recipient) → SmallFields r

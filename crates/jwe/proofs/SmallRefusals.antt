@@ -19,7 +19,7 @@ use Rattle.shape.specs.Shape.{Recipient, recipients}
 use Rattle.shape.specs.Recipients.{Top, topOf, topEntries, topOrder, elementOrder, elementsIn, elementsOrder, recipientsIn}
 use Rattle.jwe.specs.Compact.{compactOrder}
 use Rattle.jwe.specs.General.{ownEntries, protectedOrder, headersOrder, recipientsOrder, jsonSpelled, jsonLater, jsonOrder}
-use Rattle.jwe.specs.Judge.{order, refusal}
+use Rattle.jwe.specs.Judge.{Call, order, refusal}
 
 -- A test whose number is not in document 01's table.
 abbrev beyond : Test → Bool
@@ -122,17 +122,18 @@ json-low message known recipient =
     (both-low (headersOrder _ message (topOf es) rs) _ (headers-low _ message (topOf es) rs)
     (both-low (recipientsOrder known _ message (topOf es) rs) _ (recipients-low known _ message (topOf es) rs) refl)))
 
-module _ (message known : List ℕ) (recipient headerLent listLent : ℕ) where
-  order-low : any beyond (order message known recipient headerLent listLent) ≡ false
+module _ (c : Call) where
+  order-low : any beyond (order c) ≡ false
   unfolding any order
-  order-low = cases (opensObject message)
+  order-low = cases (opensObject (c .message))
     where
       cases : (b : Bool) →
           any beyond
-          (cond b (jsonOrder message (names known) recipient) (compactOrder message (names known) recipient)) ≡ false
-      cases true = json-low message (names known) recipient
-      cases false = compact-low message (names known) recipient
+          (cond b (jsonOrder (c .message) (names (c .known)) (c .recipient))
+          (compactOrder (c .message) (names (c .known)) (c .recipient))) ≡ false
+      cases true = json-low (c .message) (names (c .known)) (c .recipient)
+      cases false = compact-low (c .message) (names (c .known)) (c .recipient)
 
-  pub refusal-low : refusal message known recipient headerLent listLent ≤ 19
+  pub refusal-low : refusal c ≤ 19
   unfolding refusal
-  refusal-low = first-low (order message known recipient headerLent listLent) order-low
+  refusal-low = first-low (order c) order-low

@@ -5,13 +5,14 @@ use mathlib.Core.Bool.{Bool, not, _||_, cond}
 use Prim.Native.Nat.{ℕ, zero, suc}
 use lib.ListN.{length, getD}
 use lib.Dec.{eqb, ltb}
-use Rattle.prelude.specs.Buffer.{written}
 use Rattle.names.specs.Names.{names, sound}
 use Rattle.grammar.specs.Places.{Place}
 use Rattle.grammar.specs.Reader.{opensObject}
 use Rattle.rows.specs.Rows.{Entry, readTexts}
 use Rattle.rows.specs.Tables.{listed}
 use Rattle.prelude.specs.Refusals.{Test, _if_, first}
+use Rattle.prelude.specs.Outputs.{outputAfter}
+pub use Rattle.prelude.specs.Call.{Call, call, callFor}
 use Rattle.jose.specs.HeaderRules.{modeIn}
 use Rattle.prelude.specs.Limits.{longest, headerRoom, listRoom}
 use Rattle.headers.specs.Components.{Components, compactForm}
@@ -21,18 +22,18 @@ use Rattle.shape.specs.Recipients.{Top, topOf, topEntries, recipientsIn, compon
 use Rattle.jwe.specs.Compact.{compactComponents, compactOrder}
 use Rattle.jwe.specs.General.{parameters, jsonOrder}
 
--- All refusals in order, of a message, a list of known names, a recipient number and the lengths of the lent outputs.
-unfoldable pub order : List ℕ → List ℕ → ℕ → ℕ → ℕ → List Test
-order message known recipient headerLent listLent =
-    1 if (ltb headerLent headerRoom || ltb listLent listRoom)
-    ∷ 2 if ltb longest (length message)
-    ∷ 3 if not (sound known)
-    ∷ cond (opensObject message)
-    (jsonOrder message (names known) recipient)
-    (compactOrder message (names known) recipient)
+-- All refusals in order, of what the reader is called with.
+unfoldable pub order : Call → List Test
+order c =
+    1 if (ltb (c .headerLent) headerRoom || ltb (c .listLent) listRoom)
+    ∷ 2 if ltb longest (length (c .message))
+    ∷ 3 if not (sound (c .known))
+    ∷ cond (opensObject (c .message))
+    (jsonOrder (c .message) (names (c .known)) (c .recipient))
+    (compactOrder (c .message) (names (c .known)) (c .recipient))
 
-unfoldable pub refusal : List ℕ → List ℕ → ℕ → ℕ → ℕ → ℕ
-refusal message known recipient headerLent listLent = first (order message known recipient headerLent listLent)
+unfoldable pub refusal : Call → ℕ
+refusal c = first (order c)
 
 -- What an accepted message hands out for a recipient.
 pub record Outcome : Type 0 where
@@ -110,21 +111,15 @@ placesIn r = record {
   tag = record { start = getD r 14 0; size = getD r 15 0 };
 }
 
--- The result, and what the lent header buffer and list hold afterwards.
+-- The result, and what the lent header buffer and list hold afterwards, by what they held before.
 
-unfoldable pub result : List ℕ → List ℕ → ℕ → ℕ → ℕ → List ℕ
-result message known recipient headerLent listLent =
-    let n = refusal message known recipient headerLent listLent in
-    cond (eqb n 0) (accepted message (outcome message recipient)) (refused n)
+unfoldable pub result : Call → List ℕ
+result c =
+    let n = refusal c in
+    cond (eqb n 0) (accepted (c .message) (outcome (c .message) (c .recipient))) (refused n)
 
-unfoldable pub headerAfter : List ℕ → List ℕ → ℕ → List ℕ → List ℕ → List ℕ
-headerAfter message known recipient buffer list =
-    cond (eqb (refusal message known recipient (length buffer) (length list)) 0)
-    (written 0 (outcome message recipient .header) buffer)
-    buffer
+unfoldable pub headerAfter : Call → List ℕ → List ℕ
+headerAfter c before = outputAfter (refusal c) (outcome (c .message) (c .recipient) .header) before
 
-unfoldable pub listAfter : List ℕ → List ℕ → ℕ → List ℕ → List ℕ → List ℕ
-listAfter message known recipient buffer list =
-    cond (eqb (refusal message known recipient (length buffer) (length list)) 0)
-    (written 0 (listed (outcome message recipient .entries)) list)
-    list
+unfoldable pub listAfter : Call → List ℕ → List ℕ
+listAfter c before = outputAfter (refusal c) (listed (outcome (c .message) (c .recipient) .entries)) before

@@ -9,7 +9,7 @@ ghost use Rattle.grammar.specs.Reader.{opensObject};
 ghost use Rattle.rows.specs.Tables.{recipientTable};
 ghost use Rattle.jwe.specs.Compact.{compactOrder};
 ghost use Rattle.jwe.specs.General.{jsonOrder};
-ghost use Rattle.jwe.specs.Judge.{outcome, result, refused, headerAfter, listAfter};
+ghost use Rattle.jwe.specs.Judge.{call, outcome, result, refused, headerAfter, listAfter};
 ghost use Rattle.jwe.specs.Answers.{numbers, refusedBy, Judges};
 use headers::Components;
 use judged::Judged;
@@ -87,9 +87,15 @@ pub fn read(
     header: &mut [u8],
     list: &mut [u32],
 ) -> Result
-    ensures { λ r. ⌜ numbers r ≡ result (now (message .entry)) (now (known .entry)) recipient (length (now (header .entry))) (length (now (list .entry))) ⌝ }
-    ensures { λ _. ⌜ now (header .exit) ≡ headerAfter (now (message .entry)) (now (known .entry)) recipient (now (header .entry)) (now (list .entry)) ⌝ }
-    ensures { λ _. ⌜ now (list .exit) ≡ listAfter (now (message .entry)) (now (known .entry)) recipient (now (header .entry)) (now (list .entry)) ⌝ }
+    ensures { λ r. ⌜ numbers r
+        ≡ result (call (now (message .entry)) (now (known .entry)) recipient
+        (length (now (header .entry))) (length (now (list .entry)))) ⌝ }
+    ensures { λ _. ⌜ now (header .exit)
+        ≡ headerAfter (call (now (message .entry)) (now (known .entry)) recipient
+        (length (now (header .entry))) (length (now (list .entry)))) (now (header .entry)) ⌝ }
+    ensures { λ _. ⌜ now (list .exit)
+        ≡ listAfter (call (now (message .entry)) (now (known .entry)) recipient
+        (length (now (header .entry))) (length (now (list .entry)))) (now (list .entry)) ⌝ }
 {
     if header.len() < 4096 {
         return refused(1);

@@ -10,7 +10,7 @@ use Rattle.headers.specs.Headers.{headerText}
 use Rattle.shape.specs.Shape.{memberEntries, component}
 use Rattle.shape.specs.Recipients.{topEntries, recipientsIn}
 use Rattle.jwe.specs.Compact.{compactComponents}
-use Rattle.jwe.specs.Judge.{refusal, asked}
+use Rattle.jwe.specs.Judge.{Call, callFor, refusal, asked}
 use Rattle.meets.specs.Rules.{Headers, parameters}
 use Rattle.meets.specs.Meets.{Json, Message, compact, json, count, Meets}
 use Rattle.meets.specs.Handed.{Rows, entries, Applies}
@@ -73,32 +73,36 @@ json-applied names message j n below passed =
       };
     }
 
-module _ (message known : List ℕ) (n : ℕ) (buffer list : List ℕ)
-    (passes : refusal message known n (length buffer) (length list) ≡ 0) where
+module _ (c : Call) (passes : refusal c ≡ 0) where
+  abbrev message : List ℕ
+  message = c .message
+
+  abbrev n : ℕ
+  n = c .recipient
+
   applied : (names : List (List ℕ)) (f : Message names message) → n < count f → Applied f n
-  applied names (compact c) below =
+  applied names (compact x) below =
       let header = headerText message (compactComponents message .protected) in
       record {
         header = header;
         rows = compactRows header;
-        applies = compact-applies names message n c;
-        headerIs = compact-header names message c n;
+        applies = compact-applies names message n x;
+        headerIs = compact-header names message x n;
         shows = record {
-          protected = outermost-show header (headersOf (compact c) n .protected) (compact-stand names message c n);
+          protected = outermost-show header (headersOf (compact x) n .protected) (compact-stand names message x n);
           shared = tt;
           own = tt;
         };
       }
-  applied names (json j) below =
-      json-applied names message j n below
-      (reading-passed message known n (length buffer) (length list) passes (j .reading))
+  applied names (json j) below = json-applied names message j n below (reading-passed c passes (j .reading))
 
-  pub passed-hands : (names : List (List ℕ)) (f : Message names message) → n < count f → HandsOut known buffer list f n
-  passed-hands names f below =
+  pub passed-hands : (names : List (List ℕ)) (f : Message names (c .message)) → c .recipient < count f →
+      (buffer list : List ℕ) → HandsOut c buffer list f
+  passed-hands names f below buffer list =
       let a = applied names f below in
-      let h = handed-exactly message known n buffer list passes in
-      let t = applies-handed message known n buffer list passes (a .header) (a .rows) (a .applies) in
-      let once = applies-once message known n (length buffer) (length list) passes in
+      let h = handed-exactly c buffer list passes in
+      let t = applies-handed c buffer list passes (a .header) (a .rows) (a .applies) in
+      let once = applies-once c passes in
       let e = once (h .header) (a .header) (h .rows) (a .rows) (h .applies) (a .applies) in
       record {
         header = a .header;
@@ -107,8 +111,8 @@ module _ (message known : List ℕ) (n : ℕ) (buffer list : List ℕ)
         only = λ k x b. once k (a .header) x (a .rows) b (a .applies);
         headerLeft = t .0;
         listLeft = t .1;
-        headerFits = subst (λ (w : List ℕ). length w ≤ length buffer) (e .0) (h .headerFits);
-        listFits = subst (λ (x : Rows). length (entries x) ≤ length list) (e .1) (h .listFits);
+        headerFits = subst (λ (w : List ℕ). length w ≤ c .headerLent) (e .0) (h .headerFits);
+        listFits = subst (λ (x : Rows). length (entries x) ≤ c .listLent) (e .1) (h .listFits);
         headerLength = t .2;
         parameterCount = t .3;
         headerIs = a .headerIs;
@@ -119,11 +123,7 @@ module _ (message known : List ℕ) (n : ℕ) (buffer list : List ℕ)
       }
 
 -- For each recipient below the count.
-pub hands-out : (message known buffer list : List ℕ) (recipient : ℕ)
-    (m : Meets message known recipient (length buffer) (length list)) (n : ℕ) → n < count (m .form) →
-    HandsOut known buffer list (m .form) n
-hands-out message known buffer list recipient m n below =
-    passed-hands message known n buffer list
-    (accepted-exactly message known n (length buffer) (length list) .1
-    (each-recipient message known recipient (length buffer) (length list) m n below))
-    (m .list .names) (m .form) below
+pub hands-out : (c : Call) (m : Meets c) (n : ℕ) → n < count (m .form) → (buffer list : List ℕ) →
+    HandsOut (callFor n c) buffer list (m .form)
+hands-out c m n below =
+    passed-hands (callFor n c) (accepted-exactly (callFor n c) .1 (each-recipient c m n below)) (m .list .names) (m .form) below

@@ -19,7 +19,7 @@ use Rattle.shape.specs.Shape.{memberEntries, component}
 use Rattle.shape.specs.Recipients.{topEntries, recipientsIn, componentsIn}
 use Rattle.jwe.specs.Compact.{compactComponents}
 use Rattle.jwe.specs.General.{sharedEntries, ownEntries, parameters}
-use Rattle.jwe.specs.Judge.{refusal, compactOutcome, asked, jsonOutcome, outcome, accepted, refused, result}
+use Rattle.jwe.specs.Judge.{Call, callFor, refusal, compactOutcome, asked, jsonOutcome, outcome, accepted, refused, result}
 use Rattle.round_trips.specs.Trips.{writtenPlaces}
 use Rattle.round_trips.proofs.Places.{dotted-written, places-are}
 use Rattle.meets.specs.Members.{Member, membersOf}
@@ -231,12 +231,17 @@ module _ (known : List (List ℕ)) (message : List ℕ) (j : Json known message)
 
 -- Both
 
-module _ (message known : List ℕ) (n headerLent listLent : ℕ)
-    (passes : refusal message known n headerLent listLent ≡ 0) where
-  result-is : result message known n headerLent listLent ≡ accepted message (outcome message n)
+module _ (c : Call) (passes : refusal c ≡ 0) where
+  abbrev message : List ℕ
+  message = c .message
+
+  abbrev n : ℕ
+  n = c .recipient
+
+  result-is : result c ≡ accepted message (outcome message n)
   unfolding result
   result-is =
-      let m = refusal message known n headerLent listLent in
+      let m = refusal c in
       ap (λ (b : Bool). cond b (accepted message (outcome message n)) (refused m)) (eq-eqb m 0 passes)
 
   outcome-is : (b : Bool) → opensObject message ≡ b →
@@ -244,24 +249,18 @@ module _ (message known : List ℕ) (n headerLent listLent : ℕ)
   unfolding outcome
   outcome-is b e = ap (λ (x : Bool). cond x (jsonOutcome message n) (compactOutcome message)) e
 
-  pub passed-means : (names : List (List ℕ)) (f : Message names message) → n < count f →
-      ResultMeans f n (result message known n headerLent listLent)
-  passed-means names (compact c) below =
-      subst (ResultMeans (compact c) n)
-      (sym (result-is ∙ ap (accepted message) (outcome-is false (forms-apart names message .0 c))))
-      (compact-means names message c n)
+  pub passed-means : (names : List (List ℕ)) (f : Message names (c .message)) → c .recipient < count f →
+      ResultMeans f (c .recipient) (result c)
+  passed-means names (compact x) below =
+      subst (ResultMeans (compact x) n)
+      (sym (result-is ∙ ap (accepted message) (outcome-is false (forms-apart names message .0 x))))
+      (compact-means names message x n)
   passed-means names (json j) below =
       subst (ResultMeans (json j) n)
       (sym (result-is ∙ ap (accepted message) (outcome-is true (forms-apart names message .1 (j .reading)))))
-      (json-means names message j n below
-      (reading-passed message known n headerLent listLent passes (j .reading)))
+      (json-means names message j n below (reading-passed c passes (j .reading)))
 
 -- For each recipient below the count.
-pub result-means : (message known : List ℕ) (recipient headerLent listLent : ℕ)
-    (m : Meets message known recipient headerLent listLent) (n : ℕ) → n < count (m .form) →
-    ResultMeans (m .form) n (result message known n headerLent listLent)
-result-means message known recipient headerLent listLent m n below =
-    passed-means message known n headerLent listLent
-    (accepted-exactly message known n headerLent listLent .1
-    (each-recipient message known recipient headerLent listLent m n below))
-    (m .list .names) (m .form) below
+pub result-means : (c : Call) (m : Meets c) (n : ℕ) → n < count (m .form) → ResultMeans (m .form) n (result (callFor n c))
+result-means c m n below =
+    passed-means (callFor n c) (accepted-exactly (callFor n c) .1 (each-recipient c m n below)) (m .list .names) (m .form) below

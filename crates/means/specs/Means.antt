@@ -9,6 +9,7 @@ use lib.ListN.{length, getD}
 use Rattle.prelude.specs.Ascii.{ascii}
 use Rattle.prelude.specs.Limits.{levels}
 use Rattle.prelude.specs.Buffer.{written}
+use Rattle.prelude.specs.Call.{Call}
 use Rattle.base64url.specs.Base64url.{encoded}
 use Rattle.grammar.specs.Grammar.{octets, leavesChars, leavesValue, Text, leaves}
 use Rattle.grammar.specs.Places.{kind, leading, trailing, Place, Placed, Parts, placedText, partsOf, emptiedText}
@@ -199,25 +200,24 @@ abbrev pub NoProtected : List ℕ → Type 0
 NoProtected message =
     (r : Reading levels message) × NoMember message (ascii "protected") (partsOf (placedText (r .text)))
 
--- What is handed out for recipient n of a message that meets the rules, with what was known and lent.
-pub record HandsOut (known : List ℕ) (buffer list : List ℕ) {names : List (List ℕ)} {message : List ℕ}
-    (f : Message names message) (n : ℕ) : Type 0 where
+-- What is handed out by a call on a message that meets the rules, into the header buffer and the list that were lent.
+pub record HandsOut (c : Call) (buffer list : List ℕ) {names : List (List ℕ)} (f : Message names (c .message)) : Type 0 where
   -- The header and the rows that apply, and no others do.
   pub header : List ℕ
   pub rows : Rows
-  pub applies : Applies message n header rows
-  pub only : (h : List ℕ) (x : Rows) → Applies message n h x → (h ≡ header) × (x ≡ rows)
+  pub applies : Applies (c .message) (c .recipient) header rows
+  pub only : (h : List ℕ) (x : Rows) → Applies (c .message) (c .recipient) h x → (h ≡ header) × (x ≡ rows)
   -- They are in the lent memory, its rest unchanged, and the result has their lengths.
-  pub headerLeft : headerAfter message known n buffer list ≡ written 0 header buffer
-  pub listLeft : listAfter message known n buffer list ≡ written 0 (entries rows) list
-  pub headerFits : length header ≤ length buffer
-  pub listFits : length (entries rows) ≤ length list
-  pub headerLength : getD (result message known n (length buffer) (length list)) 16 0 ≡ length header
-  pub parameterCount : getD (result message known n (length buffer) (length list)) 17 0 ≡ handed.count rows
+  pub headerLeft : headerAfter c buffer ≡ written 0 header buffer
+  pub listLeft : listAfter c list ≡ written 0 (entries rows) list
+  pub headerFits : length header ≤ c .headerLent
+  pub listFits : length (entries rows) ≤ c .listLent
+  pub headerLength : getD (result c) 16 0 ≡ length header
+  pub parameterCount : getD (result c) 17 0 ≡ handed.count rows
   -- They are those of what the message meets: the header's octets, and a row for each parameter.
   pub headerIs : header ≡ headerOf f
-  pub shows : RowsShow header message (headersOf f n) rows
-  pub counted : handed.count rows ≡ length (parameters (headersOf f n))
+  pub shows : RowsShow header (c .message) (headersOf f (c .recipient)) rows
+  pub counted : handed.count rows ≡ length (parameters (headersOf f (c .recipient)))
   -- Exactly one reading.
-  pub messageRead : OpensCurly message → ExactlyOne message
-  pub headerRead : ((header ≡ []) × NoProtected message) ⊎ ExactlyOne header
+  pub messageRead : OpensCurly (c .message) → ExactlyOne (c .message)
+  pub headerRead : ((header ≡ []) × NoProtected (c .message)) ⊎ ExactlyOne header

@@ -17,7 +17,7 @@ use Rattle.prelude.specs.Any.{any}
 use Rattle.prelude.specs.Refusals.{Test, _if_, first}
 use Rattle.jwe.specs.Compact.{compactOrder}
 use Rattle.jwe.specs.General.{jsonOrder}
-use Rattle.jwe.specs.Judge.{order, refusal}
+use Rattle.jwe.specs.Judge.{Call, order, refusal}
 use Rattle.meets.specs.Meets.{Message, compact, json, count, Known, Meets}
 use Rattle.meets.proofs.Deciding.{FalseWhere, not-where, neither, first-none}
 use Rattle.meets.proofs.InOrder.{first-append}
@@ -83,44 +83,42 @@ module _ (known : List (List ℕ)) (message : List ℕ) (recipient : ℕ) where
 -- All refusals
 
 -- 1 to 3, on what is lent.
-module _ (message known : List ℕ) (headerLent listLent : ℕ) where
+module _ (c : Call) where
   abbrev lentOrder : List Test
   lentOrder =
-      1 if (ltb headerLent 4096 || ltb listLent 576)
-      ∷ 2 if ltb 16777216 (length message)
-      ∷ 3 if not (sound known)
+      1 if (ltb (c .headerLent) 4096 || ltb (c .listLent) 576)
+      ∷ 2 if ltb 16777216 (length (c .message))
+      ∷ 3 if not (sound (c .known))
       ∷ []
 
   lent-decided : (first lentOrder ≡ 0)
-      ↔ (((4096 ≤ headerLent) × (576 ≤ listLent)) × (length message ≤ 16777216) × Known known)
+      ↔ (((4096 ≤ c .headerLent) × (576 ≤ c .listLent)) × (length (c .message) ≤ 16777216) × Known (c .known))
   unfolding any
   lent-decided =
       let t = first-none lentOrder refl in
-      let room = neither (ltb headerLent 4096) (ltb listLent 576) (at-most-decided headerLent 4096)
-      (at-most-decided listLent 576) in
-      let size = at-most-decided 16777216 (length message) in
-      let list = not-where (sound known) (list-decided known) in (
+      let room = neither (ltb (c .headerLent) 4096) (ltb (c .listLent) 576) (at-most-decided (c .headerLent) 4096)
+      (at-most-decided (c .listLent) 576) in
+      let size = at-most-decided 16777216 (length (c .message)) in
+      let list = not-where (sound (c .known)) (list-decided (c .known)) in (
         (λ e. let h = t .0 e in (room .0 (h .0), size .0 (h .1 .0), list .0 (h .1 .1 .0))),
         (λ w. t .1 (room .1 (w .0), (size .1 (w .1), (list .1 (w .2), tt)))),
       )
 
-module _ (message known : List ℕ) (recipient headerLent listLent : ℕ) where
-  names-decided : (k : Known known) →
-      (first (formOrder message recipient (opensObject message) (names known)) ≡ 0)
-      ↔ Asked (k .names) message recipient
+  names-decided : (k : Known (c .known)) →
+      (first (formOrder (c .message) (c .recipient) (opensObject (c .message)) (names (c .known))) ≡ 0)
+      ↔ Asked (k .names) (c .message) (c .recipient)
   names-decided k =
       subst (λ (ns : List (List ℕ)).
-      (first (formOrder message recipient (opensObject message) ns) ≡ 0)
-      ↔ Asked (k .names) message recipient)
-      (sym (list-names known k)) (form-decided (k .names) message recipient)
+      (first (formOrder (c .message) (c .recipient) (opensObject (c .message)) ns) ≡ 0)
+      ↔ Asked (k .names) (c .message) (c .recipient))
+      (sym (list-names (c .known) k)) (form-decided (k .names) (c .message) (c .recipient))
 
-  pub accepted-exactly : (refusal message known recipient headerLent listLent ≡ 0)
-      ↔ Meets message known recipient headerLent listLent
+  pub accepted-exactly : (refusal c ≡ 0) ↔ Meets c
   unfolding refusal order any
   accepted-exactly =
-      let lent = lent-decided message known headerLent listLent in
-      let t = first-append (lentOrder message known headerLent listLent)
-      (formOrder message recipient (opensObject message) (names known)) refl in (
+      let lent = lent-decided in
+      let t = first-append lentOrder
+      (formOrder (c .message) (c .recipient) (opensObject (c .message)) (names (c .known))) refl in (
         (λ e.
             let h = t .0 e in
             let l = lent .0 (h .0) in

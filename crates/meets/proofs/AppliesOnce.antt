@@ -21,7 +21,7 @@ use Rattle.headers.specs.Headers.{outermost}
 use Rattle.shape.specs.Shape.{memberEntries}
 use Rattle.shape.specs.Recipients.{topEntries}
 use Rattle.jwe.specs.General.{jsonOrder}
-use Rattle.jwe.specs.Judge.{refusal, result, headerAfter, listAfter}
+use Rattle.jwe.specs.Judge.{Call, refusal, result, headerAfter, listAfter}
 use Rattle.meets.specs.Handed.{Rows, entries, count, MemberAt, NoMember, PartAt, RecipientAt, ProtectedRows}
 use Rattle.meets.specs.Handed.{within, RowsOf, Applies, compact, json}
 use Rattle.meets.specs.Meets.{Octets}
@@ -106,29 +106,35 @@ module _ (message : List ℕ) (n : ℕ) (ps : Parts) (names : NamesStand message
   own-stands rs (inr a) = subst Distinct (sym (a .4)) (element-stands (a .0) (a .1) (a .2) (a .3))
 
 -- Accepted messages
-module _ (message known : List ℕ) (recipient headerLent listLent : ℕ)
-    (accepted : refusal message known recipient headerLent listLent ≡ 0) where
-  order-passed : opensObject message ≡ true → first (jsonOrder message (names known) recipient) ≡ 0
-  order-passed opens =
-      sym (ap (λ (b : Bool). first (formTests message known recipient b)) opens)
-      ∙ form-passed message known recipient headerLent listLent accepted .2
+module _ (c : Call) (accepted : refusal c ≡ 0) where
+  abbrev message : List ℕ
+  message = c .message
 
-  pub reading-passed : (r : Reading 12 message) →
-      Passed message recipient (entriesAt message (partsOf (placedText (r .text))))
+  abbrev recipient : ℕ
+  recipient = c .recipient
+
+  abbrev known : List (List ℕ)
+  known = names (c .known)
+
+  order-passed : opensObject message ≡ true → first (jsonOrder message known recipient) ≡ 0
+  order-passed opens = sym (ap (λ (b : Bool). first (formTests c b)) opens) ∙ form-passed c accepted .2
+
+  pub reading-passed : (r : Reading 12 (c .message)) →
+      Passed (c .message) (c .recipient) (entriesAt (c .message) (partsOf (placedText (r .text))))
   unfolding topEntries memberEntries
   reading-passed r =
       subst (λ (es : List Entry). Passed message recipient es) (ap (memberEntries message) (outermost-rows message r))
-      (json-passed (names known) message recipient (order-passed (forms-apart (names known) message .1 r)) .1)
+      (json-passed known message recipient (order-passed (forms-apart known message .1 r)) .1)
 
   -- The two forms exclude each other.
   no-both : (header rest : List ℕ) → Octets header → Reading 12 message →
       encoded header ++ (46 ∷ rest) ≡ message → ⊥
   no-both header rest o r e =
       true≢false
-      (sym (forms-apart (names known) message .1 r) ∙ ap opensObject (sym e) ∙ encoded-opens-none header rest o)
+      (sym (forms-apart known message .1 r) ∙ ap opensObject (sym e) ∙ encoded-opens-none header rest o)
 
-  pub applies-once : (h k : List ℕ) (x y : Rows) → Applies message recipient h x → Applies message recipient k y →
-      (h ≡ k) × (x ≡ y)
+  pub applies-once : (h k : List ℕ) (x y : Rows) → Applies (c .message) (c .recipient) h x →
+      Applies (c .message) (c .recipient) k y → (h ≡ k) × (x ≡ y)
   applies-once h k x y (compact rest e p s o) (compact more f q t u) =
       let header =
       first-once h k rest more (protected-octets h _ p) (protected-octets k _ q) (e ∙ sym f) in
@@ -161,18 +167,15 @@ module _ (message known : List ℕ) (recipient headerLent listLent : ℕ)
       (header .0, rows-same x y (header .1) shared own)
 
 -- Whatever applies is what is handed out.
-pub applies-handed : (message known : List ℕ) (recipient : ℕ) (buffer list : List ℕ) →
-    refusal message known recipient (length buffer) (length list) ≡ 0 →
-    (header : List ℕ) (x : Rows) → Applies message recipient header x →
-    (headerAfter message known recipient buffer list ≡ written 0 header buffer)
-    × (listAfter message known recipient buffer list ≡ written 0 (entries x) list)
-    × (getD (result message known recipient (length buffer) (length list)) 16 0 ≡ length header)
-    × (getD (result message known recipient (length buffer) (length list)) 17 0 ≡ count x)
-applies-handed message known recipient buffer list accepted header x a =
-    let h = handed-exactly message known recipient buffer list accepted in
-    let e =
-    applies-once message known recipient (length buffer) (length list) accepted (h .header) header (h .rows) x
-    (h .applies) a in (
+pub applies-handed : (c : Call) (buffer list : List ℕ) → refusal c ≡ 0 →
+    (header : List ℕ) (x : Rows) → Applies (c .message) (c .recipient) header x →
+    (headerAfter c buffer ≡ written 0 header buffer)
+    × (listAfter c list ≡ written 0 (entries x) list)
+    × (getD (result c) 16 0 ≡ length header)
+    × (getD (result c) 17 0 ≡ count x)
+applies-handed c buffer list accepted header x a =
+    let h = handed-exactly c buffer list accepted in
+    let e = applies-once c accepted (h .header) header (h .rows) x (h .applies) a in (
       h .headerIs ∙ ap (λ (w : List ℕ). written 0 w buffer) (e .0),
       h .listIs ∙ ap (λ (z : Rows). written 0 (entries z) list) (e .1),
       h .headerLength ∙ ap length (e .0),

@@ -18,7 +18,7 @@ use Rattle.shape.specs.Shape.{Recipient}
 use Rattle.shape.specs.Recipients.{topEntries, recipientsIn, componentsIn}
 use Rattle.jwe.specs.Compact.{fourStops, compactComponents, compactOrder}
 use Rattle.jwe.specs.General.{jsonOrder}
-use Rattle.jwe.specs.Judge.{refusal, compactOutcome, jsonOutcome, outcome}
+use Rattle.jwe.specs.Judge.{Call, refusal, compactOutcome, jsonOutcome, outcome}
 use Rattle.meets.proofs.Deciding.{any-every, first-none}
 use Rattle.meets.proofs.InOrder.{first-append}
 use Rattle.meets.proofs.JsonPassed.{json-passed}
@@ -54,14 +54,13 @@ module _ (message : List ℕ) where
       asked-every (λ (r : Recipient). Sound (r .key)) (recipientsIn message es) (h .1 .1 .1 .1 .1) recipient (passed .asked) in
       (h .0, (key, (h .1 .0, (h .1 .1 .0, (h .1 .1 .1 .0, (h .1 .1 .1 .1 .0, tt))))))
 
-  pub components-spelled : (known : List ℕ) (recipient headerLent listLent : ℕ) →
-      refusal message known recipient headerLent listLent ≡ 0 →
-      Every Sound (places (outcome message recipient .components))
-  unfolding outcome compactOutcome
-  components-spelled known recipient headerLent listLent e =
-      cases (opensObject message) (form-passed message known recipient headerLent listLent e .2)
-    where
-      cases : (b : Bool) → first (formTests message known recipient b) ≡ 0 →
-          Every Sound (places (cond b (jsonOutcome message recipient) (compactOutcome message) .components))
-      cases true f = json-spelled (names known) recipient f
-      cases false f = compact-spelled (names known) recipient f
+pub components-spelled : (c : Call) → refusal c ≡ 0 →
+    Every (Sound (c .message)) (places (outcome (c .message) (c .recipient) .components))
+unfolding outcome compactOutcome
+components-spelled c e = cases (opensObject (c .message)) (form-passed c e .2)
+  where
+    cases : (b : Bool) → first (formTests c b) ≡ 0 →
+        Every (Sound (c .message))
+        (places (cond b (jsonOutcome (c .message) (c .recipient)) (compactOutcome (c .message)) .components))
+    cases true f = json-spelled (c .message) (names (c .known)) (c .recipient) f
+    cases false f = compact-spelled (c .message) (names (c .known)) (c .recipient) f

@@ -20,8 +20,8 @@ use Rattle.shape.specs.Shape.{memberEntries, protected, component}
 use Rattle.shape.specs.Recipients.{topEntries, componentsIn}
 use Rattle.jwe.specs.Compact.{compactOrder}
 use Rattle.jwe.specs.General.{sharedEntries, ownEntries, parameters, jsonOrder}
-use Rattle.jwe.specs.Judge.{refusal, Outcome, compactOutcome, jsonOutcome, outcome, accepted, refused, result}
-use Rattle.jwe.specs.Judge.{headerAfter, listAfter}
+use Rattle.jwe.specs.Judge.{Call, callFor, refusal, Outcome, compactOutcome, jsonOutcome, outcome, accepted, refused}
+use Rattle.jwe.specs.Judge.{result, headerAfter, listAfter}
 use Rattle.meets.specs.Handed.{Rows, entries, count, Applies}
 use Rattle.meets.specs.Meets.{Meets}
 use Rattle.meets.specs.Meets as meets
@@ -80,38 +80,42 @@ module _ (known : List (List ℕ)) (message : List ℕ) (recipient : ℕ) where
       }
 
 -- Where nothing is refused.
-module _ (message known : List ℕ) (recipient : ℕ) where
-  pub outcome-handed : (headerLent listLent : ℕ) → refusal message known recipient headerLent listLent ≡ 0 →
-      Handed message recipient (outcome message recipient)
+module _ (c : Call) where
+  abbrev message : List ℕ
+  message = c .message
+
+  abbrev recipient : ℕ
+  recipient = c .recipient
+
+  pub outcome-handed : refusal c ≡ 0 → Handed (c .message) (c .recipient) (outcome (c .message) (c .recipient))
   unfolding outcome
-  outcome-handed headerLent listLent e =
-      cases (opensObject message) (form-passed message known recipient headerLent listLent e .2)
+  outcome-handed e = cases (opensObject message) (form-passed c e .2)
     where
-      cases : (b : Bool) → first (formTests message known recipient b) ≡ 0 →
+      cases : (b : Bool) → first (formTests c b) ≡ 0 →
           Handed message recipient (cond b (jsonOutcome message recipient) (compactOutcome message))
-      cases true f = json-handed (names known) message recipient f
-      cases false f = compact-handed (names known) message recipient f
+      cases true f = json-handed (names (c .known)) message recipient f
+      cases false f = compact-handed (names (c .known)) message recipient f
 
   -- What is in the lent memory afterwards, and the two lengths in the result (its last two numbers).
   module _ (buffer list : List ℕ) where
     pub record HandedOut : Type 0 where
       pub header : List ℕ
       pub rows : Rows
-      pub applies : Applies message recipient header rows
-      pub headerIs : headerAfter message known recipient buffer list ≡ written 0 header buffer
-      pub listIs : listAfter message known recipient buffer list ≡ written 0 (entries rows) list
-      pub headerFits : length header ≤ length buffer
-      pub listFits : length (entries rows) ≤ length list
-      pub headerLength : getD (result message known recipient (length buffer) (length list)) 16 0 ≡ length header
-      pub parameterCount : getD (result message known recipient (length buffer) (length list)) 17 0 ≡ count rows
+      pub applies : Applies (c .message) (c .recipient) header rows
+      pub headerIs : headerAfter c buffer ≡ written 0 header buffer
+      pub listIs : listAfter c list ≡ written 0 (entries rows) list
+      pub headerFits : length header ≤ c .headerLent
+      pub listFits : length (entries rows) ≤ c .listLent
+      pub headerLength : getD (result c) 16 0 ≡ length header
+      pub parameterCount : getD (result c) 17 0 ≡ count rows
 
-    pub handed-exactly : refusal message known recipient (length buffer) (length list) ≡ 0 → HandedOut
+    pub handed-exactly : refusal c ≡ 0 → HandedOut
     unfolding headerAfter listAfter result accepted
     handed-exactly e =
-        let n = refusal message known recipient (length buffer) (length list) in
+        let n = refusal c in
         let o = outcome message recipient in
-        let h = outcome-handed (length buffer) (length list) e in
-        let fits = handed-fits message known recipient (length buffer) (length list) e in
+        let h = outcome-handed e in
+        let fits = handed-fits c e in
         let none : eqb n 0 ≡ true = eq-eqb n 0 e in
         record {
           header = o .header;
@@ -122,16 +126,14 @@ module _ (message known : List ℕ) (recipient : ℕ) where
               ap (λ (b : Bool). cond b (written 0 (listed (o .entries)) list) list) none
               ∙ ap (λ (xs : List ℕ). written 0 xs list) (h .list);
           headerFits = fits .0;
-          listFits = subst (λ (xs : List ℕ). length xs ≤ length list) (h .list) (fits .1);
+          listFits = subst (λ (xs : List ℕ). length xs ≤ c .listLent) (h .list) (fits .1);
           headerLength = ap (λ (b : Bool). getD (cond b (accepted message o) (refused n)) 16 0) none;
           parameterCount = ap (λ (b : Bool). getD (cond b (accepted message o) (refused n)) 17 0) none ∙ h .size;
         }
 
 -- What meets the rules for one recipient does for each below the count.
-pub each-recipient : (message known : List ℕ) (recipient headerLent listLent : ℕ)
-    (m : Meets message known recipient headerLent listLent) (n : ℕ) → n < meets.count (m .form) →
-    Meets message known n headerLent listLent
-each-recipient message known recipient headerLent listLent m n h = record {
+pub each-recipient : (c : Call) (m : Meets c) (n : ℕ) → n < meets.count (m .form) → Meets (callFor n c)
+each-recipient c m n h = record {
   room = m .room;
   size = m .size;
   list = m .list;

@@ -23,7 +23,7 @@ use Rattle.shape.specs.Shape.{protected, component, inner, Recipient}
 use Rattle.shape.specs.Recipients.{topEntries, recipientsIn, componentsIn}
 use Rattle.jwe.specs.Compact.{compactOrder}
 use Rattle.jwe.specs.General.{sharedEntries, ownEntries, parameters, jsonOrder}
-use Rattle.jwe.specs.Judge.{order, refusal, compactOutcome, asked, jsonOutcome, outcome}
+use Rattle.jwe.specs.Judge.{Call, order, refusal, compactOutcome, asked, jsonOutcome, outcome}
 use Rattle.meets.specs.Meets.{membersRead, Compact}
 use Rattle.meets.proofs.OneForOne.{zip-length}
 use Rattle.meets.proofs.Deciding.{or-false, first-none}
@@ -124,23 +124,30 @@ json-small known message recipient e =
     (header-short message recipient es passed, parameters-few message recipient es passed)
 
 -- Where nothing is refused, there is room, and no test on the message's form refuses.
-module _ (message known : List ℕ) (recipient : ℕ) where
-  abbrev pub formTests : Bool → List Test
-  formTests b = cond b (jsonOrder message (names known) recipient) (compactOrder message (names known) recipient)
+module _ (c : Call) where
+  abbrev message : List ℕ
+  message = c .message
 
-  pub form-passed : (headerLent listLent : ℕ) → refusal message known recipient headerLent listLent ≡ 0 →
-      (headerRoom ≤ headerLent) × (listRoom ≤ listLent) × (first (formTests (opensObject message)) ≡ 0)
+  abbrev recipient : ℕ
+  recipient = c .recipient
+
+  abbrev pub formTests : Bool → List Test
+  formTests b =
+      cond b (jsonOrder (c .message) (names (c .known)) (c .recipient)) (compactOrder (c .message) (names (c .known)) (c .recipient))
+
+  pub form-passed : refusal c ≡ 0 →
+      (headerRoom ≤ c .headerLent) × (listRoom ≤ c .listLent) × (first (formTests (opensObject (c .message))) ≡ 0)
   unfolding refusal order any
-  form-passed headerLent listLent e =
+  form-passed e =
       let lent : List Test =
-      1 if (ltb headerLent headerRoom || ltb listLent listRoom)
+      1 if (ltb (c .headerLent) headerRoom || ltb (c .listLent) listRoom)
       ∷ 2 if ltb longest (length message)
-      ∷ 3 if not (sound known)
+      ∷ 3 if not (sound (c .known))
       ∷ [] in
       let t = first-append lent (formTests (opensObject message)) refl .0 e in
       let room =
-      or-false (ltb headerLent headerRoom) (ltb listLent listRoom) .0 (first-none lent refl .0 (t .0) .0) in
-      (ltb-false headerLent headerRoom (room .0), ltb-false listLent listRoom (room .1), t .1)
+      or-false (ltb (c .headerLent) headerRoom) (ltb (c .listLent) listRoom) .0 (first-none lent refl .0 (t .0) .0) in
+      (ltb-false (c .headerLent) headerRoom (room .0), ltb-false (c .listLent) listRoom (room .1), t .1)
 
   outcome-small : first (formTests (opensObject message)) ≡ 0 →
       Small (outcome message recipient .header) (outcome message recipient .entries)
@@ -150,15 +157,15 @@ module _ (message known : List ℕ) (recipient : ℕ) where
       cases : (b : Bool) → first (formTests b) ≡ 0 →
           Small (cond b (jsonOutcome message recipient) (compactOutcome message) .header)
           (cond b (jsonOutcome message recipient) (compactOutcome message) .entries)
-      cases true f = json-small (names known) message recipient f
+      cases true f = json-small (names (c .known)) message recipient f
       cases false f =
-          compact-small (names known) message (compact-decided (names known) message recipient .0 f .0)
+          compact-small (names (c .known)) message (compact-decided (names (c .known)) message recipient .0 f .0)
 
-  pub handed-fits : (headerLent listLent : ℕ) → refusal message known recipient headerLent listLent ≡ 0 →
-      (length (outcome message recipient .header) ≤ headerLent)
-      × (length (listed (outcome message recipient .entries)) ≤ listLent)
-  handed-fits headerLent listLent e =
-      let t = form-passed headerLent listLent e in
+  pub handed-fits : refusal c ≡ 0 →
+      (length (outcome (c .message) (c .recipient) .header) ≤ c .headerLent)
+      × (length (listed (outcome (c .message) (c .recipient) .entries)) ≤ c .listLent)
+  handed-fits e =
+      let t = form-passed e in
       let small = outcome-small (t .2) in
       let six = listed-length (outcome message recipient .entries) in
       let header = small .0 in

@@ -5,51 +5,42 @@ use mathlib.Core.Bool.{Bool, false, cond}
 use mathlib.Core.List.{List}
 use Prim.Native.Nat.{ℕ, zero, suc, _≤_}
 use native.Mathlib.Omega.{arith}
-use lib.ListN.{length}
 use lib.Dec.{eqb}
 use borrow.Author.Tests.{ne-eqb}
 use Rattle.prelude.specs.Buffer.{written}
 use Rattle.rows.specs.Tables.{listed}
-use Rattle.jwe.specs.Judge.{refusal, outcome, accepted, refused, result, headerAfter, listAfter}
+use Rattle.jwe.specs.Judge.{Call, refusal, outcome, accepted, refused, result, headerAfter, listAfter}
 use Rattle.jwe.proofs.SmallRefusals.{refusal-low}
 
-module _ (message known : List ℕ) (recipient : ℕ) where
-  -- The result of a refusal is its number and zeros ..
-  pub refused-result : (headerLent listLent : ℕ) →
-      (refusal message known recipient headerLent listLent ≡ 0 → ⊥) →
-      result message known recipient headerLent listLent ≡ refused (refusal message known recipient headerLent listLent)
+-- The result of a refusal is its number and zeros ..
+module _ (c : Call) (n : refusal c ≡ 0 → ⊥) where
+  fails : eqb (refusal c) 0 ≡ false
+  fails = ne-eqb (refusal c) 0 n
+
+  pub refused-result : result c ≡ refused (refusal c)
   unfolding result
-  refused-result headerLent listLent n =
-      let r = refusal message known recipient headerLent listLent in
-      ap (λ (b : Bool). cond b (accepted message (outcome message recipient)) (refused r)) (ne-eqb r 0 n)
+  refused-result =
+      ap (λ (b : Bool). cond b (accepted (c .message) (outcome (c .message) (c .recipient))) (refused (refusal c))) fails
 
   -- .. and what was lent is unchanged.
-  module _ (buffer list : List ℕ) (n : refusal message known recipient (length buffer) (length list) ≡ 0 → ⊥) where
-    fails : eqb (refusal message known recipient (length buffer) (length list)) 0 ≡ false
-    fails = ne-eqb (refusal message known recipient (length buffer) (length list)) 0 n
+  refused-header : (before : List ℕ) → headerAfter c before ≡ before
+  unfolding headerAfter
+  refused-header before =
+      ap (λ (b : Bool). cond b (written 0 (outcome (c .message) (c .recipient) .header) before) before) fails
 
-    refused-header : headerAfter message known recipient buffer list ≡ buffer
-    unfolding headerAfter
-    refused-header = ap (λ (b : Bool). cond b (written 0 (outcome message recipient .header) buffer) buffer) fails
+  refused-list : (before : List ℕ) → listAfter c before ≡ before
+  unfolding listAfter
+  refused-list before =
+      ap (λ (b : Bool). cond b (written 0 (listed (outcome (c .message) (c .recipient) .entries)) before) before) fails
 
-    refused-list : listAfter message known recipient buffer list ≡ list
-    unfolding listAfter
-    refused-list = ap (λ (b : Bool). cond b (written 0 (listed (outcome message recipient .entries)) list) list) fails
+  pub refusal-changes-nothing : (buffer list : List ℕ) →
+      (result c ≡ refused (refusal c)) × (headerAfter c buffer ≡ buffer) × (listAfter c list ≡ list)
+  refusal-changes-nothing buffer list = (refused-result, refused-header buffer, refused-list list)
 
-    pub refusal-changes-nothing : (result message known recipient (length buffer) (length list)
-        ≡ refused (refusal message known recipient (length buffer) (length list)))
-        × (headerAfter message known recipient buffer list ≡ buffer)
-        × (listAfter message known recipient buffer list ≡ list)
-    refusal-changes-nothing = (refused-result (length buffer) (length list) n, refused-header, refused-list)
-
--- A refusal is a number of the table.
-pub refusal-numbered : (message known : List ℕ) (recipient headerLent listLent : ℕ) →
-    (refusal message known recipient headerLent listLent ≡ 0 → ⊥) →
-    (1 ≤ refusal message known recipient headerLent listLent)
-    × (refusal message known recipient headerLent listLent ≤ 19)
-refusal-numbered message known recipient headerLent listLent n =
-    (positive (refusal message known recipient headerLent listLent) n, refusal-low message known recipient headerLent listLent)
-  where
-    positive : (k : ℕ) → (k ≡ 0 → ⊥) → 1 ≤ k
-    positive zero n = absurd (n refl)
-    positive (suc k) n = omega arith
+  -- A refusal is a number of the table.
+  pub refusal-numbered : (1 ≤ refusal c) × (refusal c ≤ 19)
+  refusal-numbered = (positive (refusal c) n, refusal-low c)
+    where
+      positive : (k : ℕ) → (k ≡ 0 → ⊥) → 1 ≤ k
+      positive zero n = absurd (n refl)
+      positive (suc k) n = omega arith

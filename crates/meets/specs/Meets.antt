@@ -8,6 +8,7 @@ use lib.ListN.{length}
 use Rattle.prelude.specs.Ascii.{ascii, fullStop}
 use Rattle.prelude.specs.Limits.{longest, headerRoom, listRoom, levels, mostMembers, mostRecipients}
 use Rattle.prelude.specs.Buffer.{AllBelow}
+use Rattle.prelude.specs.Call.{Call}
 use Rattle.base64url.specs.Base64url.{encoded}
 use Rattle.names.specs.Names.{listOf, Limited}
 use Rattle.grammar.specs.Grammar.{Char, Str, leavesChars, Value, string}
@@ -186,9 +187,9 @@ pub record Known (list : List ℕ) : Type 0 where
   pub limited : Limited names
 
 -- What is lent is enough, and the message meets the rules and has the recipient.
-pub record Meets (message known : List ℕ) (recipient headerLent listLent : ℕ) : Type 0 where
-  pub room : (headerRoom ≤ headerLent) × (listRoom ≤ listLent)
-  pub size : length message ≤ longest
-  pub list : Known known
-  pub form : Message (list .names) message
-  pub asked : recipient < count form
+pub record Meets (c : Call) : Type 0 where
+  pub room : (headerRoom ≤ c .headerLent) × (listRoom ≤ c .listLent)
+  pub size : length (c .message) ≤ longest
+  pub list : Known (c .known)
+  pub form : Message (list .names) (c .message)
+  pub asked : c .recipient < count form

@@ -12,7 +12,7 @@ use Rattle.grammar.specs.Reader.{opensObject}
 use Rattle.prelude.specs.Refusals.{first}
 use Rattle.jwe.specs.Compact.{compactOrder}
 use Rattle.jwe.specs.General.{jsonOrder}
-use Rattle.jwe.specs.Judge.{order, refusal}
+use Rattle.jwe.specs.Judge.{Call, order, refusal}
 use Rattle.meets.specs.Meets.{Meets}
 use Rattle.meets.proofs.Saying.{refuted}
 use Rattle.meets.proofs.Deciding.{not-where, neither}
@@ -39,31 +39,28 @@ form-refuses known message recipient = cases (opensObject message) refl
         where-not _ _ _ (refuted (opensObject message) (form-told message) .0 e)
         (compact-refuses known message recipient)
 
-module _ (message known : List ℕ) (recipient headerLent listLent : ℕ) where
-  refuses : Refuses (numbersTable message known recipient headerLent listLent)
-      (refusal message known recipient headerLent listLent)
+module _ (c : Call) where
+  refuses : Refuses (numbersTable c) (refusal c)
   unfolding numbersTable refusal order
   refuses =
+      let message = c .message in
+      let recipient = c .recipient in
       step 1 _ _ _
-      (neither (ltb headerLent 4096) (ltb listLent 576) (ltb-false headerLent 4096, le-ltb headerLent 4096)
-      (ltb-false listLent 576, le-ltb listLent 576)) λ room.
+      (neither (ltb (c .headerLent) 4096) (ltb (c .listLent) 576)
+      (ltb-false (c .headerLent) 4096, le-ltb (c .headerLent) 4096)
+      (ltb-false (c .listLent) 576, le-ltb (c .listLent) 576)) λ room.
       step 2 _ _ _ (ltb-false 16777216 (length message), le-ltb 16777216 (length message)) λ size.
-      step 3 _ _ _ (not-where (sound known) (list-decided known)) λ k.
+      step 3 _ _ _ (not-where (sound (c .known)) (list-decided (c .known))) λ k.
       subst (λ (ns : List (List ℕ)).
       Refuses (fork (OpensCurly message) (jsonTable (k .names) message recipient)
       (compactTable (k .names) message recipient))
       (first (cond (opensObject message) (jsonOrder message ns recipient) (compactOrder message ns recipient))))
-      (sym (list-names known k)) (form-refuses (k .names) message recipient)
+      (sym (list-names (c .known) k)) (form-refuses (k .names) message recipient)
 
   -- A number is given exactly where the table says it; 0 is none.
-  pub refused-exactly : (k : ℕ) → (refusal message known recipient headerLent listLent ≡ k)
-      ↔ Refuses (numbersTable message known recipient headerLent listLent) k
-  refused-exactly =
-      exactly (numbersTable message known recipient headerLent listLent)
-      (refusal message known recipient headerLent listLent) refuses
+  pub refused-exactly : (k : ℕ) → (refusal c ≡ k) ↔ Refuses (numbersTable c) k
+  refused-exactly = exactly (numbersTable c) (refusal c) refuses
 
   -- No rule is broken exactly where all is met.
-  pub none-broken : Refuses (numbersTable message known recipient headerLent listLent) 0
-      ↔ Meets message known recipient headerLent listLent
-  none-broken =
-      Iff·trans (Iff·symm (refused-exactly 0)) (accepted-exactly message known recipient headerLent listLent)
+  pub none-broken : Refuses (numbersTable c) 0 ↔ Meets c
+  none-broken = Iff·trans (Iff·symm (refused-exactly 0)) (accepted-exactly c)

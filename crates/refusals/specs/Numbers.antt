@@ -6,6 +6,7 @@ use Prim.Native.Nat.{ℕ, _≤_, _<_}
 use lib.ListN.{length}
 use Rattle.prelude.specs.Ascii.{ascii, fullStop}
 use Rattle.prelude.specs.Limits.{longest, headerRoom, listRoom, levels, mostMembers, mostRecipients}
+use Rattle.prelude.specs.Call.{Call}
 use Rattle.base64url.specs.Base64url.{encoded}
 use Rattle.grammar.specs.Bounds.{Every}
 use Rattle.grammar.specs.Readings.{Reading}
@@ -145,10 +146,11 @@ jsonTable known message recipient =
     (textTable (c .0 .0) λ hs. rule 10 (hs ≡ [] → ⊥) λ some. headersTable known ps (g .0) (c .5) recipient hs)
     (headersTable known ps (g .0) (c .5) recipient [])))
 
--- All numbers, of a message, a list of known names, a recipient number and the lengths of the lent outputs.
-unfoldable pub numbersTable : List ℕ → List ℕ → ℕ → ℕ → ℕ → Table
-numbersTable message known recipient headerLent listLent =
-    rule 1 ((headerRoom ≤ headerLent) × (listRoom ≤ listLent)) λ room.
-    rule 2 (length message ≤ longest) λ size.
-    rule 3 (Known known) λ k.
-    fork (OpensCurly message) (jsonTable (k .names) message recipient) (compactTable (k .names) message recipient)
+-- All numbers.
+unfoldable pub numbersTable : Call → Table
+numbersTable c =
+    rule 1 ((headerRoom ≤ c .headerLent) × (listRoom ≤ c .listLent)) λ room.
+    rule 2 (length (c .message) ≤ longest) λ size.
+    rule 3 (Known (c .known)) λ k.
+    fork (OpensCurly (c .message))
+    (jsonTable (k .names) (c .message) (c .recipient)) (compactTable (k .names) (c .message) (c .recipient))

@@ -1,7 +1,7 @@
 -- The report by what the reader answers: too long, accepted with the numbers of its result and its list, or refused.
 use mathlib.Core.Path.{_≡_, refl, ap, ap₂, sym, subst, _∙_}
 use mathlib.Core.Bool.{Bool, true, false, cond}
-use mathlib.Core.List.{List, [], _∷_, _++_}
+use mathlib.Core.List.{List, _++_}
 use Prim.Native.Nat.{ℕ, _+_, _*_, _≤_, _<_}
 use native.Mathlib.Omega.{arith}
 use lib.ListN.{length, drop, getD}
@@ -14,12 +14,11 @@ use Rattle.grammar.proofs.Endings.{either}
 use Rattle.rows.specs.Tables.{listed}
 use Rattle.rows.proofs.Entries.{listed-length}
 use Rattle.jose.specs.HeaderRules.{modeIn}
-use Rattle.prelude.specs.Limits.{headerRoom, listRoom}
 use Rattle.jwe.specs.Judge.{refusal, Outcome, outcome, accepted, refused, result, listAfter}
 use Rattle.jwe.specs.Answers.{numbers}
 use Rattle.jwe.specs.declared.Result.{Result}
 use Rattle.meets.proofs.HandedFits.{handed-fits}
-use Rattle.report.specs.Report.{mostRead, firstLine, componentLines, tooLong, refusedReport, acceptedReport, report}
+use Rattle.report.specs.Report.{mostRead, firstLine, componentLines, tooLong, refusedReport, acceptedReport, reading, report}
 use Rattle.report.specs.Answers.{reportRoom, reportOrder, reportRefusal, Reports, listLines, resultReport}
 use Rattle.report.specs.declared.Reported.the-variants.{Octets, Short}
 use Rattle.report.proofs.Listing.{listed-lines}
@@ -52,9 +51,9 @@ result-accepted message x r list before e w =
 -- What the reader answers to this message, with as much lent as it asks for
 module _ (message : List ℕ) where
   abbrev pub number : ℕ
-  number = refusal message (0 ∷ []) 0 headerRoom listRoom
+  number = refusal (reading message)
 
-  module _ (r : Result) (e : numbers r ≡ result message (0 ∷ []) 0 headerRoom listRoom) where
+  module _ (r : Result) (e : numbers r ≡ result (reading message)) where
     pub number-is : r .number ≡ number
     unfolding result accepted refused
     number-is =
@@ -77,18 +76,17 @@ module _ (message : List ℕ) where
           omega (
             arith,
             ap (λ (l : List ℕ). getD l 17 0) numbers-accepted,
-            handed-fits message (0 ∷ []) 0 headerRoom listRoom passed .1,
+            handed-fits (reading message) passed .1,
             listed-length (outcome message 0 .entries),
           )
 
-      pub report-accepted : (buffer before list : List ℕ) → length buffer ≡ headerRoom → length before ≡ listRoom →
-          list ≡ listAfter message (0 ∷ []) 0 buffer before →
+      pub report-accepted : (before list : List ℕ) → list ≡ listAfter (reading message) before →
           resultReport r list ≡ acceptedReport message (outcome message 0)
       unfolding listAfter
-      report-accepted buffer before list hb hl w =
+      report-accepted before list w =
           result-accepted message (outcome message 0) r list before numbers-accepted
           (w ∙ ap (λ (b : Bool). cond b (written 0 (listed (outcome message 0 .entries)) before) before)
-          (eq-eqb _ 0 (ap₂ (refusal message (0 ∷ []) 0) hb hl ∙ passed)))
+          (eq-eqb number 0 passed))
 
 -- The answers
 

@@ -11,7 +11,7 @@ use Rattle.rows.specs.Rows.{Entry}
 use Rattle.jose.specs.HeaderRules.{modeIn}
 use Rattle.prelude.specs.Limits.{headerRoom, listRoom}
 use Rattle.headers.specs.Components.{Components}
-use Rattle.jwe.specs.Judge.{refusal, Outcome, outcome}
+use Rattle.jwe.specs.Judge.{Call, call, refusal, Outcome, outcome}
 use Rattle.report.specs.Text.{decimal, word, line}
 
 -- A message of more octets is not read.
@@ -96,8 +96,11 @@ acceptedReport message x =
     ++ (componentLines (x .components) ++ parameterLines (x .entries))
 
 -- Read with no known names, for recipient 0, and with just enough room.
+abbrev pub reading : List ℕ → Call
+reading message = call message (0 ∷ []) 0 headerRoom listRoom
+
 unfoldable pub report : List ℕ → List ℕ
 report message =
-    let n = refusal message (0 ∷ []) 0 headerRoom listRoom in
+    let n = refusal (reading message) in
     cond (ltb mostRead (length message)) tooLong
     (cond (eqb n 0) (acceptedReport message (outcome message 0)) (refusedReport n))

@@ -21,7 +21,7 @@ use Rattle.headers.specs.Components.{places, misspelled}
 use Rattle.headers.specs.Headers.{headerText, textOrder, protectedEntries, objectOrder}
 use Rattle.jwe.specs.Compact.{fourStops, compactComponents, compactOrder}
 use Rattle.jwe.specs.General.{jsonOrder}
-use Rattle.jwe.specs.Judge.{order, refusal}
+use Rattle.jwe.specs.Judge.{Call, order, refusal}
 use Rattle.jwe_write.specs.Write.{Raw, compactText, writerRules, writeOrder, writeRefusal}
 use Rattle.meets.proofs.Deciding.{first-none, or-false}
 use Rattle.meets.proofs.InOrder.{first-append}
@@ -167,40 +167,40 @@ module _ (known : List (List ℕ)) (message : List ℕ) (recipient : ℕ) where
       )
 
 -- What is lent, and the list of names.
-pub record LentPasses (message known : List ℕ) (headerLent listLent : ℕ) : Type 0 where
-  pub header : headerRoom ≤ headerLent
-  pub table : listRoom ≤ listLent
-  pub size : length message ≤ longest
-  pub list : sound known ≡ true
+pub record LentPasses (c : Call) : Type 0 where
+  pub header : headerRoom ≤ c .headerLent
+  pub table : listRoom ≤ c .listLent
+  pub size : length (c .message) ≤ longest
+  pub list : sound (c .known) ≡ true
 
-module _ (message known : List ℕ) (recipient headerLent listLent : ℕ) (compact : opensObject message ≡ false) where
+module _ (c : Call) (compact : opensObject (c .message) ≡ false) where
   abbrev lent : List Test
   lent =
-      1 if (ltb headerLent headerRoom || ltb listLent listRoom)
-      ∷ 2 if ltb longest (length message)
-      ∷ 3 if not (sound known)
+      1 if (ltb (c .headerLent) headerRoom || ltb (c .listLent) listRoom)
+      ∷ 2 if ltb longest (length (c .message))
+      ∷ 3 if not (sound (c .known))
       ∷ []
 
-  pub read-decided : (refusal message known recipient headerLent listLent ≡ 0)
-      ↔ (LentPasses message known headerLent listLent × (first (compactOrder message (names known) recipient) ≡ 0))
+  pub read-decided : (refusal c ≡ 0)
+      ↔ (LentPasses c × (first (compactOrder (c .message) (names (c .known)) (c .recipient)) ≡ 0))
   unfolding refusal order any
   read-decided =
-      let json = jsonOrder message (names known) recipient in
-      let rest = compactOrder message (names known) recipient in
+      let json = jsonOrder (c .message) (names (c .known)) (c .recipient) in
+      let rest = compactOrder (c .message) (names (c .known)) (c .recipient) in
       let l = first-none lent refl in
-      let o = or-false (ltb headerLent headerRoom) (ltb listLent listRoom) in
-      let t = first-append lent (cond (opensObject message) json rest) refl in
-      let same : first (cond (opensObject message) json rest) ≡ first rest =
+      let o = or-false (ltb (c .headerLent) headerRoom) (ltb (c .listLent) listRoom) in
+      let t = first-append lent (cond (opensObject (c .message)) json rest) refl in
+      let same : first (cond (opensObject (c .message)) json rest) ≡ first rest =
       ap (λ (b : Bool). first (cond b json rest)) compact in (
         (λ e.
             let h = t .0 e in
             let f = l .0 (h .0) in
             let r = o .0 (f .0) in (
               record {
-                header = ltb-false headerLent headerRoom (r .0);
-                table = ltb-false listLent listRoom (r .1);
-                size = ltb-false longest (length message) (f .1 .0);
-                list = not-false (sound known) (f .1 .1 .0);
+                header = ltb-false (c .headerLent) headerRoom (r .0);
+                table = ltb-false (c .listLent) listRoom (r .1);
+                size = ltb-false longest (length (c .message)) (f .1 .0);
+                list = not-false (sound (c .known)) (f .1 .1 .0);
               },
               sym same ∙ h .1,
             )),
@@ -208,8 +208,8 @@ module _ (message known : List ℕ) (recipient headerLent listLent : ℕ) (compa
             let p = w .0 in
             t .1 (
               l .1 (
-                o .1 (le-ltb headerLent headerRoom (p .header), le-ltb listLent listRoom (p .table)),
-                (le-ltb longest (length message) (p .size), (ap not (p .list), tt)),
+                o .1 (le-ltb (c .headerLent) headerRoom (p .header), le-ltb (c .listLent) listRoom (p .table)),
+                (le-ltb longest (length (c .message)) (p .size), (ap not (p .list), tt)),
               ),
               same ∙ w .1,
             )),

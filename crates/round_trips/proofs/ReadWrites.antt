@@ -15,7 +15,7 @@ use Rattle.rows.specs.Rows.{present}
 use Rattle.shape.specs.Shape.{recipients}
 use Rattle.shape.specs.Recipients.{topEntries}
 use Rattle.jwe.specs.Compact.{compactComponents}
-use Rattle.jwe.specs.Judge.{refusal, compactOutcome, jsonOutcome, outcome}
+use Rattle.jwe.specs.Judge.{Call, refusal, compactOutcome, jsonOutcome, outcome}
 use Rattle.jwe_write.specs.Write.{Raw, compactText, writeRefusal}
 use Rattle.meets.proofs.FiveParts.{parts-placed}
 use Rattle.meets.proofs.SpelledDecided.{Spelled, spelled-parts}
@@ -89,16 +89,15 @@ module _ (message : List ℕ) (s : Spelled message) where
   same-text = s .spelled
 
 -- A compact message that is accepted is five encoded texts that the writer takes.
-pub written-again : (message known : List ℕ) (recipient headerLent listLent room : ℕ) →
-    refusal message known recipient headerLent listLent ≡ 0 → opensObject message ≡ false → length message ≤ room →
-    (s : Spelled message) × (writeRefusal (raw message s) known room ≡ 0)
-written-again message known recipient headerLent listLent room e compact fits =
-    let r = read-decided message known recipient headerLent listLent compact .0 e in
-    let w = compact-decided (names known) message recipient .0 (r .1) in
+pub written-again : (c : Call) (room : ℕ) → refusal c ≡ 0 → opensObject (c .message) ≡ false → length (c .message) ≤ room →
+    (s : Spelled (c .message)) × (writeRefusal (raw (c .message) s) (c .known) room ≡ 0)
+written-again c room e compact fits =
+    let r = read-decided c compact .0 e in
+    let w = compact-decided (names (c .known)) (c .message) (c .recipient) .0 (r .1) in
     let s = w .0 in
-    let text = same-text message s in
+    let text = same-text (c .message) s in
     let size = r .0 .size in
-    let passed = write-decided (raw message s) known room .1
+    let passed = write-decided (raw (c .message) s) (c .known) room .1
     (record {
       list = r .0 .list;
       header = w .1 .0;

@@ -17,8 +17,8 @@ use Rattle.rows.specs.Tables.{listed}
 use Rattle.headers.specs.Components.{Components}
 use Rattle.headers.specs.Headers.{protectedEntries}
 use Rattle.jwe.specs.Compact.{compactComponents}
-use Rattle.jwe.specs.Judge.{Outcome, refusal, refused, compactOutcome, jsonOutcome, outcome, accepted, placesIn, result}
-use Rattle.jwe.specs.Judge.{headerAfter, listAfter}
+use Rattle.jwe.specs.Judge.{Call, call, Outcome, refusal, refused, compactOutcome, jsonOutcome, outcome, accepted, placesIn}
+use Rattle.jwe.specs.Judge.{result, headerAfter, listAfter}
 use Rattle.jwe_write.specs.Write.{Raw, compactText, writeRefusal}
 use Rattle.meets.specs.Meets.{Meets}
 use Rattle.meets.proofs.Accepted.{accepted-exactly}
@@ -46,20 +46,22 @@ module _ (c : Raw) (known out buffer list : List ℕ) (o : RawOctets c) (e : wri
   abbrev message : List ℕ
   message = compactText c
 
-  passes : eqb (refusal message known 0 (length buffer) (length list)) 0 ≡ true
+  abbrev reading : Call
+  reading = call message known 0 (length buffer) (length list)
+
+  passes : eqb (refusal reading) 0 ≡ true
   passes = eq-eqb _ 0 (WrittenReads.accepted c o known (length out) e (length buffer) (length list) h l)
 
   same : outcome message 0 ≡ writtenOutcome c
   same = WrittenReads.handed c o known (length out) e
 
-  result-is : result message known 0 (length buffer) (length list) ≡ accepted message (writtenOutcome c)
+  result-is : result reading ≡ accepted message (writtenOutcome c)
   unfolding result
   result-is =
-      ap (λ (b : Bool). cond b (accepted message (outcome message 0))
-      (refused (refusal message known 0 (length buffer) (length list)))) passes
+      ap (λ (b : Bool). cond b (accepted message (outcome message 0)) (refused (refusal reading))) passes
       ∙ ap (accepted message) same
 
-  reads-back : ReadsBack c known message buffer list
+  reads-back : ReadsBack c reading buffer list
   unfolding headerAfter listAfter accepted writtenOutcome
   reads-back = record {
     accepted = ap (λ (r : List ℕ). getD r 0 0) result-is;
@@ -75,25 +77,29 @@ module _ (c : Raw) (known out buffer list : List ℕ) (o : RawOctets c) (e : wri
         (all-come-back message (writtenPlaces c) c o (written-stands c o));
   }
 
-  pub written-reads-back : ReadsBack c known (wrote c known out) buffer list
+  pub written-reads-back : ReadsBack c (call (wrote c known out) known 0 (length buffer) (length list)) buffer list
   written-reads-back =
-      subst (λ (m : List ℕ). ReadsBack c known m buffer list) (sym (wrote-is c known out e)) reads-back
+      subst (λ (m : List ℕ). ReadsBack c (call m known 0 (length buffer) (length list)) buffer list)
+      (sym (wrote-is c known out e)) reads-back
 
 -- What is read writes back
 
-module _ (message known : List ℕ) (recipient headerLent listLent : ℕ) where
+module _ (c : Call) where
   abbrev number : ℕ
-  number = refusal message known recipient headerLent listLent
+  number = refusal c
 
   abbrev answer : List ℕ
-  answer = result message known recipient headerLent listLent
+  answer = result c
+
+  abbrev handed : Outcome
+  handed = outcome (c .message) (c .recipient)
 
   pub number-first : getD answer 0 0 ≡ number
   unfolding result accepted refused
   number-first = cases (eqb number 0) refl
     where
       cases : (b : Bool) → eqb number 0 ≡ b →
-          getD (cond b (accepted message (outcome message recipient)) (refused number)) 0 0 ≡ number
+          getD (cond b (accepted (c .message) handed) (refused number)) 0 0 ≡ number
       cases true t = sym (eqb-true number 0 t)
       cases false t = refl
 
@@ -101,44 +107,46 @@ module _ (message known : List ℕ) (recipient headerLent listLent : ℕ) where
     passed : number ≡ 0
     passed = sym number-first ∙ zero
 
-    answer-is : answer ≡ accepted message (outcome message recipient)
+    answer-is : answer ≡ accepted (c .message) handed
     unfolding result
     answer-is =
-        ap (λ (b : Bool). cond b (accepted message (outcome message recipient)) (refused number)) (eq-eqb number 0 passed)
+        ap (λ (b : Bool). cond b (accepted (c .message) handed) (refused number)) (eq-eqb number 0 passed)
 
     module _ (form : getD answer 1 0 ≡ 0) where
-      compact : opensObject message ≡ false
+      compact : opensObject (c .message) ≡ false
       unfolding accepted
-      compact = compact-form message recipient (sym (ap (λ (r : List ℕ). getD r 1 0) answer-is) ∙ form)
+      compact = compact-form (c .message) (c .recipient) (sym (ap (λ (r : List ℕ). getD r 1 0) answer-is) ∙ form)
 
-      places-are-read : placesIn answer ≡ compactComponents message
+      places-are-read : placesIn answer ≡ compactComponents (c .message)
       unfolding accepted
-      places-are-read = ap placesIn answer-is ∙ places-read message recipient compact
+      places-are-read = ap placesIn answer-is ∙ places-read (c .message) (c .recipient) compact
 
-      writes-back : (out : List ℕ) → length message ≤ length out →
-          WritesBack message known out (compactComponents message)
+      writes-back : (out : List ℕ) → length (c .message) ≤ length out →
+          WritesBack (c .message) (c .known) out (compactComponents (c .message))
       writes-back out fits =
-          let (s, e) = written-again message known recipient headerLent listLent (length out) passed compact fits in
+          let message = c .message in
+          let (s, e) = written-again c (length out) passed compact fits in
           let t = taken message s in
           let text = ap compactText t ∙ same-text message s in
-          let refuses : writeRefusal (takenApart message (compactComponents message)) known (length out) ≡ 0 =
-          ap (λ (c : Raw). writeRefusal c known (length out)) t ∙ e in
+          let x = takenApart message (compactComponents message) in
+          let refuses : writeRefusal x (c .known) (length out) ≡ 0 =
+          ap (λ (y : Raw). writeRefusal y (c .known) (length out)) t ∙ e in
           let z = eq-eqb _ 0 refuses in
-          let c = takenApart message (compactComponents message) in
           record {
             components =
-                subst (λ (x : Raw). AllComeBack message (compactComponents message) x) (sym t)
+                subst (λ (y : Raw). AllComeBack message (compactComponents message) y) (sym t)
                 (all-come-back message (compactComponents message) (raw message s) (raw-octets message s) (stands message s));
             accepted = refuses;
-            count = ap (λ (b : Bool). cond b (length (compactText c)) 0) z ∙ ap length text;
+            count = ap (λ (b : Bool). cond b (length (compactText x)) 0) z ∙ ap length text;
             left =
-                ap (λ (b : Bool). cond b (written 0 (compactText c) out) out) z
+                ap (λ (b : Bool). cond b (written 0 (compactText x) out) out) z
                 ∙ ap (λ (m : List ℕ). written 0 m out) text;
           }
 
-      pub read-writes-back : (out : List ℕ) → length message ≤ length out → WritesBack message known out (placesIn answer)
+      pub read-writes-back : (out : List ℕ) → length (c .message) ≤ length out →
+          WritesBack (c .message) (c .known) out (placesIn answer)
       read-writes-back out fits =
-          subst (λ (q : Components). WritesBack message known out q) (sym places-are-read) (writes-back out fits)
+          subst (λ (q : Components). WritesBack (c .message) (c .known) out q) (sym places-are-read) (writes-back out fits)
 
 -- When the writer refuses nothing
 
@@ -148,18 +156,18 @@ opens-none c o = encoded-opens-none (c .header) _ (o .header)
 
 pub writes-exactly : (c : Raw) (known : List ℕ) (room : ℕ) → RawOctets c →
     (writeRefusal c known room ≡ 0)
-    ↔ (Meets (compactText c) known 0 headerRoom listRoom × (length (compactText c) ≤ room))
+    ↔ (Meets (call (compactText c) known 0 headerRoom listRoom) × (length (compactText c) ≤ room))
 writes-exactly c known room o = (
   (λ e. (
-    accepted-exactly (compactText c) known 0 headerRoom listRoom .0
+    accepted-exactly (call (compactText c) known 0 headerRoom listRoom) .0
         (WrittenReads.accepted c o known room e headerRoom listRoom (omega arith) (omega arith)),
     write-decided c known room .0 e .fits,
   )),
   (λ w.
       let m = compactText c in
       let none = opens-none c o in
-      let read = accepted-exactly m known 0 headerRoom listRoom .1 (w .0) in
-      let (s, e) = written-again m known 0 headerRoom listRoom room read none (w .1) in
+      let read = call m known 0 headerRoom listRoom in
+      let (s, e) = written-again read room (accepted-exactly read .1 (w .0)) none (w .1) in
       let t : raw m s ≡ c = sym (taken m s) ∙ taken m (spelled c o) in
       ap (λ (x : Raw). writeRefusal x known room) (sym t) ∙ e),
 )

@@ -11,7 +11,7 @@ use Rattle.prelude.specs.Refusals.{first}
 use Rattle.headers.specs.Components.{Components}
 use Rattle.headers.specs.Headers.{protectedEntries}
 use Rattle.jwe.specs.Compact.{compactOrder}
-use Rattle.jwe.specs.Judge.{refusal, Outcome, compactOutcome, jsonOutcome, outcome}
+use Rattle.jwe.specs.Judge.{call, refusal, Outcome, compactOutcome, jsonOutcome, outcome}
 use Rattle.jwe_write.specs.Write.{Raw, compactText, writeRefusal}
 use Rattle.meets.proofs.SpelledDecided.{spelled-header}
 use Rattle.meets.proofs.CompactDecided as meets
@@ -34,10 +34,10 @@ module _ (c : Raw) (o : RawOctets c) (known : List ℕ) (room : ℕ) (e : writeR
   opens-none = forms-apart (names known) message .0 (meets.compact-decided (names known) message 0 .0 passed .0)
 
   pub accepted : (headerLent listLent : ℕ) → 4096 ≤ headerLent → 576 ≤ listLent →
-      refusal message known 0 headerLent listLent ≡ 0
+      refusal (call message known 0 headerLent listLent) ≡ 0
   accepted headerLent listLent h l =
       let w = write-decided c known room .0 e in
-      read-decided message known 0 headerLent listLent opens-none .1
+      read-decided (call message known 0 headerLent listLent) opens-none .1
       (record { header = h; table = l; size = w .size; list = w .list }, passed)
 
   pub handed : outcome message 0 ≡ writtenOutcome c

@@ -12,7 +12,7 @@ use Rattle.grammar.specs.Places.{Place}
 use Rattle.rows.specs.Tables.{listed}
 use Rattle.headers.specs.Components.{absent, Components}
 use Rattle.headers.specs.Headers.{protectedEntries}
-use Rattle.jwe.specs.Judge.{Outcome, placesIn, result, headerAfter, listAfter}
+use Rattle.jwe.specs.Judge.{Call, Outcome, placesIn, result, headerAfter, listAfter}
 use Rattle.shown.specs.Shown.{componentShown}
 use Rattle.jwe_write.specs.Write.{Raw, compactText, writeRefusal}
 use Rattle.jwe_write.specs.Answers.{writeBuffer}
@@ -70,15 +70,15 @@ abbrev pub wrote : Raw → List ℕ → List ℕ → List ℕ
 wrote c known out =
     take (octetsWritten (writeRefusal c known (length out)) (compactText c)) (writeBuffer c known out)
 
--- A message that was written reads back: it is accepted as compact for recipient 0, the header buffer begins with the header that
--- was given and the list with its parameters, the rest of both unchanged, and the components come back at the places
--- that the result has.
-pub record ReadsBack (c : Raw) (known message buffer list : List ℕ) : Type 0 where
-  pub accepted : getD (result message known 0 (length buffer) (length list)) 0 0 ≡ 0
-  pub compact : getD (result message known 0 (length buffer) (length list)) 1 0 ≡ 0
-  pub headerLeft : headerAfter message known 0 buffer list ≡ written 0 (c .header) buffer
-  pub listLeft : listAfter message known 0 buffer list ≡ written 0 (listed (protectedEntries (c .header))) list
-  pub components : AllComeBack message (placesIn (result message known 0 (length buffer) (length list))) c
+-- A message that was written reads back: it is accepted as compact, the header buffer begins with the header that was given
+-- and the list with its parameters, the rest of both unchanged, and the components come back at the places that the result
+-- has.
+pub record ReadsBack (c : Raw) (reading : Call) (buffer list : List ℕ) : Type 0 where
+  pub accepted : getD (result reading) 0 0 ≡ 0
+  pub compact : getD (result reading) 1 0 ≡ 0
+  pub headerLeft : headerAfter reading buffer ≡ written 0 (c .header) buffer
+  pub listLeft : listAfter reading list ≡ written 0 (listed (protectedEntries (c .header))) list
+  pub components : AllComeBack (reading .message) (placesIn (result reading)) c
 
 -- A compact message, taken apart by places: what is shown at each, decoded.
 unfoldable pub takenApart : List ℕ → Components → Raw

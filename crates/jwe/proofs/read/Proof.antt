@@ -12,7 +12,7 @@ use Rattle.names.proofs.Laws.{sound-filled}
 use Rattle.rows.specs.Rows.{Entry}
 use Rattle.rows.specs.Tables.{listed}
 use Rattle.prelude.specs.Refusals.{first}
-use Rattle.jwe.specs.Judge.{refusal, refused, outcome}
+use Rattle.jwe.specs.Judge.{Call, call, refusal, refused, outcome}
 use Rattle.jwe.specs.Answers.{refusedBy}
 use Rattle.jwe.specs.declared.judged.Judged.{Judged}
 use Rattle.jwe.proofs.Reading.{judging, refused-told, accepted-told, Holds, holds}
@@ -21,6 +21,12 @@ use Rattle.jwe.proofs.Reading.{refusal-header, refusal-list, refusal-lo
 use borrow.Author.Needs.{needs}
 use Rattle.jwe.proofs.read.Statement.{statement}
 use Rattle.jwe.proofs.read.Tie as tie
+
+-- What it is called with.
+abbrev called : tie.Start → Call
+called s =
+    let given = s .args in
+    call (given .message .now) (given .known .now) (given .recipient) (length (given .header .now)) (length (given .list .now))
 
 -- Back from behind `judge` to the start.
 abbrev start-of : tie.After-judge → tie.Start
@@ -35,11 +41,9 @@ names-sound c = sym (c .before .before .before .before .sound .ensures) ∙ not-
 -- what is refused is what judging refuses
 judged-first : (c : tie.After-judge) →
     let given = start-of c .args in
-    refusal (given .message .now) (given .known .now) (given .recipient) (length (given .header .now)) (length (given .list .now))
-    ≡ first (judging (given .message .now) (names (given .known .now)) (given .recipient))
+    refusal (called (start-of c)) ≡ first (judging (given .message .now) (names (given .known .now)) (given .recipient))
 judged-first c =
-    let given = start-of c .args in
-    refusal-judged (given .message .now) (given .known .now) (given .recipient) (length (given .header .now)) (length (given .list .now))
+    refusal-judged (called (start-of c))
     (c .before .before .before .before .before .before .before .if1 .left) (c .before .before .before .before .before .before .if2 .left) (c .before .before .before .before .before .if3 .left) (names-sound c)
 
 -- what its own memory holds where it accepts
@@ -60,9 +64,9 @@ refused-requires c κs = search needs
 
 returns : tie.Need-returns
 returns c =
-    let given = c .before .before .before .before .before .before .args in
-    answers-refused (given .message .now) (given .known .now) (given .recipient) (given .header .now) (given .list .now) 1
-    (refusal-header (given .message .now) (given .known .now) (given .recipient) (length (given .header .now)) (length (given .list .now)) (c .before .if1 .taken)) (omega arith)
+    let start = c .before .before .before .before .before .before in
+    answers-refused (called start) (start .args .header .now) (start .args .list .now) 1
+    (refusal-header (called start) (c .before .if1 .taken)) (omega arith)
     (c .refused .result) (c .refused .ensures)
 
 refused-requires-2 : tie.Need-refused-requires-2
@@ -70,9 +74,9 @@ refused-requires-2 c κs = search needs
 
 returns-2 : tie.Need-returns-2
 returns-2 c =
-    let given = c .before .before .before .before .before .before .before .args in
-    answers-refused (given .message .now) (given .known .now) (given .recipient) (given .header .now) (given .list .now) 1
-    (refusal-list (given .message .now) (given .known .now) (given .recipient) (length (given .header .now)) (length (given .list .now))
+    let start = c .before .before .before .before .before .before .before in
+    answers-refused (called start) (start .args .header .now) (start .args .list .now) 1
+    (refusal-list (called start)
     (c .before .before .if1 .left) (c .before .if2 .taken)) (omega arith)
     (c .refused2 .result) (c .refused2 .ensures)
 
@@ -81,9 +85,9 @@ refused-requires-3 c κs = search needs
 
 returns-3 : tie.Need-returns-3
 returns-3 c =
-    let given = c .before .before .before .before .before .before .before .before .args in
-    answers-refused (given .message .now) (given .known .now) (given .recipient) (given .header .now) (given .list .now) 2
-    (refusal-long (given .message .now) (given .known .now) (given .recipient) (length (given .header .now)) (length (given .list .now))
+    let start = c .before .before .before .before .before .before .before .before in
+    answers-refused (called start) (start .args .header .now) (start .args .list .now) 2
+    (refusal-long (called start)
     (c .before .before .before .if1 .left) (c .before .before .if2 .left) (c .before .if3 .taken)) (omega arith)
     (c .refused3 .result) (c .refused3 .ensures)
 
@@ -95,9 +99,9 @@ refused-requires-4 c κs = search needs
 
 returns-4 : tie.Need-returns-4
 returns-4 c =
-    let given = c .before .before .before .before .before .before .before .before .before .before .args in
-    answers-refused (given .message .now) (given .known .now) (given .recipient) (given .header .now) (given .list .now) 3
-    (refusal-names (given .message .now) (given .known .now) (given .recipient) (length (given .header .now)) (length (given .list .now))
+    let start = c .before .before .before .before .before .before .before .before .before .before in
+    answers-refused (called start) (start .args .header .now) (start .args .list .now) 3
+    (refusal-names (called start)
     (c .before .before .before .before .before .if1 .left) (c .before .before .before .before .if2 .left) (c .before .before .before .if3 .left)
     (sym (c .before .before .sound .ensures) ∙ not-true _ (c .before .if4 .taken))) (omega arith)
     (c .refused4 .result) (c .refused4 .ensures)
@@ -132,7 +136,7 @@ returns-5 c =
     let given = start-of call .args in
     let told = c .before .enum-told .given in
     let k = refused-told _ _ _ (call .judge .result) _ _ _ _ (call .judge .ensures) (told .0 .0) (told .1) in
-    answers-refused (given .message .now) (given .known .now) (given .recipient) (given .header .now) (given .list .now) (told .0 .0)
+    answers-refused (called (start-of call)) (given .header .now) (given .list .now) (told .0 .0)
     (judged-first call ∙ k .0) (k .1) (c .refusal .result)
     (c .refusal .ensures ∙ ap (λ (j : Judged). refused (refusedBy j)) (told .1))
 
@@ -171,7 +175,7 @@ returns-6 c =
     let h = held known in
     let a = known .before .judged .given in
     let k = accepted-told _ _ _ (call .judge .result) _ _ _ _ (call .judge .ensures) _ (a .1) in
-    answers-accepted (given .message .now) (given .known .now) (given .recipient) (given .header .now) (given .list .now)
+    answers-accepted (called (start-of call)) (given .header .now) (given .list .now)
     (judged-first call ∙ k .0) (a .0 .0) (k .1) _ _
     (c .before .before .before .before .before .before .before .copy-octets .ensures ∙ ap (λ (x : List ℕ). written 0 x (given .header .now)) (h .front))
     (c .before .before .lay .ensures ∙ ap (λ (es : List Entry). written 0 (listed es) (given .list .now)) (h .entries))

@@ -1,23 +1,17 @@
 -- `report` asks the reader with as much lent as it wants, and writes the text that its answer asks for.
-use mathlib.Core.Path.{_≡_, refl, ap, ap₂, sym, subst, _∙_}
-use mathlib.Core.List.{List, [], _∷_}
-use Prim.Native.Nat.{ℕ, zero, suc}
+use mathlib.Core.Path.{_≡_, sym, subst, _∙_}
 use native.Mathlib.Omega.{arith}
-use lib.ListN.{length, replicate}
+use lib.ListN.{replicate}
 use Rattle.prelude.specs.Buffer.{AllBelow}
-use Rattle.prelude.specs.Limits.{headerRoom, listRoom}
 use Rattle.jwe.specs.Judge.{result}
 use Rattle.jwe.specs.Answers.{numbers}
 use Rattle.jwe.proofs.Small.{limit, result-small}
+use Rattle.report.specs.Report.{reading}
 use Rattle.report.proofs.Reporting.{number-is, parameters-few, report-accepted, too-short, reports-long}
 use Rattle.report.proofs.Reporting.{reports-accepted, reports-refused}
 use borrow.Author.Needs.{needs}
 use Rattle.report.proofs.report.Statement.{statement}
 use Rattle.report.proofs.report.Tie as tie
-
-zeros : (n : ℕ) → length (replicate {A = ℕ} n 0) ≡ n
-zeros zero = refl
-zeros (suc n) = ap suc (zeros n)
 
 -- Back from behind `read` to the tests, and to the start.
 
@@ -29,10 +23,8 @@ start t = t .before .before .before .before
 
 -- What the reader answers, with as much lent as it asks for.
 told : (c : tie.After-read) →
-    numbers (c .read .result) ≡ result (start (tested c) .args .message .now) (0 ∷ []) 0 headerRoom listRoom
-told c =
-    c .read .ensures .0
-    ∙ ap₂ (result (start (tested c) .args .message .now) (0 ∷ []) 0) (zeros 4096) (zeros 576)
+    numbers (c .read .result) ≡ result (reading (start (tested c) .args .message .now))
+told c = c .read .ensures .0
 
 returns : tie.Need-returns
 returns c =
@@ -71,7 +63,7 @@ put-accepted-requires c κs =
     let call = c .before .before .before .before .before .before in
     let message = start (tested call) .args .message .now in
     let few = parameters-few message (call .read .result) (told call) (c .before .before .if3 .taken) in
-    let small = subst (AllBelow limit) (sym (told call)) (result-small message (0 ∷ []) 0 headerRoom listRoom) in
+    let small = subst (AllBelow limit) (sym (told call)) (result-small (reading message)) in
     (tested call .before .if1 .left, (small, (few, omega (arith, few))))
 
 same-length-2 : tie.Need-same-length-2
@@ -85,8 +77,8 @@ returns-3 c =
     let z = test .if3 .taken in
     reports-accepted (given .message .now) (given .out .now) (tested call .before .if1 .left) (tested call .if2 .left)
     (sym (number-is (given .message .now) (call .read .result) (told call)) ∙ z) _
-    (report-accepted (given .message .now) (call .read .result) (told call) z (replicate 4096 0) (replicate 576 0) _
-    (zeros 4096) (zeros 576) (call .read .ensures .1 .1)) _ _ (c .before .before .put-accepted .ensures)
+    (report-accepted (given .message .now) (call .read .result) (told call) z (replicate 576 0) _
+    (call .read .ensures .1 .1)) _ _ (c .before .before .put-accepted .ensures)
 
 put-refused-requires : tie.Need-put-refused-requires
 put-refused-requires c κs =

@@ -4,12 +4,17 @@ use Rattle.parts.specs.Parts.{part}
 use Rattle.prelude.specs.declared.Place.{Place}
 use Rattle.headers.specs.Components as headers
 use Rattle.headers.specs.Components.{octetsAt}
+use Rattle.jwe.specs.Judge.{Call, call}
 use Rattle.host.specs.Component.{componentPlace}
 use Rattle.host.proofs.HandedOut.{number-first}
 use Rattle.host.proofs.Decoding.{refused-so, decoded-so, components-are}
 use borrow.Author.Needs.{needs}
 use Rattle.host.proofs.component.jwe_component.Statement.{statement}
 use Rattle.host.proofs.component.jwe_component.Tie as tie
+
+-- What `read` is called with.
+abbrev called : tie.Start → Call
+called s = call (s .args .message .now) (s .args .known .now) (s .args .recipient) 4096 576
 
 slice-aggregate-read : tie.Need-slice-aggregate-read
 slice-aggregate-read c = search needs
@@ -22,12 +27,10 @@ read-requires c κs = search needs
 
 returns : tie.Need-returns
 returns c =
-    let given = c .before .before .before .before .before .before .before .before .before .before .args in
+    let start = c .before .before .before .before .before .before .before .before .before .before in
     let read = c .before .before .before .before .read in
-    refused-so (given .message .now) (given .known .now) (given .recipient) (given .component) (given .out .now)
-    (read .result .number)
-    (number-first (given .message .now) (given .known .now) (given .recipient) 4096 576 (read .result) (read .ensures .0))
-    (c .if1 .taken)
+    refused-so (called start) (start .args .component) (start .args .out .now) (read .result .number)
+    (number-first (called start) (read .result) (read .ensures .0)) (c .if1 .taken)
 
 place-of-requires : tie.Need-place-of-requires
 place-of-requires c κs = search needs
@@ -43,21 +46,20 @@ same-length c = search needs
 
 returns-2 : tie.Need-returns-2
 returns-2 c =
-    let given = c .before .before .before .before .before .before .before .before .before .before .before .before .before .before .before .before .before .args in
-    let message = given .message .now in
-    let known = given .known .now in
-    let n = given .component in
+    let start = c .before .before .before .before .before .before .before .before .before .before .before .before .before .before .before .before .before in
+    let message = start .args .message .now in
+    let n = start .args .component in
     let chosen = c .before .before .before .before .before .before in
     let read = chosen .before .before .before .before .before .read in
     let r = read .result in
-    let z = sym (number-first message known (given .recipient) 4096 576 r (read .ensures .0)) ∙ chosen .before .if1 .left in
-    let are = components-are message known (given .recipient) n r (read .ensures .0) z in
+    let z = sym (number-first (called start) r (read .ensures .0)) ∙ chosen .before .if1 .left in
+    let are = components-are (called start) n r (read .ensures .0) z in
     let shown =
     c .before .before .before .before .before .component .ensures .0
     ∙ ap (λ (q : Place). part message (q .start) (q .len)) (chosen .place-of .ensures)
     ∙ ap (λ (q : headers.Components). octetsAt message (componentPlace q n)) are in
-    let call = c .before .before .jwe-decode in
-    decoded-so message known (given .recipient) n z (given .out .now) _ (call .result) _ _ shown (call .ensures)
+    let decode = c .before .before .jwe-decode in
+    decoded-so (called start) n z (start .args .out .now) _ (decode .result) _ _ shown (decode .ensures)
 
 pub jwe-component-spec : {M : Type 1} → statement M
 jwe-component-spec =

@@ -1,4 +1,5 @@
 -- `jwe_judge` answers the number of the reader's result.
+use Rattle.jwe.specs.Judge.{call}
 use Rattle.host.proofs.HandedOut.{number-first}
 use borrow.Author.Needs.{needs}
 use Rattle.host.proofs.component.jwe_judge.Statement.{statement}
@@ -17,7 +18,7 @@ returns : tie.Need-returns
 returns c =
     let given = c .before .before .before .before .before .before .before .args in
     let read = c .before .before .read in
-    number-first (given .message .now) (given .known .now) (given .recipient) 4096 576 (read .result) (read .ensures .0)
+    number-first (call (given .message .now) (given .known .now) (given .recipient) 4096 576) (read .result) (read .ensures .0)
 
 pub jwe-judge-spec : {M : Type 1} → statement M
 jwe-judge-spec =
