@@ -1,12 +1,12 @@
 -- For callers of a stage, and of the rules on a recipient: what the answer tells of the refusals, and that their numbers
 -- are none of them 0, so that orders can be put one behind the other (jose's `first-append`).
-use mathlib.Core.Path.{_≡_, refl, _∙_}
+use mathlib.Core.Path.{_≡_, refl, ap, sym, _∙_}
 use mathlib.Core.Bool.{Bool, true, false, cond}
 use mathlib.Core.List.{List, _++_}
 use Prim.Native.Nat.{ℕ, _<_}
 use native.Mathlib.Omega.{arith}
 use lib.Dec.{eqb}
-use borrow.Author.Tests.{eqb-true, eqb-false}
+use borrow.Author.Tests.{eqb-true, eqb-false, ne-eqb}
 use Rattle.rows.specs.Rows.{Entry}
 use Rattle.prelude.specs.Refusals.{Test, first, stageOf}
 use Rattle.prelude.proofs.Refusals.{nonzero, first-stop}
@@ -39,6 +39,16 @@ text-nonzero header = refl
 pub object-nonzero : (s : List ℕ) (es : List Entry) → nonzero (objectOrder s es) ≡ true
 unfolding objectOrder
 object-nonzero s es = refl
+
+-- A stage that refuses with a number, and one that passes.
+
+pub refuses : {n : ℕ} (k : ℕ) → 0 < n → Refused n ≡ stageOf n k
+unfolding stageOf
+refuses {n} k h = sym (ap (λ (b : Bool). cond b (Passed k) (Refused n)) (ne-eqb n 0 (λ (e : n ≡ 0). omega (arith, e, h))))
+
+pub passes : {n k : ℕ} → n ≡ 0 → Passed k ≡ stageOf n k
+unfolding stageOf
+passes {n} {k} e = sym (ap (λ (m : ℕ). stageOf m k) e)
 
 -- A list of tests that refuses, and whatever tests behind it.
 pub stopped : (xs ys : List Test) → nonzero xs ≡ true → (n : ℕ) → first xs ≡ n → 0 < n → first (xs ++ ys) ≡ n

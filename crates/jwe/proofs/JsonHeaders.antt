@@ -214,16 +214,6 @@ module _ (message : List ℕ) (origin start : ℕ) where
         last ≡ collectedTable from found before
     stands-table from last before e = e ∙ ap (λ (es : List Entry). collectedTable from es before) listed-there
 
--- A stage that refuses with a number, and one that passes.
-
-pub refuses : {n : ℕ} (k : ℕ) → 0 < n → Refused n ≡ stageOf n k
-unfolding stageOf
-refuses {n} k h = sym (ap (λ (b : Bool). cond b (Passed k) (Refused n)) (ne-eqb n 0 (λ (e : n ≡ 0). omega (arith, e, h))))
-
-pub passes : {n k : ℕ} → n ≡ 0 → Passed k ≡ stageOf n k
-unfolding stageOf
-passes {n} {k} e = sym (ap (λ (m : ℕ). stageOf m k) e)
-
 -- What passes 8 has at most 32.
 pub few : (s : List ℕ) (es : List Entry) → first (objectOrder s es) ≡ 0 → length es ≤ 32
 unfolding first objectOrder

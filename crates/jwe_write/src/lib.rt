@@ -3,69 +3,51 @@
 ghost use mathlib.Core.Path.{_≡_};
 ghost use mathlib.Core.Bool.{true};
 ghost use mathlib.Core.List.{_∷_};
-ghost use Prim.Native.Nat.{_+_, _*_, _≤_, min};
+ghost use Prim.Native.Nat.{_+_, _≤_, min};
 ghost use lib.ListN.{length};
 ghost use Rattle.prelude.specs.Buffer.{written};
 ghost use Rattle.prelude.specs.Limits.{headerRoom};
 ghost use Rattle.base64url.specs.Base64url.{encoded};
 ghost use Rattle.names.specs.Names.{names, filled};
-ghost use Rattle.rows.specs.Tables.{entriesOf, width};
-ghost use Rattle.prelude.specs.Refusals.{first};
+ghost use Rattle.rows.specs.Rows.{oneText};
+ghost use Rattle.prelude.specs.Refusals.{first, stageOf};
+ghost use Rattle.jose.specs.HeaderRules.{modeIn};
 ghost use Rattle.prelude.specs.Ascii.{fullStop};
 ghost use Rattle.headers.specs.Headers.{textOrder, protectedEntries};
-ghost use Rattle.jwe_write.specs.Write.{raw, compactText, writerRules, parametersOrder};
+ghost use Rattle.jwe_write.specs.Write.{raw, compactText, parametersOrder};
 ghost use Rattle.jwe_write.specs.Answers.{WritesCompact};
+use jose::Sizes;
 use json::Found;
 use prelude::Stage;
 
-// What the writer answers: the octets written, or the refusal's number.
-pub enum Written {
-    Octets(usize),
-    Refused(u32),
-}
+// The header
 
-// The header: a refusal's number, or 0
-
-// 6 and 7 on its text.
-fn text_refusal(header: &[u8]) -> u32
-    ensures { λ r. ⌜ r ≡ first (textOrder (now (header .entry))) ⌝ }
+// 6 and 7 on its text: how long it is.
+fn text(header: &[u8]) -> Stage
+    ensures { λ r. ⌜ r ≡ stageOf (first (textOrder (now (header .entry)))) (length (now (header .entry))) ⌝ }
 {
     if 4096 < header.len() {
-        return 6;
+        return Stage::Refused(6);
     }
     let judged = json::judge(header, 12);
     let Found::Value(_, _) = judged else {
-        return 7;
+        return Stage::Refused(7);
     };
-    0
+    Stage::Passed(header.len())
 }
 
-// 13 to 18 on its parameters, which a table holds.
-fn rules_refusal(header: &[u8], known: &[u8], table: &[u32], count: usize, no_key: bool) -> u32
-    requires { ⌜ filled (now known) ≡ true ⌝ }
-    requires { ⌜ count * width ≤ length (now table) ⌝ }
-    requires { ⌜ entriesOf count (now table) ≡ protectedEntries (now header) ⌝ }
-    ensures { λ r. ⌜ r ≡ first (writerRules (names (now (known .entry))) (now (header .entry)) (protectedEntries (now (header .entry))) «no_key») ⌝ }
-{
-    let judged = jose::judge::judge_protected(header, known, table, count, no_key);
-    let Stage::Refused(n) = judged else {
-        return 0;
-    };
-    n
-}
-
-// 8, 9 and 13 to 18 on it.
-fn parameters_refusal(header: &[u8], known: &[u8], no_key: bool) -> u32
+// 8, 9 and 13 to 18 on its parameters: the mode of the algorithm.
+fn parameters(header: &[u8], known: &[u8], sizes: Sizes) -> Stage
     requires { ⌜ length (now header) ≤ headerRoom ⌝ }
     requires { ⌜ filled (now known) ≡ true ⌝ }
-    ensures { λ r. ⌜ r ≡ first (parametersOrder (names (now (known .entry))) (now (header .entry)) «no_key») ⌝ }
+    ensures { λ r. ⌜ r ≡ stageOf (first (parametersOrder (names (now (known .entry))) (now (header .entry)) sizes)) (modeIn (oneText (now (header .entry))) (protectedEntries (now (header .entry)))) ⌝ }
 {
     let mut table = [0u32; 256];
     let collected = headers::protected_entries(header, &mut table);
-    match collected {
-        Stage::Refused(n) => n,
-        Stage::Passed(count) => rules_refusal(header, known, &table, count, no_key),
-    }
+    let Stage::Passed(count) = collected else {
+        return collected;
+    };
+    jose::judge::judge_protected(header, known, &table, count, sizes)
 }
 
 // The message
@@ -101,7 +83,7 @@ fn put(octets: &[u8], out: &mut [u8], at: usize) -> usize
     base64url::encode_at(octets, out, at)
 }
 
-// A full stop and a component, likewise.
+// A full stop and a component encoded, written from a position on. Answers the position after them.
 fn put_next(octets: &[u8], out: &mut [u8], at: usize) -> usize
     requires { ⌜ at + length (fullStop ∷ encoded (now octets)) ≤ length (now out) ⌝ }
     ensures { λ r. ⌜ r ≡ at + length (fullStop ∷ encoded (now (octets .entry))) ⌝ }
@@ -132,7 +114,8 @@ fn put_message(
 }
 
 // Writes the compact message of a header's text and the raw other components. `known` lists the extension names that the
-// caller knows. The message is at the output's start, and the rest of it is unchanged; refused, all of it is.
+// caller knows. It answers the octets written, which are the message, at the output's start; the rest of the output is
+// unchanged. Refused, all of it is.
 pub fn write(
     header: &[u8],
     key: &[u8],
@@ -141,26 +124,32 @@ pub fn write(
     tag: &[u8],
     known: &[u8],
     out: &mut [u8],
-) -> Written
+) -> Stage
     ensures { λ r. ⌜ WritesCompact (raw (now (header .entry)) (now (key .entry)) (now (iv .entry)) (now (ciphertext .entry)) (now (tag .entry))) (now (known .entry)) (now (out .entry)) r (now (out .exit)) ⌝ }
 {
     if !names::sound(known) {
-        return Written::Refused(3);
+        return Stage::Refused(3);
     }
-    let text = text_refusal(header);
-    if text != 0 {
-        return Written::Refused(text);
-    }
-    let rules = parameters_refusal(header, known, key.len() == 0);
-    if rules != 0 {
-        return Written::Refused(rules);
-    }
+    let read = text(header);
+    let Stage::Passed(_) = read else {
+        return read;
+    };
+    let sizes = Sizes {
+        key: key.len(),
+        iv: iv.len(),
+        ciphertext: ciphertext.len(),
+        tag: tag.len(),
+    };
+    let ruled = parameters(header, known, sizes);
+    let Stage::Passed(_) = ruled else {
+        return ruled;
+    };
     let n = message_length(header, key, iv, ciphertext, tag);
     if 16777216 < n {
-        return Written::Refused(2);
+        return Stage::Refused(2);
     }
     if out.len() < n {
-        return Written::Refused(1);
+        return Stage::Refused(1);
     }
-    Written::Octets(put_message(header, key, iv, ciphertext, tag, out))
+    Stage::Passed(put_message(header, key, iv, ciphertext, tag, out))
 }

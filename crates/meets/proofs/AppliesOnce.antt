@@ -80,7 +80,7 @@ module _ (message : List ℕ) (n : ℕ) (ps : Parts) (names : NamesStand message
     (shown : EverywhereIn (Shown 12 message) ps) (sits : EverywhereIn (Sits message 1) ps)
     (passed : Passed message n (entriesAt message ps)) where
   abbrev Distinct : Parts → Type 0
-  Distinct rs = NamesStand message rs × (repeated false message message (entriesAt message rs) ≡ false)
+  Distinct rs = NamesStand message rs × (repeated false (oneText message) (entriesAt message rs) ≡ false)
 
   element-stands : (v x : Placed) → MemberAt message (ascii "recipients") v ps → PartAt n x (partsOf v) →
       Distinct (partsOf x)
@@ -90,14 +90,14 @@ module _ (message : List ℕ) (n : ℕ) (ps : Parts) (names : NamesStand message
       (everywhere-here (Sits message 1) x here .names, twice)
     where
       cases : Missing message 4 (ascii "recipients") ps ⊎ Found message 4 (ascii "recipients") ps →
-          repeated false message message (entriesAt message (partsOf x)) ≡ false
+          repeated false (oneText message) (entriesAt message (partsOf x)) ≡ false
       cases (inl a) = absurd (no-member message (ascii "recipients") v ps (a .none) m)
       cases (inr f) =
           let same = member-once message (ascii "recipients") ps names (passed .repeats) v (f .value) m (f .there) in
           element-distinct message n ps names shown sits passed f x
           (subst (λ (u : Placed). PartAt n x (partsOf u)) same at)
 
-      twice : repeated false message message (entriesAt message (partsOf x)) ≡ false
+      twice : repeated false (oneText message) (entriesAt message (partsOf x)) ≡ false
       twice =
           cases (member-at message 4 (ascii "recipients") (name-recipients .0) (name-recipients .1) ps names)
 

@@ -26,17 +26,17 @@ use Rattle.meets.proofs.CompactHeader.{text-decided, protected-stands, 
 abbrev alone : {header : List ℕ} → Protected header → Headers
 alone p = record { protected = membersRead p; shared = []; own = [] }
 
-module _ (known : List (List ℕ)) (header message : List ℕ) (key : List ℕ) (noKey : Bool)
-    (keyed : (noKey ≡ true) ↔ (key ≡ [])) where
+module _ (known : List (List ℕ)) (header message : List ℕ) (key : List ℕ) (sizes : Sizes)
+    (keyed : (eqb (sizes .key) 0 ≡ true) ↔ (key ≡ [])) where
   -- 12 to 18
   alone-decided : (p : Protected header) → Object (membersRead p) →
-      (first (recipientOrder known header message (protectedEntries header) noKey) ≡ 0) ↔ Rules known (alone p) key
+      (first (recipientOrder known (readTexts header message) (protectedEntries header) sizes) ≡ 0) ↔ Rules known (alone p) key
   alone-decided p o =
       let es = protectedEntries header in
       subst (λ (xs : List Entry).
-      (first (recipientOrder known header message xs noKey) ≡ 0) ↔ Rules known (alone p) key)
+      (first (recipientOrder known (readTexts header message) xs sizes) ≡ 0) ↔ Rules known (alone p) key)
       (append-nil es)
-      (rules-decided known header message (alone p) es [] [] key noKey (protected-stands header message p) tt tt
+      (rules-decided known (readTexts header message) (alone p) es [] [] key sizes (protected-stands header message p) tt tt
       (record { protected = o .distinct; shared = tt; own = tt }) keyed)
 
 -- 19: the one recipient is asked for.
@@ -50,11 +50,11 @@ asked-decided recipient =
 
 -- 6 to 19 of a compact message, by its header.
 abbrev headerOrder : List (List ℕ) → List ℕ → Bool → ℕ → List ℕ → List Test
-headerOrder known message noKey recipient header =
+headerOrder known message sizes recipient header =
     let es = protectedEntries header in
     textOrder header
     ++ (objectOrder header es
-    ++ (recipientOrder known header message es noKey
+    ++ (recipientOrder known (readTexts header message) es sizes
     ++ (19 if leb 1 recipient ∷ [])))
 
 -- What they decide.
@@ -64,16 +64,16 @@ record HeaderMeets (known : List (List ℕ)) (header key : List ℕ) (recipient 
   rules : Rules known (alone protected) key
   asked : recipient < 1
 
-module _ (known : List (List ℕ)) (message : List ℕ) (recipient : ℕ) (header key : List ℕ) (noKey : Bool)
-    (keyed : (noKey ≡ true) ↔ (key ≡ [])) where
-  header-decided : (first (headerOrder known message noKey recipient header) ≡ 0)
+module _ (known : List (List ℕ)) (message : List ℕ) (recipient : ℕ) (header key : List ℕ) (sizes : Sizes)
+    (keyed : (eqb (sizes .key) 0 ≡ true) ↔ (key ≡ [])) where
+  header-decided : (first (headerOrder known message sizes recipient header) ≡ 0)
       ↔ HeaderMeets known header key recipient
   unfolding textOrder objectOrder recipientOrder any
   header-decided =
       let es = protectedEntries header in
       let text = textOrder header in
       let object = objectOrder header es in
-      let rules = recipientOrder known header message es noKey in
+      let rules = recipientOrder known (readTexts header message) es sizes in
       let asked : List Test = 19 if leb 1 recipient ∷ [] in
       let a = first-append text (object ++ (rules ++ asked)) refl in
       let b = first-append object (rules ++ asked) refl in
@@ -87,7 +87,7 @@ module _ (known : List (List ℕ)) (message : List ℕ) (recipient : ℕ) (heade
             record {
               protected = p;
               object = o;
-              rules = alone-decided known header message key noKey keyed p o .0 (v .0);
+              rules = alone-decided known header message key sizes keyed p o .0 (v .0);
               asked = asked-decided recipient .0 (v .1);
             }),
         (λ m.
@@ -97,7 +97,7 @@ module _ (known : List (List ℕ)) (message : List ℕ) (recipient : ℕ) (heade
               b .1 (
                 protected-object header p .1 (m .object),
                 c .1 (
-                  alone-decided known header message key noKey keyed p (m .object) .1 (m .rules),
+                  alone-decided known header message key sizes keyed p (m .object) .1 (m .rules),
                   asked-decided recipient .1 (m .asked),
                 ),
               ),
@@ -119,25 +119,25 @@ module _ (known : List (List ℕ)) (message : List ℕ) (recipient : ℕ) where
         (λ w. let h = s .1 w in t .1 (ap not (h .0), (h .1, tt))),
       )
 
-  abbrev noKey : Bool
-  noKey = eqb (compactComponents message .key .size) 0
+  abbrev sizes : Sizes
+  sizes = sizesOf (compactComponents message)
 
   spelled-meets : (s : Spelled message) →
       (first
-      (headerOrder known message noKey recipient (headerText message (compactComponents message .protected))) ≡ 0)
+      (headerOrder known message sizes recipient (headerText message (compactComponents message .protected))) ≡ 0)
       ↔ HeaderMeets known (s .header) (s .key) recipient
   spelled-meets s =
       subst (λ (h : List ℕ).
-      (first (headerOrder known message noKey recipient h) ≡ 0) ↔ HeaderMeets known (s .header) (s .key) recipient)
+      (first (headerOrder known message sizes recipient h) ≡ 0) ↔ HeaderMeets known (s .header) (s .key) recipient)
       (sym (spelled-header message s))
-      (header-decided known message recipient (s .header) (s .key) noKey (spelled-key message s))
+      (header-decided known message recipient (s .header) (s .key) sizes (spelled-key message s))
 
   pub compact-decided : (first (compactOrder message known recipient) ≡ 0)
       ↔ (Compact known message × (recipient < 1))
   unfolding compactOrder any
   compact-decided =
       let header = headerText message (compactComponents message .protected) in
-      let t = first-append spellingOrder (headerOrder known message noKey recipient header) refl in (
+      let t = first-append spellingOrder (headerOrder known message sizes recipient header) refl in (
         (λ e.
             let h = t .0 e in
             let s = spelling-order .0 (h .0) in

@@ -17,7 +17,7 @@ use Rattle.grammar.specs.Reader.{elementsAt}
 use Rattle.grammar.specs.Bounds.{Every}
 use Rattle.names.specs.Names.{numberIn}
 use Rattle.prelude.specs.Any.{any, anyPair}
-use Rattle.rows.specs.Rows.{Entry, textOf, nameIn, numbered}
+use Rattle.rows.specs.Rows.{Entry, Texts, textOf, nameIn, numbered}
 use Rattle.jose.specs.Registered.{registered, crit}
 use Rattle.jose.specs.HeaderRules.{spelledElement, unknown, sameElement, nameSays, misplaced, isEmpty, wrongCrit}
 use Rattle.jose.specs.HeaderRules.{critical}
@@ -70,8 +70,8 @@ empty-where s [] (y ∷ ys) z = absurd z
 empty-where s (x ∷ xs) [] z = absurd z
 empty-where s (x ∷ xs) (y ∷ ys) z = ((λ e p. omega (arith, ap length p)), (λ n. refl))
 
-module _ (known : List (List ℕ)) (header message : List ℕ) (ps : List Member) (es : List Entry)
-    (z : OneForOne (Seen registered header message) ps es) (s : List ℕ) where
+module _ (known : List (List ℕ)) (ts : Texts) (ps : List Member) (es : List Entry)
+    (z : OneForOne (Seen registered ts) ps es) (s : List ℕ) where
   -- An element
 
   abbrev Placed : Str → Type 0
@@ -84,14 +84,14 @@ module _ (known : List (List ℕ)) (header message : List ℕ) (ps : List Member
         (ap (λ (k : ℕ). not (eqb k 2) || eqb (numberIn known (spelledElement s y)) 0) (r .kinds))
         (number-where (spelledElement s y) x (r .spells) known)
 
-    placed-where : FalseWhere (misplaced header message es s y) (Placed x)
+    placed-where : FalseWhere (misplaced ts es s y) (Placed x)
     placed-where =
         let w = spelledElement s y in
-        neither (not (eqb (numberIn registered w) 0)) (not (any (nameSays header message w) es))
+        neither (not (eqb (numberIn registered w) 0)) (not (any (nameSays ts w) es))
         (not-false-where (eqb (numberIn registered w) 0) (number-where w x (r .spells) registered))
-        (not-where (any (nameSays header message w) es)
-        (some-where (Seen registered header message) (λ m. SayAlike (m .name) x) (nameSays header message w) ps es
-        (λ p e t. alike-spells (nameIn header message e) (p .name) (t .spells) w x (r .spells))
+        (not-where (any (nameSays ts w) es)
+        (some-where (Seen registered ts) (λ m. SayAlike (m .name) x) (nameSays ts w) ps es
+        (λ p e t. alike-spells (nameIn ts e) (p .name) (t .spells) w x (r .spells))
         z))
 
   -- Elements that are strings
@@ -100,30 +100,30 @@ module _ (known : List (List ℕ)) (header message : List ℕ) (ps : List Member
   Asked xs = (xs ≡ [] → ⊥) × (Every (Among known) xs × (Distinct xs × Every Placed xs))
 
   strings-where : (xs : List Str) (ys : List Element) → OneForOne (StringStands s) xs ys →
-      FalseWhere (wrongCrit known header message es s ys) (Asked xs)
+      FalseWhere (wrongCrit known ts es s ys) (Asked xs)
   unfolding wrongCrit
   strings-where xs ys u =
       let a = any (unknown known s) ys in
       let b = anyPair (sameElement s) ys in
-      let c = any (misplaced header message es s) ys in
+      let c = any (misplaced ts es s) ys in
       neither (isEmpty ys) (a || (b || c)) (empty-where s xs ys u)
       (neither a (b || c) (every-where (StringStands s) (Among known) (unknown known s) xs ys known-where u)
       (neither b c
       (distinct-where (StringStands s) (sameElement s)
       (λ x w y v r t. alike-spells (spelledElement s y) x (r .spells) (spelledElement s v) w (t .spells))
       xs ys u)
-      (every-where (StringStands s) Placed (misplaced header message es s) xs ys placed-where u)))
+      (every-where (StringStands s) Placed (misplaced ts es s) xs ys placed-where u)))
 
   -- The elements of an array
 
   crit-where : (v : Value) (ys : List Element) → OneForOne (ElementStands s) (elementsOf v) ys →
-      FalseWhere (wrongCrit known header message es s ys) (Critical known ps v)
+      FalseWhere (wrongCrit known ts es s ys) (Critical known ps v)
   unfolding wrongCrit
   crit-where v ys u = (
     (λ e.
         let a = any (unknown known s) ys in
         let b = anyPair (sameElement s) ys in
-        let c = any (misplaced header message es s) ys in
+        let c = any (misplaced ts es s) ys in
         let strings = or-false a (b || c) .0 (or-false (isEmpty ys) (a || (b || c)) .0 e .1) .0 in
         let (xs, p) = all-strings known s (elementsOf v) ys u strings in
         let stand = strings-stand s xs ys (subst (λ (vs : List Value). OneForOne (ElementStands s) vs ys) p u) in
@@ -153,19 +153,19 @@ unfolding any equal ascii arrayNames
 crit-array = refl
 
 -- 17, where 14 does not refuse
-pub critical-decided : (known : List (List ℕ)) (header message : List ℕ) (ps : List Member) (es : List Entry) →
-    OneForOne (Seen registered header message) ps es → OfKind arrayNames 1 ps →
-    (any (critical known header message es) es ≡ false) ↔ EveryNamed (ascii "crit") (Critical known ps) ps
-critical-decided known header message ps es z arrays =
-    every-where (λ m e. Seen registered header message m e × (Among arrayNames (m .name) → kind (m .value) ≡ 1))
-    (λ m. HasOctets (m .name) (ascii "crit") → Critical known ps (m .value)) (critical known header message es) ps es
+pub critical-decided : (known : List (List ℕ)) (ts : Texts) (ps : List Member) (es : List Entry) →
+    OneForOne (Seen registered ts) ps es → OfKind arrayNames 1 ps →
+    (any (critical known ts es) es ≡ false) ↔ EveryNamed (ascii "crit") (Critical known ps) ps
+critical-decided known ts ps es z arrays =
+    every-where (λ m e. Seen registered ts m e × (Among arrayNames (m .name) → kind (m .value) ≡ 1))
+    (λ m. HasOctets (m .name) (ascii "crit") → Critical known ps (m .value)) (critical known ts es) ps es
     (λ p e r.
-    let s = textOf header message (e .origin) in
+    let s = textOf ts (e .origin) in
     let at = e .member .valueStart in
-    where-asked (numbered crit e) (wrongCrit known header message es s (elementsAt 12 s at))
-    (numbered-where registered header message p e (r .0) crit (ascii "crit") crit-number)
+    where-asked (numbered crit e) (wrongCrit known ts es s (elementsAt 12 s at))
+    (numbered-where registered ts p e (r .0) crit (ascii "crit") crit-number)
     (λ h.
-    crit-where known header message ps es z s (p .value) (elementsAt 12 s at)
+    crit-where known ts ps es z s (p .value) (elementsAt 12 s at)
     (elements-stand s (p .value) at (e .member .valueSize) (r .0 .stands)
     (r .1 (among-of (p .name) (ascii "crit") arrayNames crit-array h)))))
-    (zip-with (Seen registered header message) (λ m. Among arrayNames (m .name) → kind (m .value) ≡ 1) ps es z arrays)
+    (zip-with (Seen registered ts) (λ m. Among arrayNames (m .name) → kind (m .value) ≡ 1) ps es z arrays)

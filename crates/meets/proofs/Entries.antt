@@ -12,7 +12,7 @@ use Rattle.grammar.specs.Strings.{SayAlike, HasOctets}
 use Rattle.grammar.specs.Bounds.{Every}
 use Rattle.names.specs.Names.{numberIn}
 use Rattle.prelude.specs.Any.{any, anyPair}
-use Rattle.rows.specs.Rows.{Entry, textOf, entryOf, entriesIn, nameIn, valueIn, numbered}
+use Rattle.rows.specs.Rows.{Entry, Texts, textOf, entryOf, entriesIn, nameIn, valueIn, numbered}
 use Rattle.meets.specs.Members.{Member, Among, Distinct, Apart}
 use Rattle.meets.specs.Rules.{ValueAmong}
 use Rattle.meets.proofs.OneForOne.{OneForOne, zip-into, zip-map-right}
@@ -22,53 +22,53 @@ use Rattle.meets.proofs.Deciding.{TrueWhere, FalseWhere, neither, every
 use Rattle.meets.proofs.Numbering.{number-where, disagrees, numbers-decide}
 
 -- An entry of origin o that is made of a row where the member stands; its number counts `names`.
-pub record EntryStands (names : List (List ℕ)) (header message : List ℕ) (o : ℕ) (p : Member) (e : Entry) : Type 0 where
+pub record EntryStands (names : List (List ℕ)) (ts : Texts) (o : ℕ) (p : Member) (e : Entry) : Type 0 where
   pub row : places.Member
-  pub made : e ≡ entryOf names (textOf header message o) o row
-  pub stands : MemberStands (textOf header message o) p row
+  pub made : e ≡ entryOf names (textOf ts o) o row
+  pub stands : MemberStands (textOf ts o) p row
 
 -- What is read of it, whatever its origin.
-pub record Seen (names : List (List ℕ)) (header message : List ℕ) (p : Member) (e : Entry) : Type 0 where
-  pub spells : Spells (nameIn header message e) (p .name)
-  pub number : e .number ≡ numberIn names (nameIn header message e)
+pub record Seen (names : List (List ℕ)) (ts : Texts) (p : Member) (e : Entry) : Type 0 where
+  pub spells : Spells (nameIn ts e) (p .name)
+  pub number : e .number ≡ numberIn names (nameIn ts e)
   pub kinds : e .member .kind ≡ kind (p .value)
-  pub stands : Stands (textOf header message (e .origin)) (p .value) (e .member .valueStart) (e .member .valueSize)
+  pub stands : Stands (textOf ts (e .origin)) (p .value) (e .member .valueStart) (e .member .valueSize)
 
-module _ (names : List (List ℕ)) (header message : List ℕ) where
+module _ (names : List (List ℕ)) (ts : Texts) where
   -- The entries of rows where members stand.
   pub entries-stand : (o : ℕ) (ps : List Member) (ms : List places.Member) →
-      OneForOne (MemberStands (textOf header message o)) ps ms →
-      OneForOne (EntryStands names header message o) ps (entriesIn names (textOf header message o) o ms)
+      OneForOne (MemberStands (textOf ts o)) ps ms →
+      OneForOne (EntryStands names ts o) ps (entriesIn names (textOf ts o) o ms)
   unfolding entriesIn
   entries-stand o ps ms z =
-      let s = textOf header message o in
-      zip-map-right (EntryStands names header message o) (entryOf names s o) ps ms .0
-      (zip-into (MemberStands s) (λ p m. EntryStands names header message o p (entryOf names s o m))
+      let s = textOf ts o in
+      zip-map-right (EntryStands names ts o) (entryOf names s o) ps ms .0
+      (zip-into (MemberStands s) (λ p m. EntryStands names ts o p (entryOf names s o m))
       (λ p m r. record { row = m; made = refl; stands = r }) ps ms z)
 
-  pub entry-seen : (o : ℕ) (p : Member) (e : Entry) → EntryStands names header message o p e →
-      Seen names header message p e
+  pub entry-seen : (o : ℕ) (p : Member) (e : Entry) → EntryStands names ts o p e →
+      Seen names ts p e
   entry-seen o p e r =
-      subst (Seen names header message p) (sym (r .made)) (record {
-        spells = name-spells (textOf header message o) p (r .row) (r .stands);
+      subst (Seen names ts p) (sym (r .made)) (record {
+        spells = name-spells (textOf ts o) p (r .row) (r .stands);
         number = refl;
         kinds = r .stands .kinds;
         stands = r .stands .stands;
       })
 
-  pub entry-origin : (o : ℕ) (p : Member) (e : Entry) → EntryStands names header message o p e → e .origin ≡ o
+  pub entry-origin : (o : ℕ) (p : Member) (e : Entry) → EntryStands names ts o p e → e .origin ≡ o
   entry-origin o p e r = ap (λ (f : Entry). f .origin) (r .made)
 
 -- Names and numbers
 
-module _ (names : List (List ℕ)) (header message : List ℕ) (p : Member) (e : Entry)
-    (r : Seen names header message p e) where
+module _ (names : List (List ℕ)) (ts : Texts) (p : Member) (e : Entry)
+    (r : Seen names ts p e) where
   -- A test on numbers that agrees with some names decides whether the member has one of them ..
   pub named-where : (f : ℕ → Bool) (ws : List (List ℕ)) → disagrees names f ws ≡ false →
       TrueWhere (f (e .number)) (Among ws (p .name))
   named-where f ws a =
       subst (λ (n : ℕ). TrueWhere (f n) (Among ws (p .name))) (sym (r .number))
-      (numbers-decide names f ws a (nameIn header message e) (p .name) (r .spells))
+      (numbers-decide names f ws a (nameIn ts e) (p .name) (r .spells))
 
   -- .. so being numbered n decides whether it has the n-th name.
   pub numbered-where : (n : ℕ) (w : List ℕ) → disagrees names (λ m. eqb m n) (w ∷ []) ≡ false →
@@ -81,15 +81,15 @@ module _ (names : List (List ℕ)) (header message : List ℕ) (p : Member) (e :
 
   -- A string value is listed exactly where it is found among the names.
   pub value-where : (ws : List (List ℕ)) → kind (p .value) ≡ 2 →
-      FalseWhere (eqb (numberIn ws (valueIn header message e)) 0) (ValueAmong ws (p .value))
+      FalseWhere (eqb (numberIn ws (valueIn ts e)) 0) (ValueAmong ws (p .value))
   value-where ws k =
       let (x, i) = kind-string (p .value) k in
-      let s = textOf header message (e .origin) in
+      let s = textOf ts (e .origin) in
       let at = e .member .valueStart in
       let size = e .member .valueSize in
       let t = string-spells s x at size (subst (λ (v : Value). Stands s v at size) i (r .stands)) in
-      subst (λ (v : Value). FalseWhere (eqb (numberIn ws (valueIn header message e)) 0) (ValueAmong ws v)) (sym i)
-      (number-where (valueIn header message e) x t ws)
+      subst (λ (v : Value). FalseWhere (eqb (numberIn ws (valueIn ts e)) 0) (ValueAmong ws v)) (sym i)
+      (number-where (valueIn ts e) x t ws)
 
 -- Strings that say the same
 

@@ -155,9 +155,9 @@ module _ (message : List ℕ) (n : ℕ) (ps : Parts) (names : NamesStand message
       element-passes = ap (any (wrongInElement message)) (sym element-entries) ∙ element-order .1 .1 .0
 
       -- No name stands twice in it.
-      pub element-distinct : repeated false message message (entriesAt message (partsOf x)) ≡ false
+      pub element-distinct : repeated false (oneText message) (entriesAt message (partsOf x)) ≡ false
       unfolding elementOrder objectOrder
-      element-distinct = ap (repeated false message message) (sym element-entries) ∙ element-order .1 .0
+      element-distinct = ap (repeated false (oneText message)) (sym element-entries) ∙ element-order .1 .0
 
       element-own : RowsOf message (ascii "header") (partsOf x) (membersOf message (recipientAt (elementOf x) .header))
       element-own =

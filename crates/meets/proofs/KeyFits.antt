@@ -14,13 +14,14 @@ use Rattle.grammar.specs.Bounds.{Every}
 use Rattle.grammar.proofs.Theorems.{says-octets}
 use Rattle.names.specs.Names.{numberIn}
 use Rattle.names.proofs.Laws.{number-alike}
-use Rattle.rows.specs.Rows.{Entry, textOf, valueIn, numbered}
+use Rattle.rows.specs.Rows.{Entry, Texts, textOf, valueIn, numbered}
 use Rattle.algorithms.specs.declared.Alg.{Alg}
 use Rattle.algorithms.specs.declared.Alg.the-variants.{Rsa15, RsaOaep, RsaOaep256, A128Kw, A192Kw, A256Kw}
 use Rattle.algorithms.specs.declared.Alg.the-variants.{A128GcmKw, A192GcmKw, A256GcmKw, Pbes2A128Kw}
 use Rattle.algorithms.specs.declared.Alg.the-variants.{Pbes2A192Kw, Pbes2A256Kw, EcdhEs, EcdhEsA128Kw}
 use Rattle.algorithms.specs.declared.Alg.the-variants.{EcdhEsA192Kw, EcdhEsA256Kw, Dir}
 use Rattle.algorithms.specs.Algorithms.{algs, algName, mode, algNames, nth, modeOf}
+use Rattle.jose.specs.declared.Sizes.{Sizes}
 use Rattle.jose.specs.Registered.{registered, alg}
 use Rattle.jose.specs.HeaderRules.{modeIn, keyless, wrongKey}
 use Rattle.meets.specs.Members.{Member, namesOf, Some, Among, Distinct, Absent}
@@ -45,9 +46,9 @@ xor-where false false w v = (
   (λ r. refl),
 )
 
-key-where : (m : ℕ) (key : List ℕ) (noKey : Bool) → (noKey ≡ true) ↔ (key ≡ []) →
-    FalseWhere (wrongKey m noKey) (KeyFits m key)
-key-where m key noKey k = xor-where (keyless m) noKey (either (eqb m 3) (eqb m 5) (eqb-where m 3) (eqb-where m 5)) k
+key-where : (m : ℕ) (key : List ℕ) (z : Sizes) → (eqb (z .key) 0 ≡ true) ↔ (key ≡ []) →
+    FalseWhere (wrongKey m z) (KeyFits m key)
+key-where m key z k = xor-where (keyless m) (eqb (z .key) 0) (either (eqb m 3) (eqb m 5) (eqb-where m 3) (eqb-where m 5)) k
 
 -- Algorithms
 
@@ -95,10 +96,10 @@ same-octets : (x y : Str) (w : List ℕ) → T (sayable x) → T (sayable y) →
 unfolding says
 same-octets x y w s t p q = ap points (sym (says-octets x s) ∙ p ∙ sym q ∙ says-octets y t)
 
-module _ (header message : List ℕ) where
+module _ (ts : Texts) where
   -- So a name stands once where no name stands twice.
   once : (x : Str) (w : List ℕ) → T (sayable x) → HasOctets x w → (ps : List Member) (es : List Entry) →
-      OneForOne (Seen registered header message) ps es → Every (λ y. SayAlike x y → ⊥) (namesOf ps) → Absent w ps
+      OneForOne (Seen registered ts) ps es → Every (λ y. SayAlike x y → ⊥) (namesOf ps) → Absent w ps
   once x w s p [] es z h = tt
   once x w s p (m ∷ ms) [] z h = absurd z
   once x w s p (m ∷ ms) (e ∷ es) z h = (
@@ -108,20 +109,20 @@ module _ (header message : List ℕ) where
 
   -- The mode that an entry names.
   abbrev here : Entry → ℕ
-  here e = modeOf (nth algs (numberIn algNames (valueIn header message e)))
+  here e = modeOf (nth algs (numberIn algNames (valueIn ts e)))
 
-  mode-here : (p : Member) (e : Entry) → Seen registered header message p e → (a : Alg) → Names a (p .value) →
+  mode-here : (p : Member) (e : Entry) → Seen registered ts p e → (a : Alg) → Names a (p .value) →
       here e ≡ mode a
   mode-here p e r a h =
       let (x, i, among) = is-string (Among (algName a ∷ [])) (p .value) .0 h in
-      let s = textOf header message (e .origin) in
+      let s = textOf ts (e .origin) in
       let at = e .member .valueStart in
       let size = e .member .valueSize in
       let t = string-spells s x at size (subst (λ (v : Value). Stands s v at size) i (r .stands)) in
       let has : HasOctets x (algName a) = elim among [ inl q ↦ q | inr n ↦ absurd n ] in
-      let u : undo (valueIn header message e) ≡ undo (algName a) =
-      octets-undone (valueIn header message e) x t (algName a) has ∙ sym (alg-mode a .0) in
-      ap (λ (n : ℕ). modeOf (nth algs n)) (number-alike algNames (valueIn header message e) (algName a) u)
+      let u : undo (valueIn ts e) ≡ undo (algName a) =
+      octets-undone (valueIn ts e) x t (algName a) has ∙ sym (alg-mode a .0) in
+      ap (λ (n : ℕ). modeOf (nth algs n)) (number-alike algNames (valueIn ts e) (algName a) u)
       ∙ alg-mode a .1
 
   -- What is asked of the mode of each algorithm that an `alg` names.
@@ -129,9 +130,9 @@ module _ (header message : List ℕ) where
     abbrev pub Asked : Alg → Value → Type 0
     Asked a v = Names a v → Q (mode a)
 
-    pub mode-where : (ps : List Member) (es : List Entry) → OneForOne (Seen registered header message) ps es →
+    pub mode-where : (ps : List Member) (es : List Entry) → OneForOne (Seen registered ts) ps es →
         Distinct (namesOf ps) → Present (ascii "alg") ps → EveryNamed (ascii "alg") (ValueAmong algNames) ps →
-        Q (modeIn header message es) ↔ ((a : Alg) → EveryNamed (ascii "alg") (Asked a) ps)
+        Q (modeIn ts es) ↔ ((a : Alg) → EveryNamed (ascii "alg") (Asked a) ps)
     unfolding modeIn
     mode-where [] es z d i l = absurd i
     mode-where (p ∷ ps) [] z d i l = absurd z
@@ -139,12 +140,12 @@ module _ (header message : List ℕ) where
         cases (numbered alg e) refl (λ j. mode-where ps es (z .1) (d .1) j (l .1))
       where
         named : TrueWhere (numbered alg e) (HasOctets (p .name) (ascii "alg"))
-        named = numbered-where registered header message p e (z .0) alg (ascii "alg") alg-number
+        named = numbered-where registered ts p e (z .0) alg (ascii "alg") alg-number
 
         cases : (b : Bool) → numbered alg e ≡ b →
             (Present (ascii "alg") ps →
-            Q (modeIn header message es) ↔ ((a : Alg) → EveryNamed (ascii "alg") (Asked a) ps)) →
-            Q (cond b (here e) (modeIn header message es)) ↔ ((a : Alg) → EveryNamed (ascii "alg") (Asked a) (p ∷ ps))
+            Q (modeIn ts es) ↔ ((a : Alg) → EveryNamed (ascii "alg") (Asked a) ps)) →
+            Q (cond b (here e) (modeIn ts es)) ↔ ((a : Alg) → EveryNamed (ascii "alg") (Asked a) (p ∷ ps))
         cases true t later =
             let n = named .0 t in
             let none = once (p .name) (ascii "alg") (z .0 .spells .sayable) n ps es (z .1) (d .0) in
@@ -164,11 +165,11 @@ module _ (header message : List ℕ) where
             )
 
   -- 18, where 13 and 15 do not refuse and no name stands twice
-  pub key-decided : (ps : List Member) (es : List Entry) (key : List ℕ) (noKey : Bool) →
-      OneForOne (Seen registered header message) ps es → Distinct (namesOf ps) → Present (ascii "alg") ps →
-      EveryNamed (ascii "alg") (ValueAmong algNames) ps → (noKey ≡ true) ↔ (key ≡ []) →
-      (wrongKey (modeIn header message es) noKey ≡ false)
+  pub key-decided : (ps : List Member) (es : List Entry) (key : List ℕ) (sizes : Sizes) →
+      OneForOne (Seen registered ts) ps es → Distinct (namesOf ps) → Present (ascii "alg") ps →
+      EveryNamed (ascii "alg") (ValueAmong algNames) ps → (eqb (sizes .key) 0 ≡ true) ↔ (key ≡ []) →
+      (wrongKey (modeIn ts es) sizes ≡ false)
       ↔ ((a : Alg) →
       EveryNamed (ascii "alg") (λ v. ValueAmong (algName a ∷ []) v → KeyFits (mode a) key) ps)
-  key-decided ps es key noKey z d i l k =
-      Iff·trans (key-where (modeIn header message es) key noKey k) (mode-where (λ m. KeyFits m key) ps es z d i l)
+  key-decided ps es key sizes z d i l k =
+      Iff·trans (key-where (modeIn ts es) key sizes k) (mode-where (λ m. KeyFits m key) ps es z d i l)

@@ -76,25 +76,25 @@ members-later s v at size h e =
     subst (λ (ms : List places.Member). Every Later ms) (sym rows ∙ ap (membersAt 12 s) there) (rows-later v (h .from))
 
 -- Entries of rows where members stand.
-pub entries-of : (names : List (List ℕ)) (header message : List ℕ) (o : ℕ) (ps : List Member)
-    (rows : List places.Member) → OneForOne (MemberStands (textOf header message o)) ps rows →
-    OneForOne (EntryStands names header message o) ps (entriesIn names (textOf header message o) o rows)
+pub entries-of : (names : List (List ℕ)) (ts : Texts) (o : ℕ) (ps : List Member)
+    (rows : List places.Member) → OneForOne (MemberStands (textOf ts o)) ps rows →
+    OneForOne (EntryStands names ts o) ps (entriesIn names (textOf ts o) o rows)
 unfolding entriesIn
-entries-of names header message o ps rows z =
-    zip-map-right (EntryStands names header message o) (entryOf names (textOf header message o) o) ps rows .0
-    (zip-into (MemberStands (textOf header message o))
-    (λ p m. EntryStands names header message o p (entryOf names (textOf header message o) o m))
+entries-of names ts o ps rows z =
+    zip-map-right (EntryStands names ts o) (entryOf names (textOf ts o) o) ps rows .0
+    (zip-into (MemberStands (textOf ts o))
+    (λ p m. EntryStands names ts o p (entryOf names (textOf ts o) o m))
     (λ p m h. record { row = m; made = refl; stands = h }) ps rows z)
 
 -- A member of an object of the message and its entry.
 pub record Held (message : List ℕ) (p : Member) (e : Entry) : Type 0 where
-  pub seen : Seen memberNames message message p e
+  pub seen : Seen memberNames (oneText message) p e
   pub stands : Stands message (p .value) (e .member .valueStart) (e .member .valueSize)
   pub later : 1 ≤ e .member .valueStart
 
 -- An object of the message and its entries.
 pub record Holds (message : List ℕ) (ps : List Member) (es : List Entry) : Type 0 where
-  pub entries : OneForOne (EntryStands memberNames message message 1) ps es
+  pub entries : OneForOne (EntryStands memberNames (oneText message) 1) ps es
   pub held : OneForOne (Held message) ps es
 
 module _ (message : List ℕ) where
@@ -106,7 +106,7 @@ module _ (message : List ℕ) where
   held-of (p ∷ ps) (m ∷ rows) z h = (
     record {
       seen =
-          entry-seen memberNames message message 1 p (entryOf memberNames message 1 m)
+          entry-seen memberNames (oneText message) 1 p (entryOf memberNames message 1 m)
           (record { row = m; made = refl; stands = z .0 });
       stands = z .0 .stands;
       later = h .0;
@@ -120,7 +120,7 @@ module _ (message : List ℕ) where
   unfolding memberEntries entriesIn
   object-holds v at size h e =
       let z = members-stand message v at size h e in record {
-        entries = entries-of memberNames message message 1 (membersOf v) (membersAt 12 message at) z;
+        entries = entries-of memberNames (oneText message) 1 (membersOf v) (membersAt 12 message at) z;
         held =
             zip-map-right (Held message) (entryOf memberNames message 1) (membersOf v) (membersAt 12 message at) .0
             (held-of (membersOf v) (membersAt 12 message at) z (members-later message v at size h e));

@@ -12,7 +12,7 @@ use Rattle.grammar.specs.Grammar.{Str}
 use Rattle.grammar.specs.Strings.{SayAlike}
 use Rattle.grammar.specs.Spellings.{alike}
 use Rattle.prelude.specs.Any.{any, anyPair}
-use Rattle.rows.specs.Rows.{Entry, nameIn, apart, same, repeated}
+use Rattle.rows.specs.Rows.{Entry, Texts, oneText, nameIn, apart, same, repeated}
 use Rattle.prelude.specs.Refusals.{first}
 use Rattle.headers.specs.Headers.{objectOrder}
 use Rattle.meets.specs.Members.{Member, namesOf, Distinct, Apart}
@@ -25,61 +25,61 @@ use Rattle.meets.proofs.Deciding.{across-append, no-pair, every-right, 
 use Rattle.meets.proofs.Entries.{EntryStands, entry-seen, entry-origin, apart-where, distinct-where}
 
 -- A name and the entry of origin o that has it.
-record NameStands (header message : List ℕ) (o : ℕ) (x : Str) (e : Entry) : Type 0 where
+record NameStands (ts : Texts) (o : ℕ) (x : Str) (e : Entry) : Type 0 where
   origin : e .origin ≡ o
-  spells : Spells (nameIn header message e) x
+  spells : Spells (nameIn ts e) x
 
-module _ (names : List (List ℕ)) (header message : List ℕ) where
+module _ (names : List (List ℕ)) (ts : Texts) where
   -- The names of members and their entries.
-  names-stand : (o : ℕ) (ps : List Member) (es : List Entry) → OneForOne (EntryStands names header message o) ps es →
-      OneForOne (NameStands header message o) (namesOf ps) es
+  names-stand : (o : ℕ) (ps : List Member) (es : List Entry) → OneForOne (EntryStands names ts o) ps es →
+      OneForOne (NameStands ts o) (namesOf ps) es
   names-stand o ps es z =
-      zip-map-left (NameStands header message o) (λ (p : Member). p .name) ps es .0
-      (zip-into (EntryStands names header message o) (λ p e. NameStands header message o (p .name) e)
+      zip-map-left (NameStands ts o) (λ (p : Member). p .name) ps es .0
+      (zip-into (EntryStands names ts o) (λ p e. NameStands ts o (p .name) e)
       (λ p e r.
-      let t = entry-seen names header message o p e r in record {
-        origin = entry-origin names header message o p e r;
+      let t = entry-seen names ts o p e r in record {
+        origin = entry-origin names ts o p e r;
         spells = t .spells;
       })
       ps es z)
 
 -- Names of origins that are asked for say the same where the test says so.
-module _ (across : Bool) (header message : List ℕ) (o q : ℕ) (a : apart across o q ≡ true) where
-  same-where : (x y : Str) (e f : Entry) → NameStands header message o x e → NameStands header message q y f →
-      TrueWhere (same across header message e f) (SayAlike x y)
+module _ (across : Bool) (ts : Texts) (o q : ℕ) (a : apart across o q ≡ true) where
+  same-where : (x y : Str) (e f : Entry) → NameStands ts o x e → NameStands ts q y f →
+      TrueWhere (same across ts e f) (SayAlike x y)
   same-where x y e f r t =
-      let d = alike-spells (nameIn header message e) x (r .spells) (nameIn header message f) y (t .spells) in
+      let d = alike-spells (nameIn ts e) x (r .spells) (nameIn ts f) y (t .spells) in
       let b : apart across (e .origin) (f .origin) ≡ true = ap₂ (apart across) (r .origin) (t .origin) ∙ a in
-      subst (λ (c : Bool). TrueWhere (c && alike (nameIn header message e) (nameIn header message f)) (SayAlike x y))
+      subst (λ (c : Bool). TrueWhere (c && alike (nameIn ts e) (nameIn ts f)) (SayAlike x y))
       (sym b) d
 
 -- Entries of one origin are not of two.
-one-origin : (header message : List ℕ) (o : ℕ) (e f : Entry) → e .origin ≡ o → f .origin ≡ o →
-    same true header message e f ≡ false
-one-origin header message o e f a b =
-    ap (λ (c : Bool). not c && alike (nameIn header message e) (nameIn header message f))
+one-origin : (ts : Texts) (o : ℕ) (e f : Entry) → e .origin ≡ o → f .origin ≡ o →
+    same true ts e f ≡ false
+one-origin ts o e f a b =
+    ap (λ (c : Bool). not c && alike (nameIn ts e) (nameIn ts f))
     (eq-eqb (e .origin) (f .origin) (a ∙ sym b))
 
 -- 9: no name twice in an object of one text.
 pub distinct-decided : (names : List (List ℕ)) (s : List ℕ) (o : ℕ) (ps : List Member) (es : List Entry) →
-    OneForOne (EntryStands names s s o) ps es → (repeated false s s es ≡ false) ↔ Distinct (namesOf ps)
+    OneForOne (EntryStands names (oneText s) o) ps es → (repeated false (oneText s) es ≡ false) ↔ Distinct (namesOf ps)
 unfolding repeated
 distinct-decided names s o ps es z =
-    distinct-where (NameStands s s o) (same false s s) (same-where false s s o o (eq-eqb o o refl)) (namesOf ps) es
-    (names-stand names s s o ps es z)
+    distinct-where (NameStands (oneText s) o) (same false (oneText s)) (same-where false (oneText s) o o (eq-eqb o o refl)) (namesOf ps) es
+    (names-stand names (oneText s) o ps es z)
 
 -- 8: at most 32 members.
 pub few-decided : (names : List (List ℕ)) (s : List ℕ) (o : ℕ) (ps : List Member) (es : List Entry) →
-    OneForOne (EntryStands names s s o) ps es → (ltb 32 (length es) ≡ false) ↔ (length ps ≤ 32)
+    OneForOne (EntryStands names (oneText s) o) ps es → (ltb 32 (length es) ≡ false) ↔ (length ps ≤ 32)
 few-decided names s o ps es z =
-    let n = zip-length (EntryStands names s s o) ps es z in (
+    let n = zip-length (EntryStands names (oneText s) o) ps es z in (
       (λ e. let h = ltb-false 32 (length es) e in omega arith),
       (λ h. le-ltb 32 (length es) (omega arith)),
     )
 
 -- Both: the object's names may be compared, and none stands twice.
 pub object-decided : (names : List (List ℕ)) (s : List ℕ) (o : ℕ) (ps : List Member) (es : List Entry) →
-    OneForOne (EntryStands names s s o) ps es → (first (objectOrder s es) ≡ 0) ↔ Object ps
+    OneForOne (EntryStands names (oneText s) o) ps es → (first (objectOrder s es) ≡ 0) ↔ Object ps
 unfolding objectOrder any
 object-decided names s o ps es z =
     let t = first-none (objectOrder s es) refl in
@@ -90,30 +90,30 @@ object-decided names s o ps es z =
     )
 
 -- 12: no name stands in two headers.
-module _ (names : List (List ℕ)) (header message : List ℕ) (h : Headers) (ps ss os : List Entry)
-    (zp : OneForOne (EntryStands names header message 0) (h .protected) ps)
-    (zs : OneForOne (EntryStands names header message 1) (h .shared) ss)
-    (zo : OneForOne (EntryStands names header message 2) (h .own) os) where
+module _ (names : List (List ℕ)) (ts : Texts) (h : Headers) (ps ss os : List Entry)
+    (zp : OneForOne (EntryStands names ts 0) (h .protected) ps)
+    (zs : OneForOne (EntryStands names ts 1) (h .shared) ss)
+    (zo : OneForOne (EntryStands names ts 2) (h .own) os) where
   abbrev test : Entry → Entry → Bool
-  test = same true header message
+  test = same true ts
 
   -- Two lists of entries of two origins.
   across-where : (o q : ℕ) → apart true o q ≡ true → (xs ys : List Member) (es fs : List Entry) →
-      OneForOne (EntryStands names header message o) xs es → OneForOne (EntryStands names header message q) ys fs →
+      OneForOne (EntryStands names ts o) xs es → OneForOne (EntryStands names ts q) ys fs →
       FalseWhere (anyAcross test es fs) (Apart (namesOf xs) (namesOf ys))
   across-where o q a xs ys es fs z u =
-      apart-where (NameStands header message o) (NameStands header message q) test
-      (same-where true header message o q a) (namesOf xs) (namesOf ys) es fs
-      (names-stand names header message o xs es z) (names-stand names header message q ys fs u)
+      apart-where (NameStands ts o) (NameStands ts q) test
+      (same-where true ts o q a) (namesOf xs) (namesOf ys) es fs
+      (names-stand names ts o xs es z) (names-stand names ts q ys fs u)
 
-  within : (o : ℕ) (xs : List Member) (es : List Entry) → OneForOne (EntryStands names header message o) xs es →
+  within : (o : ℕ) (xs : List Member) (es : List Entry) → OneForOne (EntryStands names ts o) xs es →
       anyPair test es ≡ false
   within o xs es z =
-      no-pair test (λ e. e .origin ≡ o) (one-origin header message o) es
-      (every-right (EntryStands names header message o) (λ e. e .origin ≡ o) (entry-origin names header message o) xs
+      no-pair test (λ e. e .origin ≡ o) (one-origin ts o) es
+      (every-right (EntryStands names ts o) (λ e. e .origin ≡ o) (entry-origin names ts o) xs
       es z)
 
-  pub names-apart-decided : (repeated true header message (ps ++ (ss ++ os)) ≡ false) ↔ NamesApart h
+  pub names-apart-decided : (repeated true ts (ps ++ (ss ++ os)) ≡ false) ↔ NamesApart h
   unfolding repeated
   names-apart-decided =
       let whole = pair-append test ps (ss ++ os) in

@@ -14,7 +14,7 @@ use Rattle.grammar.specs.Strings.{HasOctets}
 use Rattle.grammar.specs.Spellings.{adds, next, undoFrom, undo, equal, has}
 use Rattle.names.specs.Names.{numberIn}
 use Rattle.prelude.specs.Any.{any}
-use Rattle.rows.specs.Rows.{Entry, valueIn, numbered, present}
+use Rattle.rows.specs.Rows.{Entry, Texts, valueIn, numbered, present}
 use Rattle.algorithms.specs.Algorithms.{algNames, encNames, zipNames}
 use Rattle.jose.specs.Registered.{registered, alg, enc, zip, jwk, x5c, crit, object, array, string, anyKind, kindAsked}
 use Rattle.jose.specs.HeaderRules.{incomplete, wrongKind, unlisted, unprotected}
@@ -102,11 +102,11 @@ Kinds m =
     × (Among objectNames (m .name) → kind (m .value) ≡ 0)
     × (Among arrayNames (m .name) → kind (m .value) ≡ 1)
 
-module _ (header message : List ℕ) (p : Member) (e : Entry) (r : Seen registered header message p e) where
+module _ (ts : Texts) (p : Member) (e : Entry) (r : Seen registered ts p e) where
   -- A kind is asked for exactly where the name is among those that ask for it.
   asks-where : (k : ℕ) (ws : List (List ℕ)) → AsksFor k ws → (kindAsked (e .number) ≡ k) ↔ Among ws (p .name)
   asks-where k ws a =
-      let t = named-where registered header message p e r (λ n. eqb (kindAsked n) k) ws a in
+      let t = named-where registered ts p e r (λ n. eqb (kindAsked n) k) ws a in
       ((λ z. t .0 (eq-eqb (kindAsked (e .number)) k z)), (λ h. eqb-true (kindAsked (e .number)) k (t .1 h)))
 
   kind-where : FalseWhere (wrongKind e) (Kinds p)
@@ -137,12 +137,12 @@ module _ (header message : List ℕ) (p : Member) (e : Entry) (r : Seen register
   -- A parameter that takes a value of a list, where those of its name are strings.
   listed-where : (Among stringNames (p .name) → kind (p .value) ≡ 2) → (n : ℕ) (w : List ℕ) (ws : List (List ℕ)) →
       IsNumber n w → any (equal w) stringNames ≡ true →
-      FalseWhere (numbered n e && eqb (numberIn ws (valueIn header message e)) 0)
+      FalseWhere (numbered n e && eqb (numberIn ws (valueIn ts e)) 0)
       (HasOctets (p .name) w → ValueAmong ws (p .value))
   listed-where k n w ws a i =
-      where-asked (numbered n e) (eqb (numberIn ws (valueIn header message e)) 0)
-      (numbered-where registered header message p e r n w a)
-      (λ h. value-where registered header message p e r ws (k (among-of (p .name) w stringNames i h)))
+      where-asked (numbered n e) (eqb (numberIn ws (valueIn ts e)) 0)
+      (numbered-where registered ts p e r n w a)
+      (λ h. value-where registered ts p e r ws (k (among-of (p .name) w stringNames i h)))
 
   -- The names that are asked for protection.
   outside-where : (eqb (e .origin) 0 ≡ false) →
@@ -150,8 +150,8 @@ module _ (header message : List ℕ) (p : Member) (e : Entry) (r : Seen register
   outside-where o =
       where-true (numbered zip e || numbered crit e) (not (eqb (e .origin) 0)) (ap not o)
       (neither (numbered zip e) (numbered crit e)
-      (refuted (numbered zip e) (numbered-where registered header message p e r zip (ascii "zip") zip-number))
-      (refuted (numbered crit e) (numbered-where registered header message p e r crit (ascii "crit") crit-number)))
+      (refuted (numbered zip e) (numbered-where registered ts p e r zip (ascii "zip") zip-number))
+      (refuted (numbered crit e) (numbered-where registered ts p e r crit (ascii "crit") crit-number)))
 
 -- `alg`, `enc` and the compression parameter are strings.
 
@@ -169,13 +169,13 @@ zip-string = refl
 
 -- All entries
 
-module _ (header message : List ℕ) (ps : List Member) (es : List Entry)
-    (z : OneForOne (Seen registered header message) ps es) where
+module _ (ts : Texts) (ps : List Member) (es : List Entry)
+    (z : OneForOne (Seen registered ts) ps es) where
   present-where : (n : ℕ) (w : List ℕ) → IsNumber n w → TrueWhere (present n es) (Present w ps)
   unfolding present
   present-where n w a =
-      some-where (Seen registered header message) (λ m. HasOctets (m .name) w) (numbered n) ps es
-      (λ p e r. numbered-where registered header message p e r n w a) z
+      some-where (Seen registered ts) (λ m. HasOctets (m .name) w) (numbered n) ps es
+      (λ p e r. numbered-where registered ts p e r n w a) z
 
   -- 13
   pub required-decided : (incomplete es ≡ false) ↔ (Present (ascii "alg") ps × Present (ascii "enc") ps)
@@ -190,7 +190,7 @@ module _ (header message : List ℕ) (ps : List Member) (es : List Entry)
       ↔ (OfKind stringNames 2 ps × OfKind objectNames 0 ps × OfKind arrayNames 1 ps)
   kinds-decided =
       let each =
-      every-where (Seen registered header message) Kinds wrongKind ps es (kind-where header message) z in
+      every-where (Seen registered ts) Kinds wrongKind ps es (kind-where ts) z in
       let three =
       every-three (λ m. Among stringNames (m .name) → kind (m .value) ≡ 2)
       (λ m. Among objectNames (m .name) → kind (m .value) ≡ 0)
@@ -199,27 +199,27 @@ module _ (header message : List ℕ) (ps : List Member) (es : List Entry)
 
   -- 15, where 14 does not refuse
   pub listed-decided : OfKind stringNames 2 ps →
-      (any (unlisted header message) es ≡ false)
+      (any (unlisted ts) es ≡ false)
       ↔ (EveryNamed (ascii "alg") (ValueAmong algNames) ps
       × EveryNamed (ascii "enc") (ValueAmong encNames) ps
       × EveryNamed (ascii "zip") (ValueAmong zipNames) ps)
   listed-decided strings =
       let each =
-      every-where (λ m e. Seen registered header message m e × (Among stringNames (m .name) → kind (m .value) ≡ 2))
+      every-where (λ m e. Seen registered ts m e × (Among stringNames (m .name) → kind (m .value) ≡ 2))
       (λ m.
       (HasOctets (m .name) (ascii "alg") → ValueAmong algNames (m .value))
       × (HasOctets (m .name) (ascii "enc") → ValueAmong encNames (m .value))
       × (HasOctets (m .name) (ascii "zip") → ValueAmong zipNames (m .value)))
-      (unlisted header message) ps es
+      (unlisted ts) ps es
       (λ p e r.
-      let at = listed-where header message p e (r .0) (r .1) in
-      none-of-three (numbered alg e && eqb (numberIn algNames (valueIn header message e)) 0)
-      (numbered enc e && eqb (numberIn encNames (valueIn header message e)) 0)
-      (numbered zip e && eqb (numberIn zipNames (valueIn header message e)) 0)
+      let at = listed-where ts p e (r .0) (r .1) in
+      none-of-three (numbered alg e && eqb (numberIn algNames (valueIn ts e)) 0)
+      (numbered enc e && eqb (numberIn encNames (valueIn ts e)) 0)
+      (numbered zip e && eqb (numberIn zipNames (valueIn ts e)) 0)
       (at alg (ascii "alg") algNames alg-number alg-string)
       (at enc (ascii "enc") encNames enc-number enc-string)
       (at zip (ascii "zip") zipNames zip-number zip-string))
-      (zip-with (Seen registered header message) (λ m. Among stringNames (m .name) → kind (m .value) ≡ 2) ps es z
+      (zip-with (Seen registered ts) (λ m. Among stringNames (m .name) → kind (m .value) ≡ 2) ps es z
       strings) in
       let three =
       every-three (λ m. HasOctets (m .name) (ascii "alg") → ValueAmong algNames (m .value))
@@ -228,20 +228,20 @@ module _ (header message : List ℕ) (ps : List Member) (es : List Entry)
       ((λ e. three .0 (each .0 e)), (λ h. each .1 (three .1 h)))
 
 -- 16: the three headers' entries, of origins 0, 1 and 2
-module _ (header message : List ℕ) (h : Headers) (ps ss os : List Entry)
-    (zp : OneForOne (EntryStands registered header message 0) (h .protected) ps)
-    (zs : OneForOne (EntryStands registered header message 1) (h .shared) ss)
-    (zo : OneForOne (EntryStands registered header message 2) (h .own) os) where
+module _ (ts : Texts) (h : Headers) (ps ss os : List Entry)
+    (zp : OneForOne (EntryStands registered ts 0) (h .protected) ps)
+    (zs : OneForOne (EntryStands registered ts 1) (h .shared) ss)
+    (zo : OneForOne (EntryStands registered ts 2) (h .own) os) where
   abbrev Outside : Member → Entry → Type 0
-  Outside m e = Seen registered header message m e × (eqb (e .origin) 0 ≡ false)
+  Outside m e = Seen registered ts m e × (eqb (e .origin) 0 ≡ false)
 
   outside : (o : ℕ) → eqb o 0 ≡ false → (ms : List Member) (es : List Entry) →
-      OneForOne (EntryStands registered header message o) ms es → OneForOne Outside ms es
+      OneForOne (EntryStands registered ts o) ms es → OneForOne Outside ms es
   outside o a ms es z =
-      zip-into (EntryStands registered header message o) Outside
+      zip-into (EntryStands registered ts o) Outside
       (λ p e r. (
-        entry-seen registered header message o p e r,
-        ap (λ (n : ℕ). eqb n 0) (entry-origin registered header message o p e r) ∙ a,
+        entry-seen registered ts o p e r,
+        ap (λ (n : ℕ). eqb n 0) (entry-origin registered ts o p e r) ∙ a,
       ))
       ms es z
 
@@ -249,10 +249,10 @@ module _ (header message : List ℕ) (h : Headers) (ps ss os : List Entry)
   inside : any unprotected ps ≡ false
   inside =
       any-every unprotected (λ e. unprotected e ≡ false) (λ e. ((λ b. b), (λ b. b))) ps .1
-      (every-right (EntryStands registered header message 0) (λ e. unprotected e ≡ false)
+      (every-right (EntryStands registered ts 0) (λ e. unprotected e ≡ false)
       (λ p e r.
       ap (λ (n : ℕ). (numbered zip e || numbered crit e) && not (eqb n 0))
-      (entry-origin registered header message 0 p e r)
+      (entry-origin registered ts 0 p e r)
       ∙ and-false (numbered zip e || numbered crit e))
       (h .protected) ps zp)
 
@@ -264,7 +264,7 @@ module _ (header message : List ℕ) (h : Headers) (ps ss os : List Entry)
       let each =
       every-where Outside
       (λ m. (HasOctets (m .name) (ascii "zip") → ⊥) × (HasOctets (m .name) (ascii "crit") → ⊥))
-      unprotected (h .shared ++ h .own) (ss ++ os) (λ p e r. outside-where header message p e (r .0) (r .1))
+      unprotected (h .shared ++ h .own) (ss ++ os) (λ p e r. outside-where ts p e (r .0) (r .1))
       (zip-append Outside (h .shared) ss (h .own) os (outside 1 refl (h .shared) ss zs)
       (outside 2 refl (h .own) os zo)) in
       let two =

@@ -9,9 +9,10 @@ use Rattle.grammar.specs.Grammar.{Str}
 use Rattle.grammar.specs.Strings.{SayAlike}
 use Rattle.grammar.specs.Bounds.{Every}
 use Rattle.prelude.specs.Any.{any}
-use Rattle.rows.specs.Rows.{Entry}
+use Rattle.rows.specs.Rows.{Entry, Texts}
 use Rattle.jose.specs.Registered.{registered}
 use Rattle.prelude.specs.Refusals.{first}
+use Rattle.jose.specs.declared.Sizes.{Sizes}
 use Rattle.jose.specs.HeaderRules.{recipientOrder}
 use Rattle.meets.specs.Members.{Member, namesOf, Distinct, Apart}
 use Rattle.meets.specs.Rules.{Headers, parameters, NamesApart, Rules}
@@ -57,44 +58,44 @@ parameters-distinct h o a =
     (apart-append (namesOf (h .protected)) (h .shared) (h .own) (a .0) (a .1))
 
 -- Entries that stand for three headers are seen to stand for all their parameters.
-module _ (header message : List ℕ) (h : Headers) (ps ss os : List Entry)
-    (zp : OneForOne (EntryStands registered header message 0) (h .protected) ps)
-    (zs : OneForOne (EntryStands registered header message 1) (h .shared) ss)
-    (zo : OneForOne (EntryStands registered header message 2) (h .own) os) where
-  one-seen : (o : ℕ) (ms : List Member) (es : List Entry) → OneForOne (EntryStands registered header message o) ms es →
-      OneForOne (Seen registered header message) ms es
+module _ (ts : Texts) (h : Headers) (ps ss os : List Entry)
+    (zp : OneForOne (EntryStands registered ts 0) (h .protected) ps)
+    (zs : OneForOne (EntryStands registered ts 1) (h .shared) ss)
+    (zo : OneForOne (EntryStands registered ts 2) (h .own) os) where
+  one-seen : (o : ℕ) (ms : List Member) (es : List Entry) → OneForOne (EntryStands registered ts o) ms es →
+      OneForOne (Seen registered ts) ms es
   one-seen o ms es z =
-      zip-into (EntryStands registered header message o) (Seen registered header message)
-      (entry-seen registered header message o) ms es z
+      zip-into (EntryStands registered ts o) (Seen registered ts)
+      (entry-seen registered ts o) ms es z
 
-  pub all-seen : OneForOne (Seen registered header message) (parameters h) (ps ++ (ss ++ os))
+  pub all-seen : OneForOne (Seen registered ts) (parameters h) (ps ++ (ss ++ os))
   all-seen =
-      zip-append (Seen registered header message) (h .protected) ps (h .shared ++ h .own) (ss ++ os)
+      zip-append (Seen registered ts) (h .protected) ps (h .shared ++ h .own) (ss ++ os)
       (one-seen 0 (h .protected) ps zp)
-      (zip-append (Seen registered header message) (h .shared) ss (h .own) os (one-seen 1 (h .shared) ss zs)
+      (zip-append (Seen registered ts) (h .shared) ss (h .own) os (one-seen 1 (h .shared) ss zs)
       (one-seen 2 (h .own) os zo))
 
-module _ (known : List (List ℕ)) (header message : List ℕ) (h : Headers) (ps ss os : List Entry) (key : List ℕ)
-    (noKey : Bool) (zp : OneForOne (EntryStands registered header message 0) (h .protected) ps)
-    (zs : OneForOne (EntryStands registered header message 1) (h .shared) ss)
-    (zo : OneForOne (EntryStands registered header message 2) (h .own) os) (once : NamesOnce h)
-    (keyed : (noKey ≡ true) ↔ (key ≡ [])) where
-  seen : OneForOne (Seen registered header message) (parameters h) (ps ++ (ss ++ os))
-  seen = all-seen header message h ps ss os zp zs zo
+module _ (known : List (List ℕ)) (ts : Texts) (h : Headers) (ps ss os : List Entry) (key : List ℕ)
+    (sizes : Sizes) (zp : OneForOne (EntryStands registered ts 0) (h .protected) ps)
+    (zs : OneForOne (EntryStands registered ts 1) (h .shared) ss)
+    (zo : OneForOne (EntryStands registered ts 2) (h .own) os) (once : NamesOnce h)
+    (keyed : (eqb (sizes .key) 0 ≡ true) ↔ (key ≡ [])) where
+  seen : OneForOne (Seen registered ts) (parameters h) (ps ++ (ss ++ os))
+  seen = all-seen ts h ps ss os zp zs zo
 
-  pub rules-decided : (first (recipientOrder known header message (ps ++ (ss ++ os)) noKey) ≡ 0) ↔ Rules known h key
+  pub rules-decided : (first (recipientOrder known ts (ps ++ (ss ++ os)) sizes) ≡ 0) ↔ Rules known h key
   unfolding recipientOrder any
   rules-decided =
       let ms = parameters h in
       let es = ps ++ (ss ++ os) in
-      let tests = first-none (recipientOrder known header message es noKey) refl in
-      let names = names-apart-decided registered header message h ps ss os zp zs zo in
-      let required = required-decided header message ms es seen in
-      let kinds = kinds-decided header message ms es seen in
-      let listed = listed-decided header message ms es seen in
-      let protected = protected-decided header message h ps ss os zp zs zo in
-      let critical = critical-decided known header message ms es seen in
-      let fits = key-decided header message ms es key noKey seen in (
+      let tests = first-none (recipientOrder known ts es sizes) refl in
+      let names = names-apart-decided registered ts h ps ss os zp zs zo in
+      let required = required-decided ts ms es seen in
+      let kinds = kinds-decided ts ms es seen in
+      let listed = listed-decided ts ms es seen in
+      let protected = protected-decided ts h ps ss os zp zs zo in
+      let critical = critical-decided known ts ms es seen in
+      let fits = key-decided ts ms es key sizes seen in (
         (λ e.
             let t = tests .0 e in
             let apart = names .0 (t .0) in

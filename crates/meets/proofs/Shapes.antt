@@ -173,10 +173,10 @@ split false false false x y z = refl
 module _ (message : List ℕ) (p : Member) (e : Entry) (r : Held message p e) where
   named : (f : ℕ → Bool) (ws : List (List ℕ)) → disagrees memberNames f ws ≡ false →
       TrueWhere (f (e .number)) (Among ws (p .name))
-  named = named-where memberNames message message p e (r .seen)
+  named = named-where memberNames (oneText message) p e (r .seen)
 
   pub numbered-as : (n : ℕ) (w : List ℕ) → IsMember n w → TrueWhere (numbered n e) (HasOctets (p .name) w)
-  numbered-as = numbered-where memberNames message message p e (r .seen)
+  numbered-as = numbered-where memberNames (oneText message) p e (r .seen)
 
   grouped-where : FalseWhere (wrongMember message e) (Grouped p)
   unfolding wrongMember

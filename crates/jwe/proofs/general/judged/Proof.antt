@@ -11,10 +11,9 @@ use Rattle.prelude.specs.Refusals.{first, stageOf}
 use Rattle.prelude.specs.declared.Stage.{Stage}
 use Rattle.prelude.specs.declared.Stage.the-variants.{Passed, Refused}
 use Rattle.headers.specs.Answers.{componentsOf}
-use Rattle.headers.proofs.Stages.{passed-is, refused-is}
+use Rattle.headers.proofs.Stages.{passed-is, refused-is, refuses}
 use Rattle.shape.specs.Shape.{Recipient}
 use Rattle.jwe.specs.Inner.Stages.{recipientsOf, Owned, LeavesOwn, ownTests, ownTable}
-use Rattle.jwe.proofs.JsonHeaders.{refuses}
 use Rattle.jwe.proofs.JsonHeads.{own-refuses, own-passes}
 use borrow.Author.Needs.{needs}
 use Rattle.jwe.proofs.general.judged.Statement.{statement}

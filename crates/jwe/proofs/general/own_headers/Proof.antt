@@ -9,12 +9,12 @@ use Rattle.rows.specs.Rows.{Entry}
 use Rattle.rows.specs.Tables.{collectedTable}
 use Rattle.prelude.specs.Refusals.{Test, first, stageOf}
 use Rattle.headers.specs.Headers.{objectOrder}
-use Rattle.headers.proofs.Stages.{passed-is, refused-is}
+use Rattle.headers.proofs.Stages.{passed-is, refused-is, refuses, passes}
 use Rattle.shape.specs.Shape.{Recipient}
 use Rattle.jwe.specs.General.{ownEntries}
 use Rattle.jwe.specs.Inner.Stages.{HeaderKnown, recipientAt, recipientsOf, Owned, LeavesOwn, ownTests}
 use Rattle.jwe.proofs.JsonOrder.{object-nonzero}
-use Rattle.jwe.proofs.JsonHeaders.{refuses, passes, few}
+use Rattle.jwe.proofs.JsonHeaders.{few}
 use Rattle.jwe.proofs.RecipientRows.{header-at, one-passes, one-refuses, all-pass}
 use Rattle.jwe.proofs.OwnHeaders.{own-none, own-more, own-is}
 use borrow.Author.Needs.{needs}

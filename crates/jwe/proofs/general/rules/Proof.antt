@@ -16,14 +16,13 @@ use Rattle.prelude.specs.Refusals.{Test, first, stageOf}
 use Rattle.jose.specs.declared.Sizes.{Sizes}
 use Rattle.jose.specs.HeaderRules.{recipientOrder, modeIn}
 use Rattle.prelude.proofs.Refusals.{nonzero}
-use Rattle.headers.proofs.Stages.{passed-is, refused-is}
+use Rattle.headers.proofs.Stages.{passed-is, refused-is, refuses, passes}
 use Rattle.headers.specs.Components.{Components, withKey, sizesOf}
 use Rattle.headers.specs.Answers.{componentsOf}
 use Rattle.shape.specs.Shape.{Recipient}
 use Rattle.jwe.specs.General.{ownEntries}
 use Rattle.jwe.specs.Inner.Stages.{recipientAt, recipientsOf, ruleTests}
 use Rattle.jwe.proofs.CompactOrder.{rules-nonzero}
-use Rattle.jwe.proofs.JsonHeaders.{refuses, passes}
 use Rattle.jwe.proofs.RecipientRows.{one-passes, one-refuses, all-pass}
 use Rattle.jwe.proofs.OwnHeaders.{gathered, gathered-length, gathered-room, gathered-front, own-printed}
 use borrow.Author.Needs.{needs}
