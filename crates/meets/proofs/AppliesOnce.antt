@@ -15,7 +15,7 @@ use Rattle.grammar.specs.Reader.{opensObject}
 use Rattle.grammar.specs.Readings.{Reading, octetsAt}
 use Rattle.grammar.specs.Shown.{Shown, EverywhereIn}
 use Rattle.grammar.proofs.Theorems.{one-reading, read-shows}
-use Rattle.rows.specs.Rows.{Entry, repeated}
+use Rattle.rows.specs.Rows.{Entry, repeated, oneText}
 use Rattle.prelude.specs.Refusals.{first}
 use Rattle.headers.specs.Headers.{outermost}
 use Rattle.shape.specs.Shape.{memberEntries}

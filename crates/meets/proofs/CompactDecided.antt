@@ -1,17 +1,18 @@
 -- The tests on a compact message decide what it has to meet: none refuses exactly where it is five encoded texts, its
 -- header is read and keeps the rules, and recipient 0 is asked for.
 use mathlib.Core.Path.{_≡_, refl, ap, sym, subst}
-use mathlib.Core.Bool.{Bool, true, not}
+use mathlib.Core.Bool.{true, not}
 use mathlib.Core.Logic.{_↔_}
 use mathlib.Core.List.{List, [], _∷_, _++_, append-nil}
 use Prim.Native.Nat.{ℕ, _<_}
 use lib.Dec.{eqb, leb}
 use borrow.Author.Tests.{not-false, leb-false, lt-leb}
 use Rattle.prelude.specs.Any.{any}
-use Rattle.rows.specs.Rows.{Entry}
+use Rattle.rows.specs.Rows.{Entry, readTexts}
 use Rattle.prelude.specs.Refusals.{Test, _if_, first}
+use Rattle.jose.specs.declared.Sizes.{Sizes}
 use Rattle.jose.specs.HeaderRules.{recipientOrder}
-use Rattle.headers.specs.Components.{places, misspelled}
+use Rattle.headers.specs.Components.{places, misspelled, sizesOf}
 use Rattle.headers.specs.Headers.{headerText, textOrder, protectedEntries, objectOrder}
 use Rattle.jwe.specs.Compact.{fourStops, compactComponents, compactOrder}
 use Rattle.meets.specs.Rules.{Headers, Rules}
@@ -49,7 +50,7 @@ asked-decided recipient =
     )
 
 -- 6 to 19 of a compact message, by its header.
-abbrev headerOrder : List (List ℕ) → List ℕ → Bool → ℕ → List ℕ → List Test
+abbrev headerOrder : List (List ℕ) → List ℕ → Sizes → ℕ → List ℕ → List Test
 headerOrder known message sizes recipient header =
     let es = protectedEntries header in
     textOrder header

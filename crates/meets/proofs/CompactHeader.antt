@@ -7,6 +7,7 @@ use Prim.Native.Nat.{ℕ}
 use lib.ListN.{length}
 use borrow.Author.Tests.{ltb-false, le-ltb}
 use Rattle.prelude.specs.Any.{any}
+use Rattle.rows.specs.Rows.{readTexts}
 use Rattle.jose.specs.Registered.{registered}
 use Rattle.prelude.specs.Refusals.{first}
 use Rattle.headers.specs.Headers.{textOrder, outermost, protectedEntries, objectOrder}
@@ -29,10 +30,10 @@ text-decided header =
 
 -- Its members stand where its entries say.
 pub protected-stands : (header message : List ℕ) (p : Protected header) →
-    OneForOne (EntryStands registered header message 0) (membersRead p) (protectedEntries header)
+    OneForOne (EntryStands registered (readTexts header message) 0) (membersRead p) (protectedEntries header)
 unfolding protectedEntries
 protected-stands header message p =
-    entries-stand registered header message 0 (membersRead p) (outermost header) (outermost-stand header (p .reading))
+    entries-stand registered (readTexts header message) 0 (membersRead p) (outermost header) (outermost-stand header (p .reading))
 
 -- 8 and 9 on it.
 pub protected-object : (header : List ℕ) (p : Protected header) →

@@ -8,8 +8,8 @@ use Prim.Native.Nat.{ℕ, _+_, _-_}
 use native.Mathlib.Omega.{arith}
 use lib.ListN.{length}
 use lib.Dec.{eqb}
-use borrow.Author.Tests.{eqb-true, eq-eqb, ne-eqb}
-use Rattle.base64url.specs.Base64url.{encoded, decoded, octets, sextets}
+use borrow.Author.Tests.{ne-eqb}
+use Rattle.base64url.specs.Base64url.{encoded, decoded, decodedLength, octets, sextets}
 use Rattle.base64url.specs.Fault.{Fault, none, at, fault}
 use Rattle.base64url.specs.Answers.{ofFault}
 use Rattle.base64url.proofs.Laws.{accepted-exactly, spelled-once}
@@ -25,6 +25,7 @@ use Rattle.meets.specs.Rules.{EveryNamed}
 use Rattle.meets.specs.Meets.{Octets, Unescaped, Plain, Component}
 use Rattle.meets.proofs.Standing.{Stands, string-stands, is-string}
 use Rattle.meets.proofs.Deciding.{FalseWhere}
+use Rattle.meets.proofs.SpelledDecided.{none-decoded}
 use Rattle.meets.proofs.Lookups.{Lookup, missing, single, of-only, only-named, only-there, none-named}
 
 -- The text at a component's place, and that the component's octets are those of which it is the encoding.
@@ -113,15 +114,6 @@ module _ (message w : List ℕ) (ps : List Member) (q : Place) (s : Spelling mes
     unfolding headerText
     decoded-is = sym (spelled-once (octetsAt message q) xs o (s .means xs o .0 c ∙ sym (s .is)))
 
-    -- .. and there are none exactly where the place has none.
-    pub none-where-empty : (eqb (q .size) 0 ≡ true) ↔ (xs ≡ [])
-    none-where-empty = (
-      (λ e. encoded-nothing xs o (s .means xs o .0 c ∙ no-length (s .text) (sym (s .size) ∙ eqb-true (q .size) 0 e))),
-      (λ e.
-          eq-eqb (q .size) 0
-          (s .size ∙ ap length (sym (s .means xs o .0 c) ∙ ap encoded e ∙ nothing-encoded))),
-    )
-      where
-        no-length : (w : List ℕ) → length w ≡ 0 → w ≡ []
-        no-length [] e = refl
-        no-length (x ∷ w) e = absurd (omega arith)
+    -- .. and there are none exactly where it decodes to none.
+    pub none-where-empty : (eqb (decodedLength (q .size)) 0 ≡ true) ↔ (xs ≡ [])
+    none-where-empty = none-decoded xs (q .size) (s .size ∙ ap length (sym (s .means xs o .0 c)))

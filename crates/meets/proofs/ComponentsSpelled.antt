@@ -39,7 +39,7 @@ module _ (message : List ℕ) where
       let spelling : List Test = 4 if not (fourStops message) ∷ 5 if any (misspelled message) (places q) ∷ [] in
       let left : List Test =
       textOrder header
-      ++ (objectOrder header es ++ (recipientOrder known header message es (eqb (q .key .size) 0) ++ (19 if leb 1 recipient ∷ []))) in
+      ++ (objectOrder header es ++ (recipientOrder known (readTexts header message) es (eqb (q .key .size) 0) ++ (19 if leb 1 recipient ∷ []))) in
       let five = first-none spelling refl .0 (first-append spelling left refl .0 e .0) .1 .0 in
       any-every (misspelled message) Sound (λ q. ((λ e. e), (λ e. e))) (places q) .0 five
 

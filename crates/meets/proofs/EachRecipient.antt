@@ -8,14 +8,16 @@ use Prim.Native.Nat.{ℕ}
 use lib.Dec.{eqb}
 use Rattle.prelude.specs.Ascii.{ascii}
 use Rattle.grammar.specs.Bounds.{Every}
-use Rattle.rows.specs.Rows.{Entry, present, valueOf}
+use Rattle.rows.specs.Rows.{Entry, readTexts, present, valueOf}
 use Rattle.prelude.specs.Refusals.{first}
 use Rattle.jose.specs.Registered.{registered}
 use Rattle.jose.specs.HeaderRules.{recipientOrder}
-use Rattle.headers.specs.Components.{misspelled}
+use Rattle.headers.specs.Components.{misspelled, sizesOf}
 use Rattle.headers.specs.Headers.{outermost, protectedEntries, headerEntries, objectOrder}
 use Rattle.headers.specs.Headers as headers
 use Rattle.shape.specs.Shape.{inner, Recipient, recipientOf}
+use Rattle.base64url.specs.Base64url.{decodedLength}
+use Rattle.shape.specs.Recipients.{topOf, componentsIn}
 use Rattle.jwe.specs.General.{sharedEntries, ownEntries, parameters}
 use Rattle.meets.specs.Members.{Member, namesOf, Distinct}
 use Rattle.meets.specs.Rules.{Headers, EveryNamed, Rules}
@@ -42,21 +44,21 @@ plain-of w ms h = every-map (Field w Whole) (Field w Plain) (λ m f n. f n .0) m
 
 module _ (header message : List ℕ) where
   pub protected-entries : (hs : List Member) → OneForOne (MemberStands header) hs (outermost header) →
-      OneForOne (EntryStands registered header message 0) hs (protectedEntries header)
+      OneForOne (EntryStands registered (readTexts header message) 0) hs (protectedEntries header)
   unfolding protectedEntries
-  protected-entries hs z = entries-of registered header message 0 hs (outermost header) z
+  protected-entries hs z = entries-of registered (readTexts header message) 0 hs (outermost header) z
 
   module _ (es : List Entry) (hs : List Member)
       (z : OneForOne (MemberStands message) hs (headers.membersOf message (valueOf 2 es .start))) where
-    pub shared-entries : OneForOne (EntryStands registered header message 1) hs (sharedEntries message es)
+    pub shared-entries : OneForOne (EntryStands registered (readTexts header message) 1) hs (sharedEntries message (topOf es))
     unfolding sharedEntries headerEntries
-    shared-entries = entries-of registered header message 1 hs (headers.membersOf message (valueOf 2 es .start)) z
+    shared-entries = entries-of registered (readTexts header message) 1 hs (headers.membersOf message (valueOf 2 es .start)) z
 
   module _ (r : Recipient) (hs : List Member)
       (z : OneForOne (MemberStands message) hs (headers.membersOf message (r .header))) where
-    pub own-entries : OneForOne (EntryStands registered header message 2) hs (ownEntries message r)
+    pub own-entries : OneForOne (EntryStands registered (readTexts header message) 2) hs (ownEntries message r)
     unfolding ownEntries headerEntries
-    own-entries = entries-of registered header message 2 hs (headers.membersOf message (r .header)) z
+    own-entries = entries-of registered (readTexts header message) 2 hs (headers.membersOf message (r .header)) z
 
 module _ (known : List (List ℕ)) (header message : List ℕ) (protected shared : List Member) (es : List Entry)
     (zp : OneForOne (MemberStands header) protected (outermost header))
@@ -72,7 +74,7 @@ module _ (known : List (List ℕ)) (header message : List ℕ) (protected shared
 
   abbrev pub RulesPass : Recipient → Type 0
   RulesPass r =
-      first (recipientOrder known header message (parameters header message es r) (eqb (r .key .size) 0)) ≡ 0
+      first (recipientOrder known (readTexts header message) (parameters header message (topOf es) r) (sizesOf (componentsIn (topOf es) r))) ≡ 0
 
   abbrev Passes : List Member → Recipient → Type 0
   Passes ms r = Formed ms × (Spelled r × (OwnPasses r × RulesPass r))
@@ -83,7 +85,7 @@ module _ (known : List (List ℕ)) (header message : List ℕ) (protected shared
   -- Where an own header and a key are given.
   module _ (r : Recipient) (own : List Member) (key : List ℕ)
       (zo : OneForOne (MemberStands message) own (headers.membersOf message (r .header)))
-      (keyed : (eqb (r .key .size) 0 ≡ true) ↔ (key ≡ [])) where
+      (keyed : (eqb (decodedLength (r .key .size)) 0 ≡ true) ↔ (key ≡ [])) where
     own-decided : OwnPasses r ↔ Object own
     own-decided = object-decided registered message 2 own (ownEntries message r) (own-entries message message r own zo)
 
@@ -91,10 +93,10 @@ module _ (known : List (List ℕ)) (header message : List ℕ) (protected shared
     all = record { protected = protected; shared = shared; own = own }
 
     recipient-rules : Distinct (namesOf own) → RulesPass r ↔ Rules known all key
-    unfolding parameters
+    unfolding parameters componentsIn
     recipient-rules d =
-        rules-decided known header message all (protectedEntries header) (sharedEntries message es)
-        (ownEntries message r) key (eqb (r .key .size) 0) (protected-entries header message protected zp)
+        rules-decided known (readTexts header message) all (protectedEntries header) (sharedEntries message (topOf es))
+        (ownEntries message r) key (sizesOf (componentsIn (topOf es) r)) (protected-entries header message protected zp)
         (shared-entries header message es shared zs) (own-entries header message r own zo)
         (record { protected = dp; shared = ds; own = d }) keyed
 
@@ -123,7 +125,7 @@ module _ (known : List (List ℕ)) (header message : List ℕ) (protected shared
       spelled-decided = misspelled-decided message (ascii "encrypted_key") ms (inner (valueOf 4 fs)) key-spelling
 
       keyed : (key : List ℕ) → Octets key → Component (ascii "encrypted_key") ms key →
-          (eqb (r .key .size) 0 ≡ true) ↔ (key ≡ [])
+          (eqb (decodedLength (r .key .size)) 0 ≡ true) ↔ (key ≡ [])
       keyed = none-where-empty message (ascii "encrypted_key") ms (inner (valueOf 4 fs)) key-spelling
 
     keeps : Passes ms r → Keeps ms

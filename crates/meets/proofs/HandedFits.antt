@@ -20,7 +20,7 @@ use Rattle.jose.specs.Registered.{registered}
 use Rattle.prelude.specs.Limits.{longest, headerRoom, listRoom}
 use Rattle.headers.specs.Headers.{headerText, protectedEntries}
 use Rattle.shape.specs.Shape.{protected, component, inner, Recipient}
-use Rattle.shape.specs.Recipients.{topEntries, recipientsIn, componentsIn}
+use Rattle.shape.specs.Recipients.{topOf, topEntries, recipientsIn, componentsIn}
 use Rattle.jwe.specs.Compact.{compactOrder}
 use Rattle.jwe.specs.General.{sharedEntries, ownEntries, parameters, jsonOrder}
 use Rattle.jwe.specs.Judge.{Call, order, refusal, compactOutcome, asked, jsonOutcome, outcome}
@@ -103,7 +103,7 @@ module _ (message : List ℕ) (recipient : ℕ) (es : List Entry) (passed : Pass
   parameters-few =
       let r = asked (recipientsIn message es) recipient in
       let ps = protectedEntries (headerText message (component protected es)) in
-      let ss = sharedEntries message es in
+      let ss = sharedEntries message (topOf es) in
       let os = ownEntries message r in
       let a = length-append ps (ss ++ os) in
       let b = length-append ss os in

@@ -16,7 +16,7 @@ use Rattle.grammar.specs.Readings.{Reading}
 use Rattle.grammar.specs.Shown.{Shown, Everywhere, EverywhereIn}
 use Rattle.grammar.proofs.Theorems.{read-shows}
 use Rattle.prelude.specs.Any.{any}
-use Rattle.rows.specs.Rows.{Entry, valueOf, repeated}
+use Rattle.rows.specs.Rows.{Entry, valueOf, repeated, oneText}
 use Rattle.jose.specs.HeaderRules.{isEmpty}
 use Rattle.headers.specs.Headers.{headerText, outermost, membersOf, objectOrder}
 use Rattle.shape.specs.Shape.{memberEntries, protected, unprotected, header, component, Recipient, recipientOf}

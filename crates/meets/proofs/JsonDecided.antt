@@ -18,7 +18,7 @@ use Rattle.headers.specs.Components.{misspelled}
 use Rattle.headers.specs.Headers.{headerText, outermost, protectedEntries, objectOrder}
 use Rattle.headers.specs.Headers as headers
 use Rattle.shape.specs.Shape.{memberNames, inner, component}
-use Rattle.shape.specs.Recipients.{topEntries, recipientsIn}
+use Rattle.shape.specs.Recipients.{topOf, topEntries, recipientsIn}
 use Rattle.jwe.specs.General.{sharedEntries, jsonOrder}
 use Rattle.meets.specs.Members.{Member, membersOf}
 use Rattle.meets.specs.Rules.{EveryNamed}
@@ -56,9 +56,9 @@ module _ (message : List ℕ) where
 
   shared-object : (hs : List Member) →
       OneForOne (MemberStands message) hs (headers.membersOf message (valueOf 2 es .start)) →
-      (first (objectOrder message (sharedEntries message es)) ≡ 0) ↔ Object hs
+      (first (objectOrder message (sharedEntries message (topOf es))) ≡ 0) ↔ Object hs
   shared-object hs z =
-      object-decided registered message 1 hs (sharedEntries message es) (shared-entries message message es hs z)
+      object-decided registered message 1 hs (sharedEntries message (topOf es)) (shared-entries message message es hs z)
 
 -- With a reading
 

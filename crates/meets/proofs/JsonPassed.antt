@@ -9,15 +9,17 @@ use borrow.Author.Tests.{leb-false, ltb-false}
 use Rattle.grammar.specs.Places.{Element}
 use Rattle.grammar.specs.Bounds.{Every}
 use Rattle.prelude.specs.Any.{any}
-use Rattle.rows.specs.Rows.{Entry, present, repeated}
+use Rattle.rows.specs.Rows.{Entry, Texts, oneText, present, repeated}
 use Rattle.prelude.specs.Refusals.{Test, _if_, first}
+use Rattle.jose.specs.declared.Sizes.{Sizes}
 use Rattle.jose.specs.HeaderRules.{recipientOrder}
 use Rattle.prelude.specs.Limits.{mostRecipients}
 use Rattle.headers.specs.Headers.{headerText, tooLong, unread, textOrder, outermost, protectedEntries, objectOrder}
 use Rattle.shape.specs.Shape.{protected, recipients, component, wrongTop, wrongElements, Recipient}
-use Rattle.shape.specs.Recipients.{topEntries, topOrder, elementsIn, elementOrder, elementsOrder, recipientsIn}
+use Rattle.shape.specs.Recipients.{topOf, topEntries, topOrder, elementsIn, elementOrder, elementsOrder, recipientsIn}
 use Rattle.jwe.specs.General.{anyMisspelled, sharedEntries, ownEntries, isHollow, protectedOrder, headersOrder}
-use Rattle.jwe.specs.General.{recipientsOrder, jsonOrder}
+use Rattle.jwe.specs.General.{recipientsOrder, jsonLater, jsonOrder}
+use Rattle.jwe.proofs.JsonOrder.{json-is}
 use Rattle.meets.proofs.Deciding.{any-append, every-map, first-none}
 use Rattle.meets.proofs.InOrder.{unnumbered, first-append}
 
@@ -29,11 +31,11 @@ Passes t = t .fails ≡ false
 abbrev pub FewIn : List ℕ → List ℕ → List Entry → List Recipient → Type 0
 FewIn header message es rs =
     (length (protectedEntries header) ≤ 32)
-    × (length (sharedEntries message es) ≤ 32)
+    × (length (sharedEntries message (topOf es)) ≤ 32)
     × Every (λ (r : Recipient). length (ownEntries message r) ≤ 32) rs
 
 pub record Passed (message : List ℕ) (recipient : ℕ) (es : List Entry) : Type 0 where
-  pub repeats : repeated false message message es ≡ false
+  pub repeats : repeated false (oneText message) es ≡ false
   pub top : wrongTop message es ≡ false
   pub elements : present recipients es ≡ true →
       (wrongElements (elementsIn message es) ≡ false)
@@ -66,10 +68,10 @@ object-numbered : (s : List ℕ) (es : List Entry) → any unnumbered (objectOrd
 unfolding any objectOrder
 object-numbered s es = refl
 
-recipient-numbered : (known : List (List ℕ)) (header message : List ℕ) (es : List Entry) (noKey : Bool) →
-    any unnumbered (recipientOrder known header message es noKey) ≡ false
+recipient-numbered : (known : List (List ℕ)) (ts : Texts) (es : List Entry) (z : Sizes) →
+    any unnumbered (recipientOrder known ts es z) ≡ false
 unfolding any recipientOrder
-recipient-numbered known header message es noKey = refl
+recipient-numbered known ts es z = refl
 
 -- The tests on the elements of `recipients`.
 abbrev inElements : List ℕ → List Element → List Test
@@ -85,21 +87,21 @@ elements-numbered : (message : List ℕ) (es : List Entry) → any unnumbered (e
 unfolding elementsOrder
 elements-numbered message es = if-numbered (present recipients es) _ (present-numbered message (elementsIn message es))
 
-protected-numbered : (es : List Entry) (header : List ℕ) → any unnumbered (protectedOrder es header) ≡ false
+protected-numbered : (es : List Entry) (header : List ℕ) → any unnumbered (protectedOrder (topOf es) header) ≡ false
 unfolding any protectedOrder textOrder
 protected-numbered es header = if-numbered (present protected es) _ refl
 
 headers-numbered : (header message : List ℕ) (es : List Entry) (rs : List Recipient) →
-    any unnumbered (headersOrder header message es rs) ≡ false
+    any unnumbered (headersOrder header message (topOf es) rs) ≡ false
 unfolding any headersOrder objectOrder
 headers-numbered header message es rs =
     each-numbered (λ r. objectOrder message (ownEntries message r))
     (λ r. object-numbered message (ownEntries message r)) rs
 
 recipients-numbered : (known : List (List ℕ)) (header message : List ℕ) (es : List Entry) (rs : List Recipient) →
-    any unnumbered (recipientsOrder known header message es rs) ≡ false
+    any unnumbered (recipientsOrder known header message (topOf es) rs) ≡ false
 unfolding recipientsOrder
-recipients-numbered known header message es rs = each-numbered _ (λ r. recipient-numbered known header message _ _) rs
+recipients-numbered known header message es rs = each-numbered _ (λ r. recipient-numbered known _ _ _) rs
 
 -- What passes of lists of tests.
 
@@ -125,7 +127,7 @@ elements-passed message es e p =
     let h = first-none ts (present-numbered message xs) .0 (ap (λ (b : Bool). first (cond b ts [])) (sym p) ∙ e) in
     (h .0, every-each _ xs (h .1 .1))
 
-protected-passed : (es : List Entry) (header : List ℕ) → first (protectedOrder es header) ≡ 0 →
+protected-passed : (es : List Entry) (header : List ℕ) → first (protectedOrder (topOf es) header) ≡ 0 →
     present protected es ≡ true → (tooLong header ≡ false) × (unread header ≡ false)
 unfolding protectedOrder textOrder any
 protected-passed es header e p =
@@ -134,12 +136,12 @@ protected-passed es header e p =
     (h .0, h .1 .0)
 
 headers-passed : (header message : List ℕ) (es : List Entry) (rs : List Recipient) →
-    first (headersOrder header message es rs) ≡ 0 → FewIn header message es rs
+    first (headersOrder header message (topOf es) rs) ≡ 0 → FewIn header message es rs
 unfolding headersOrder objectOrder
 headers-passed header message es rs e =
-    let h = first-none (headersOrder header message es rs) (headers-numbered header message es rs) .0 e in (
+    let h = first-none (headersOrder header message (topOf es) rs) (headers-numbered header message es rs) .0 e in (
       ltb-false 32 (length (protectedEntries header)) (h .0),
-      ltb-false 32 (length (sharedEntries message es)) (h .1 .1 .0),
+      ltb-false 32 (length (sharedEntries message (topOf es))) (h .1 .1 .0),
       every-map (λ (r : Recipient). Every Passes (objectOrder message (ownEntries message r)))
           (λ (r : Recipient). length (ownEntries message r) ≤ 32)
           (λ r p. ltb-false 32 (length (ownEntries message r)) (p .0)) rs
@@ -150,18 +152,18 @@ headers-passed header message es rs e =
 module _ (known : List (List ℕ)) (message : List ℕ) (recipient : ℕ)
     (accepted : first (jsonOrder message known recipient) ≡ 0) where
   pub json-passed : (unread message ≡ false) × Passed message recipient (topEntries message)
-  unfolding jsonOrder topOrder objectOrder any
+  unfolding jsonLater topOrder objectOrder any
   json-passed =
       let es = topEntries message in
       let rs = recipientsIn message es in
       let header = headerText message (component protected es) in
-      let a = first-append (topOrder message) _ refl .0 accepted in
+      let a = first-append (topOrder message) _ refl .0 (sym (ap first (json-is message known recipient)) ∙ accepted) in
       let b = first-append (elementsOrder message es) _ (elements-numbered message es) .0 (a .1) in
       let c = first-append (5 if anyMisspelled message es ∷ []) _ refl .0 (b .1) in
-      let d = first-append (protectedOrder es header) _ (protected-numbered es header) .0 (c .1) in
-      let f = first-append (headersOrder header message es rs) _ (headers-numbered header message es rs) .0 (d .1) in
+      let d = first-append (protectedOrder (topOf es) header) _ (protected-numbered es header) .0 (c .1) in
+      let f = first-append (headersOrder header message (topOf es) rs) _ (headers-numbered header message es rs) .0 (d .1) in
       let g =
-      first-append (recipientsOrder known header message es rs) (19 if leb (length rs) recipient ∷ [])
+      first-append (recipientsOrder known header message (topOf es) rs) (19 if leb (length rs) recipient ∷ [])
       (recipients-numbered known header message es rs) .0 (f .1) in
       let top = first-none (topOrder message) refl .0 (a .0) in
       let five = first-none (5 if anyMisspelled message es ∷ []) refl .0 (c .0) in

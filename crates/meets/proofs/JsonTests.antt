@@ -1,6 +1,6 @@
 -- The tests of a JSON message taken apart: none refuses exactly where none of each stage does, and a stage's tests are
 -- those of each header, component and recipient.
-use mathlib.Core.Path.{_≡_, refl}
+use mathlib.Core.Path.{_≡_, refl, sym, subst}
 use mathlib.Core.Bool.{false}
 use mathlib.Core.Logic.{_↔_}
 use mathlib.Core.List.{List, [], _∷_, _++_, flatMap}
@@ -9,15 +9,16 @@ use lib.ListN.{length}
 use lib.Dec.{eqb, leb}
 use Rattle.grammar.specs.Bounds.{Every}
 use Rattle.prelude.specs.Any.{any}
-use Rattle.rows.specs.Rows.{Entry}
+use Rattle.rows.specs.Rows.{Entry, readTexts}
 use Rattle.prelude.specs.Refusals.{Test, _if_, first}
 use Rattle.jose.specs.HeaderRules.{recipientOrder}
-use Rattle.headers.specs.Components.{misspelled}
+use Rattle.headers.specs.Components.{misspelled, sizesOf}
 use Rattle.headers.specs.Headers.{unread, headerText, protectedEntries, objectOrder}
 use Rattle.shape.specs.Shape.{component, wrongTop, Recipient}
-use Rattle.shape.specs.Recipients.{topEntries, topOrder, elementsOrder, recipientsIn}
+use Rattle.shape.specs.Recipients.{topOf, topEntries, topOrder, elementsOrder, recipientsIn, componentsIn}
 use Rattle.jwe.specs.General.{sharedEntries, ownEntries, parameters, allPlaces, anyMisspelled, protectedOrder}
-use Rattle.jwe.specs.General.{headersOrder, recipientsOrder, jsonOrder}
+use Rattle.jwe.specs.General.{headersOrder, recipientsOrder, jsonLater, jsonOrder}
+use Rattle.jwe.proofs.JsonOrder.{json-is}
 use Rattle.meets.proofs.Deciding.{any-every}
 use Rattle.meets.proofs.Orders.{Numbered, numbered-append, numbered-flat, none-append, none-one, none-flat}
 use Rattle.meets.proofs.Orders.{every-made}
@@ -66,7 +67,7 @@ unfolding anyMisspelled allPlaces
 components-pass message es =
     let rs = recipientsIn message es in
     let a = any-every (misspelled message) (λ q. misspelled message q ≡ false) (λ q. ((λ e. e), (λ e. e)))
-    (allPlaces es rs) in
+    (allPlaces (topOf es .components) rs) in
     let b = every-made (λ (r : Recipient). r .key) (λ q. misspelled message q ≡ false) rs in (
       (λ e.
           let h = a .0 e in
@@ -84,29 +85,29 @@ module _ (header message : List ℕ) (es : List Entry) (rs : List Recipient) whe
   owns-numbered : Numbered (flatMap ownOrder rs)
   owns-numbered = numbered-flat ownOrder (λ r. object-numbered message (ownEntries message r)) rs
 
-  shared-numbered : Numbered (objectOrder message (sharedEntries message es) ++ flatMap ownOrder rs)
+  shared-numbered : Numbered (objectOrder message (sharedEntries message (topOf es)) ++ flatMap ownOrder rs)
   shared-numbered =
-      numbered-append (objectOrder message (sharedEntries message es)) (flatMap ownOrder rs)
-      (object-numbered message (sharedEntries message es)) owns-numbered
+      numbered-append (objectOrder message (sharedEntries message (topOf es))) (flatMap ownOrder rs)
+      (object-numbered message (sharedEntries message (topOf es))) owns-numbered
 
-  headers-numbered : Numbered (headersOrder header message es rs)
+  headers-numbered : Numbered (headersOrder header message (topOf es) rs)
   unfolding headersOrder
   headers-numbered =
       numbered-append (objectOrder header (protectedEntries header))
-      (objectOrder message (sharedEntries message es) ++ flatMap ownOrder rs)
+      (objectOrder message (sharedEntries message (topOf es)) ++ flatMap ownOrder rs)
       (object-numbered header (protectedEntries header)) shared-numbered
 
-  pub headers-pass : (first (headersOrder header message es rs) ≡ 0)
+  pub headers-pass : (first (headersOrder header message (topOf es) rs) ≡ 0)
       ↔ ((first (objectOrder header (protectedEntries header)) ≡ 0)
-      × ((first (objectOrder message (sharedEntries message es)) ≡ 0)
+      × ((first (objectOrder message (sharedEntries message (topOf es))) ≡ 0)
       × Every (λ r. first (objectOrder message (ownEntries message r)) ≡ 0) rs))
   unfolding headersOrder
   headers-pass =
       let a = none-append (objectOrder header (protectedEntries header))
-      (objectOrder message (sharedEntries message es) ++ flatMap ownOrder rs)
+      (objectOrder message (sharedEntries message (topOf es)) ++ flatMap ownOrder rs)
       (object-numbered header (protectedEntries header)) shared-numbered in
-      let b = none-append (objectOrder message (sharedEntries message es)) (flatMap ownOrder rs)
-      (object-numbered message (sharedEntries message es)) owns-numbered in
+      let b = none-append (objectOrder message (sharedEntries message (topOf es))) (flatMap ownOrder rs)
+      (object-numbered message (sharedEntries message (topOf es))) owns-numbered in
       let c = none-flat ownOrder (λ r. object-numbered message (ownEntries message r)) rs in (
         (λ e. let h = a .0 e in let g = b .0 (h .1) in (h .0, (g .0, c .0 (g .1)))),
         (λ h. a .1 (h .0, b .1 (h .1 .0, c .1 (h .1 .1)))),
@@ -115,20 +116,24 @@ module _ (header message : List ℕ) (es : List Entry) (rs : List Recipient) whe
   -- 12 to 18 on each recipient
   module _ (known : List (List ℕ)) where
     abbrev rulesOrder : Recipient → List Test
-    rulesOrder r = recipientOrder known header message (parameters header message es r) (eqb (r .key .size) 0)
+    rulesOrder r =
+        recipientOrder known (readTexts header message) (parameters header message (topOf es) r)
+        (sizesOf (componentsIn (topOf es) r))
 
     rules-numbered : (r : Recipient) → Numbered (rulesOrder r)
     unfolding recipientOrder any
     rules-numbered r = refl
 
-    recipients-numbered : Numbered (recipientsOrder known header message es rs)
+    recipients-numbered : Numbered (recipientsOrder known header message (topOf es) rs)
     unfolding recipientsOrder
     recipients-numbered = numbered-flat rulesOrder rules-numbered rs
 
-    pub recipients-pass : (first (recipientsOrder known header message es rs) ≡ 0)
+    pub recipients-pass : (first (recipientsOrder known header message (topOf es) rs) ≡ 0)
         ↔ Every
         (λ r.
-        first (recipientOrder known header message (parameters header message es r) (eqb (r .key .size) 0)) ≡ 0)
+        first (recipientOrder known (readTexts header message) (parameters header message (topOf es) r)
+        (sizesOf (componentsIn (topOf es) r)))
+        ≡ 0)
         rs
     unfolding recipientsOrder
     recipients-pass = none-flat rulesOrder rules-numbered rs
@@ -151,15 +156,15 @@ module _ (known : List (List ℕ)) (message : List ℕ) (recipient : ℕ) where
     pub elements : first (elementsOrder message (topEntries message)) ≡ 0
     pub spelled : anyMisspelled message (topEntries message) ≡ false
     pub protected :
-        first (protectedOrder (topEntries message) (headerText message (component 1 (topEntries message)))) ≡ 0
+        first (protectedOrder (topOf (topEntries message)) (headerText message (component 1 (topEntries message)))) ≡ 0
     pub headers :
         first
-        (headersOrder (headerText message (component 1 (topEntries message))) message (topEntries message)
+        (headersOrder (headerText message (component 1 (topEntries message))) message (topOf (topEntries message))
         (recipientsIn message (topEntries message)))
         ≡ 0
     pub rules :
         first
-        (recipientsOrder known (headerText message (component 1 (topEntries message))) message (topEntries message)
+        (recipientsOrder known (headerText message (component 1 (topEntries message))) message (topOf (topEntries message))
         (recipientsIn message (topEntries message)))
         ≡ 0
     pub asked : leb (length (recipientsIn message (topEntries message))) recipient ≡ false
@@ -170,13 +175,13 @@ module _ (known : List (List ℕ)) (message : List ℕ) (recipient : ℕ) where
   after-rules = 19 if leb (length rs) recipient ∷ []
 
   abbrev after-headers : List Test
-  after-headers = recipientsOrder known header message es rs ++ after-rules
+  after-headers = recipientsOrder known header message (topOf es) rs ++ after-rules
 
   abbrev after-protected : List Test
-  after-protected = headersOrder header message es rs ++ after-headers
+  after-protected = headersOrder header message (topOf es) rs ++ after-headers
 
   abbrev after-spelled : List Test
-  after-spelled = protectedOrder es header ++ after-protected
+  after-spelled = protectedOrder (topOf es) header ++ after-protected
 
   abbrev after-elements : List Test
   after-elements = 5 if anyMisspelled message es ∷ after-spelled
@@ -184,33 +189,37 @@ module _ (known : List (List ℕ)) (message : List ℕ) (recipient : ℕ) where
   headers-left : Numbered after-headers
   unfolding any
   headers-left =
-      numbered-append (recipientsOrder known header message es rs) after-rules
+      numbered-append (recipientsOrder known header message (topOf es) rs) after-rules
       (recipients-numbered header message es rs known) refl
 
   protected-left : Numbered after-protected
   protected-left =
-      numbered-append (headersOrder header message es rs) after-headers (headers-numbered header message es rs)
+      numbered-append (headersOrder header message (topOf es) rs) after-headers (headers-numbered header message es rs)
       headers-left
 
   spelled-left : Numbered after-spelled
   spelled-left =
-      numbered-append (protectedOrder es header) after-protected (protected-numbered es header) protected-left
+      numbered-append (protectedOrder (topOf es) header) after-protected (protected-numbered es header) protected-left
 
   elements-left : Numbered after-elements
   unfolding any
   elements-left = spelled-left
 
-  pub json-passes : (first (jsonOrder message known recipient) ≡ 0) ↔ Passed
-  unfolding jsonOrder any
-  json-passes =
+  order-is : jsonOrder message known recipient ≡ topOrder message ++ (elementsOrder message es ++ after-elements)
+  unfolding jsonLater
+  order-is = json-is message known recipient
+
+  stages-pass : (first (topOrder message ++ (elementsOrder message es ++ after-elements)) ≡ 0) ↔ Passed
+  unfolding any
+  stages-pass =
       let a = none-append (topOrder message) (elementsOrder message es ++ after-elements) (top-numbered message)
       (numbered-append (elementsOrder message es) after-elements (elements-numbered message es) elements-left) in
       let b = none-append (elementsOrder message es) after-elements (elements-numbered message es) elements-left in
       let c = none-append (5 if anyMisspelled message es ∷ []) after-spelled refl spelled-left in
-      let d = none-append (protectedOrder es header) after-protected (protected-numbered es header) protected-left in
-      let e = none-append (headersOrder header message es rs) after-headers (headers-numbered header message es rs)
+      let d = none-append (protectedOrder (topOf es) header) after-protected (protected-numbered es header) protected-left in
+      let e = none-append (headersOrder header message (topOf es) rs) after-headers (headers-numbered header message es rs)
       headers-left in
-      let f = none-append (recipientsOrder known header message es rs) after-rules
+      let f = none-append (recipientsOrder known header message (topOf es) rs) after-rules
       (recipients-numbered header message es rs known) refl in
       let five = none-one 5 (anyMisspelled message es) refl in
       let last = none-one 19 (leb (length rs) recipient) refl in (
@@ -242,3 +251,6 @@ module _ (known : List (List ℕ)) (message : List ℕ) (recipient : ℕ) where
               ),
             )),
       )
+
+  pub json-passes : (first (jsonOrder message known recipient) ≡ 0) ↔ Passed
+  json-passes = subst (λ (l : List Test). (first l ≡ 0) ↔ Passed) (sym order-is) stages-pass

@@ -20,7 +20,7 @@ use Rattle.grammar.specs.Reader.{membersAt, skipSpace}
 use Rattle.grammar.specs.Spellings.{adds, next, undoFrom, undo, equal, has}
 use Rattle.names.specs.Names.{numberIn}
 use Rattle.prelude.specs.Any.{any}
-use Rattle.rows.specs.Rows.{Entry, textOf, entriesIn, entryOf}
+use Rattle.rows.specs.Rows.{Entry, textOf, entriesIn, entryOf, Texts, oneText}
 use Rattle.headers.specs.Headers.{outermost}
 use Rattle.shape.specs.Shape.{memberNames, memberEntries}
 use Rattle.meets.specs.Members.{Member, membersOf}

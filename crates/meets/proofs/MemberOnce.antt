@@ -12,7 +12,7 @@ use Rattle.grammar.specs.Spellings.{equal, alike}
 use Rattle.grammar.proofs.Spellings.{equal-same}
 use Rattle.grammar.proofs.Scan.{T→true}
 use Rattle.prelude.specs.Any.{any, anyPair}
-use Rattle.rows.specs.Rows.{entriesIn, same, repeated}
+use Rattle.rows.specs.Rows.{entriesIn, same, repeated, oneText}
 use Rattle.meets.specs.Handed.{NameAt, MemberAt, NoMember, PartAt, RowsOf, RecipientAt}
 use Rattle.meets.proofs.Deciding.{or-false}
 use Rattle.meets.proofs.Numbering.{octets-undone}
@@ -47,23 +47,23 @@ module _ (s w : List ℕ) where
 
   -- So where none says what the first does, none of the others has the name.
   no-other : (q : Place) (x : Placed) → Named s q → NameAt s q w → (u : Placed) (ps : Parts) → NamesStand s ps →
-      any (same false s s (entryAt s q x)) (entriesAt s ps) ≡ false → MemberAt s w u ps → ⊥
+      any (same false (oneText s) (entryAt s q x)) (entriesAt s ps) ≡ false → MemberAt s w u ps → ⊥
   unfolding NamesStand MemberAt entriesIn members any
   no-other q x h a u done k e m = m
   no-other q x h a u (part none y ps) k e m = no-other q x h a u ps k e m
   no-other q x h a u (part (some p) y ps) k e m =
-      let t = or-false (same false s s (entryAt s q x) (entryAt s p y)) _ .0 e in
+      let t = or-false (same false (oneText s) (entryAt s q x) (entryAt s p y)) _ .0 e in
       elim m [
         | inl b ↦ true≢false (sym (alike-names q p h (k .0) a (b .0)) ∙ t .0)
         | inr r ↦ no-other q x h a u ps (k .1) (t .1) r
       ]
 
-  pub member-once : (ps : Parts) → NamesStand s ps → repeated false s s (entriesAt s ps) ≡ false → Once s w ps
+  pub member-once : (ps : Parts) → NamesStand s ps → repeated false (oneText s) (entriesAt s ps) ≡ false → Once s w ps
   unfolding NamesStand MemberAt entriesIn members repeated anyPair
   member-once done k e v u m n = absurd m
   member-once (part none y ps) k e v u m n = member-once ps k e v u m n
   member-once (part (some q) y ps) k e v u m n =
-      let t = or-false (any (same false s s (entryAt s q y)) (entriesAt s ps)) _ .0 e in
+      let t = or-false (any (same false (oneText s) (entryAt s q y)) (entriesAt s ps)) _ .0 e in
       elim m [
         | inl a ↦ elim n [
           | inl b ↦ sym (a .1) ∙ b .1

@@ -16,6 +16,7 @@ use Rattle.prelude.specs.Any.{any}
 use Rattle.rows.specs.Rows.{Entry, present, valueOf}
 use Rattle.prelude.specs.Refusals.{Test, _if_, first}
 use Rattle.headers.specs.Headers.{unread, textOrder, tooLong, outermost}
+use Rattle.shape.specs.Recipients.{topOf}
 use Rattle.jwe.specs.General.{isHollow, protectedOrder}
 use Rattle.meets.specs.Members.{Member}
 use Rattle.meets.specs.Meets.{Protected, membersRead, Component, ProtectedIn}
@@ -46,11 +47,11 @@ module _ (es : List Entry) (header : List ℕ) where
   abbrev tests : List Test
   tests = textOrder header ++ (10 if isHollow (outermost header) ∷ [])
 
-  pub order-is : (b : Bool) → present 1 es ≡ b → protectedOrder es header ≡ cond b tests []
+  pub order-is : (b : Bool) → present 1 es ≡ b → protectedOrder (topOf es) header ≡ cond b tests []
   unfolding protectedOrder
   order-is b e = ap (λ (x : Bool). cond x tests []) e
 
-  pub protected-numbered : Numbered (protectedOrder es header)
+  pub protected-numbered : Numbered (protectedOrder (topOf es) header)
   unfolding protectedOrder textOrder any
   protected-numbered = numbered-either (present 1 es) tests [] refl refl
 
@@ -72,7 +73,7 @@ module _ (message : List ℕ) (ps : List Member) (es : List Entry) (header : Lis
       subst (λ (us : List Member). OneForOne (MemberStands header) us (outermost header)) (sym i)
       (outermost-stand header (p .reading))
 
-  pub protected-decided : (first (protectedOrder es header) ≡ 0) ↔ ((hs : List Member) × ProtectedIn ps header hs)
+  pub protected-decided : (first (protectedOrder (topOf es) header) ≡ 0) ↔ ((hs : List Member) × ProtectedIn ps header hs)
   unfolding first textOrder any
   protected-decided = cases l
     where
@@ -81,7 +82,7 @@ module _ (message : List ℕ) (ps : List Member) (es : List Entry) (header : Lis
       all = first-none (tests es header) refl
 
       cases : Lookup message (ascii "protected") ps (valueOf 1 es) (present 1 es) →
-          (first (protectedOrder es header) ≡ 0) ↔ ((hs : List Member) × ProtectedIn ps header hs)
+          (first (protectedOrder (topOf es) header) ≡ 0) ↔ ((hs : List Member) × ProtectedIn ps header hs)
       cases (missing t a e) = ((λ f. ([], inl (a, refl))), (λ h. ap first (order-is es header false t)))
       cases (single v t o) = (
         (λ f.

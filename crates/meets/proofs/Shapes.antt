@@ -14,7 +14,7 @@ use Rattle.grammar.specs.Strings.{HasOctets}
 use Rattle.grammar.specs.Spellings.{adds, next, undoFrom, undo, equal, has}
 use Rattle.names.specs.Names.{numberIn}
 use Rattle.prelude.specs.Any.{any}
-use Rattle.rows.specs.Rows.{Entry, numbered}
+use Rattle.rows.specs.Rows.{Entry, numbered, oneText}
 use Rattle.shape.specs.Shape.{memberNames, wrongComponent, wrongHeader, wrongMember, wrongInElement}
 use Rattle.meets.specs.Members.{Member, Among}
 use Rattle.meets.specs.Meets.{Plain, Filled, Header}

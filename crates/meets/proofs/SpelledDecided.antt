@@ -8,20 +8,20 @@ use Prim.Native.Nat.{ℕ, zero-le}
 use native.Mathlib.Omega.{arith}
 use lib.ListN.{length}
 use lib.Dec.{eqb}
-use borrow.Author.Tests.{ne-eqb, eqb-true}
+use borrow.Author.Tests.{ne-eqb, eq-eqb, eqb-true}
 use Rattle.prelude.specs.Ascii.{ascii}
 use Rattle.prelude.specs.Buffer.{AllBelow}
-use Rattle.base64url.specs.Base64url.{alphabet, character, placeIn, sixBits, sextets, encoded, decoded}
+use Rattle.base64url.specs.Base64url.{alphabet, character, placeIn, sixBits, sextets, encoded, decoded, decodedLength}
 use Rattle.base64url.specs.Fault.{Fault, none, at, fault}
 use Rattle.base64url.specs.Answers.{ofFault}
 use Rattle.base64url.proofs.Alphabet.{value-of-character}
 use Rattle.base64url.proofs.Groups.{sextets-below}
-use Rattle.base64url.proofs.Laws.{accepted-exactly, decode-encode, encoded-length}
+use Rattle.base64url.proofs.Laws.{accepted-exactly, decode-encode, encoded-length, length-back}
 use Rattle.parts.specs.Parts.{holds}
 use Rattle.parts.proofs.Laws.{part-fits}
 use Rattle.grammar.specs.Places.{Place}
 use Rattle.prelude.specs.Any.{any}
-use Rattle.headers.specs.Components.{absent, octetsAt, places, misspelled}
+use Rattle.headers.specs.Components.{absent, octetsAt, places, misspelled, sizesOf}
 use Rattle.headers.specs.Headers.{headerText}
 use Rattle.jwe.specs.Compact.{fourStops, compactComponents}
 use Rattle.headers.specs.Components.{dotted}
@@ -47,16 +47,6 @@ module _ (c : ℕ) (outside : sixBits c ≡ 64) where
 pub stop-outside : sixBits 46 ≡ 64
 unfolding ascii alphabet placeIn sixBits
 stop-outside = refl
-
--- Octets are encoded to nothing exactly where there are none.
-pub encoded-none : (xs : List ℕ) → (eqb (length (encoded xs)) 0 ≡ true) ↔ (xs ≡ [])
-unfolding encoded sextets
-encoded-none [] = ((λ e. refl), (λ e. refl))
-encoded-none (x ∷ xs) =
-    let size = encoded-length (x ∷ xs) in (
-      (λ e. let z = eqb-true (length (encoded (x ∷ xs))) 0 e in absurd (omega arith)),
-      (λ e. absurd (omega (arith, ap length e))),
-    )
 
 -- 5 on one component
 
@@ -119,13 +109,23 @@ unfolding headerText
 spelled-header message s =
     ap decoded (parts-placed message (spelled-parts message s) .header) ∙ decode-encode (s .header) (s .octets .0)
 
+-- Octets are none exactly where their encoded text decodes to none.
+pub none-decoded : (xs : List ℕ) (n : ℕ) → n ≡ length (encoded xs) → (eqb (decodedLength n) 0 ≡ true) ↔ (xs ≡ [])
+none-decoded xs n e =
+    let size : decodedLength n ≡ length xs = ap decodedLength e ∙ length-back xs in (
+      (λ b. no-length xs (sym size ∙ eqb-true (decodedLength n) 0 b)),
+      (λ z. eq-eqb (decodedLength n) 0 (size ∙ ap length z)),
+    )
+  where
+    no-length : (w : List ℕ) → length w ≡ 0 → w ≡ []
+    no-length [] h = refl
+    no-length (x ∷ w) h = absurd (omega (arith, h))
+
 -- .. and the second is empty exactly where there is no key.
 pub spelled-key : (message : List ℕ) (s : Spelled message) →
-    (eqb (compactComponents message .key .size) 0 ≡ true) ↔ (s .key ≡ [])
+    (eqb (sizesOf (compactComponents message) .key) 0 ≡ true) ↔ (s .key ≡ [])
 spelled-key message s =
-    let e = parts-placed message (spelled-parts message s) .keySize in
-    let t = encoded-none (s .key) in
-    ((λ b. t .0 (ap (λ (n : ℕ). eqb n 0) (sym e) ∙ b)), (λ k. ap (λ (n : ℕ). eqb n 0) e ∙ t .1 k))
+    none-decoded (s .key) (compactComponents message .key .size) (parts-placed message (spelled-parts message s) .keySize)
 
 -- No component misspelled.
 abbrev WellSpelled : List ℕ → Type 0
