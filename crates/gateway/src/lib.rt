@@ -13,8 +13,8 @@ ghost use Rattle.jwe_write.specs.Answers.{WritesCompact};
 use aad::Joined;
 use base64url::Decoded;
 use jwe::Result;
-use jwe_write::Written;
 use prelude::Place;
+use prelude::Stage;
 
 // The header walk (document 01, 'Further requests'): `open_walk` opens it on a text, and each `next_member` hands out one
 // member, then the end. For callers that want no struct, `walk_start` and `walk_step` take the text and an offset.
@@ -97,7 +97,7 @@ pub fn write(
     tag: &[u8],
     known: &[u8],
     out: &mut [u8],
-) -> Written
+) -> Stage
     ensures { λ r. ⌜ WritesCompact
         (raw (now (header .entry)) (now (key .entry)) (now (iv .entry)) (now (ciphertext .entry)) (now (tag .entry)))
         (now (known .entry)) (now (out .entry)) r (now (out .exit)) ⌝ }

@@ -20,7 +20,8 @@ use Rattle.grammar.specs.Bounds.{Every}
 use Rattle.grammar.specs.Places.{Place}
 use Rattle.headers.specs.Components.{misspelled, octetsAt, absent, Components, places}
 use Rattle.jwe.specs.Judge.{Call, refusal, refused, Outcome, outcome, accepted, result}
-use Rattle.jwe.specs.Answers.{numbers, componentsOf}
+use Rattle.headers.specs.Answers.{componentsOf}
+use Rattle.jwe.specs.Answers.{numbers}
 use Rattle.jwe.specs.declared.Result.{Result}
 use Rattle.meets.proofs.ComponentsSpelled.{Sound, components-spelled}
 use Rattle.host.specs.Component.{placeAt, componentPlace, componentOctets}

@@ -4,10 +4,10 @@ ghost use lib.ListN.{length};
 ghost use Rattle.prelude.specs.Outputs.{Writes};
 ghost use Rattle.prelude.specs.Limits.{headerRoom, listRoom};
 ghost use Rattle.jwe.specs.Judge.{call, refusal};
-ghost use Rattle.jwe.specs.Answers.{codePlace, componentsOf};
+ghost use Rattle.headers.specs.Answers.{codePlace, componentsOf};
 ghost use Rattle.host.specs.Component.{componentPlace, componentOctets, componentRefusal};
 use crate::jwe_decode;
-use jwe::Components;
+use headers::Components;
 use prelude::Place;
 
 // Judges a message for a recipient. What reading it hands out stays in here.

@@ -9,7 +9,7 @@ ghost use Rattle.aad.specs.Aad.{aadText, aadRefusal};
 ghost use Rattle.jwe_write.specs.Write.{raw, compactText, writeRefusal};
 use aad::Joined;
 use base64url::Decoded;
-use jwe_write::Written;
+use prelude::Stage;
 
 mod component;
 mod reading;
@@ -87,11 +87,11 @@ pub extern "C" fn jwe_write_compact(
 {
     let answer = gateway::write(header, key, iv, ciphertext, tag, known, out);
     match answer {
-        Written::Octets(written) => {
+        Stage::Passed(written) => {
             *octets = written;
             0
         }
-        Written::Refused(n) => {
+        Stage::Refused(n) => {
             *octets = 0;
             n
         }

@@ -5,3 +5,5 @@ pub mod InTable
 pub mod Walks
 -- Rules asked in order.
 pub mod Order
+-- On what the rules depend.
+pub mod Alike

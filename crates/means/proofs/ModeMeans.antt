@@ -6,7 +6,7 @@ use Prim.Native.Nat.{ℕ}
 use lib.ListN.{length}
 use Rattle.prelude.specs.Ascii.{ascii}
 use Rattle.grammar.specs.Strings.{HasOctets}
-use Rattle.rows.specs.Rows.{Entry}
+use Rattle.rows.specs.Rows.{Entry, Texts}
 use Rattle.algorithms.specs.Algorithms.{mode, algNames}
 use Rattle.algorithms.specs.declared.Alg.{Alg}
 use Rattle.jose.specs.Registered.{registered}
@@ -35,23 +35,23 @@ some-alg [] i l = absurd i
 some-alg (p ∷ ps) (inl n) l = let (a, w) = listed-names (p .value) (l .0 n) in (a, inl (n, w))
 some-alg (p ∷ ps) (inr i) l = let (a, s) = some-alg ps i (l .1) in (a, inr s)
 
-module _ (header message : List ℕ) (h : Headers) (ps ss os : List Entry)
-    (zp : OneForOne (EntryStands registered header message 0) (h .protected) ps)
-    (zs : OneForOne (EntryStands registered header message 1) (h .shared) ss)
-    (zo : OneForOne (EntryStands registered header message 2) (h .own) os) where
-  all-seen : OneForOne (Seen registered header message) (parameters h) (ps ++ (ss ++ os))
-  all-seen = rules.all-seen header message h ps ss os zp zs zo
+module _ (ts : Texts) (h : Headers) (ps ss os : List Entry)
+    (zp : OneForOne (EntryStands registered ts 0) (h .protected) ps)
+    (zs : OneForOne (EntryStands registered ts 1) (h .shared) ss)
+    (zo : OneForOne (EntryStands registered ts 2) (h .own) os) where
+  all-seen : OneForOne (Seen registered ts) (parameters h) (ps ++ (ss ++ os))
+  all-seen = rules.all-seen ts h ps ss os zp zs zo
 
   -- As many as the parameters.
   pub entries-many : length (ps ++ (ss ++ os)) ≡ length (parameters h)
-  entries-many = sym (zip-length (Seen registered header message) (parameters h) (ps ++ (ss ++ os)) all-seen)
+  entries-many = sym (zip-length (Seen registered ts) (parameters h) (ps ++ (ss ++ os)) all-seen)
 
   pub mode-means : (known : List (List ℕ)) (key : List ℕ) → NamesOnce h → Rules known h key →
-      ModeMeans (parameters h) (modeIn header message (ps ++ (ss ++ os)))
+      ModeMeans (parameters h) (modeIn ts (ps ++ (ss ++ os)))
   mode-means known key once rules =
       let es = ps ++ (ss ++ os) in
-      let m = modeIn header message es in
-      let all = mode-where header message (λ k. m ≡ k) (parameters h) es all-seen
+      let m = modeIn ts es in
+      let all = mode-where ts (λ k. m ≡ k) (parameters h) es all-seen
       (parameters-distinct h once (rules .apart)) (rules .alg) (rules .algListed) .0 refl in
       let other : (a : Alg) → Some (HasAlg a) (parameters h) → m ≡ mode a =
       λ a s.

@@ -11,15 +11,15 @@ use Rattle.base64url.specs.Base64url.{sextets, encoded}
 use Rattle.parts.proofs.Laws.{part-fits}
 use Rattle.grammar.specs.Places.{placedText, partsOf}
 use Rattle.grammar.specs.Reader.{opensObject}
-use Rattle.rows.specs.Rows.{Entry, present, valueOf}
+use Rattle.rows.specs.Rows.{Entry, present, valueOf, readTexts}
 use Rattle.jose.specs.HeaderRules.{modeIn}
 use Rattle.headers.specs.Components.{octetsAt}
 use Rattle.headers.specs.Headers.{headerText, outermost, protectedEntries}
 use Rattle.shape.specs.Shape.{memberEntries, component}
-use Rattle.shape.specs.Recipients.{topEntries, recipientsIn, componentsIn}
+use Rattle.shape.specs.Recipients.{topEntries, recipientsIn, componentsIn, topOf}
 use Rattle.jwe.specs.Compact.{compactComponents}
 use Rattle.jwe.specs.General.{sharedEntries, ownEntries, parameters}
-use Rattle.jwe.specs.Judge.{Call, callFor, refusal, compactOutcome, asked, jsonOutcome, outcome, accepted, refused, result}
+use Rattle.jwe.specs.Judge.{Call, callFor, refusal, compactOutcome, asked, outcomeOf, jsonOutcome, outcome, accepted, refused, result}
 use Rattle.round_trips.specs.Trips.{writtenPlaces}
 use Rattle.round_trips.proofs.Places.{dotted-written, places-are}
 use Rattle.meets.specs.Members.{Member, membersOf}
@@ -98,15 +98,15 @@ module _ (known : List (List ℕ)) (message : List ℕ) (c : Compact known messa
       let h = headersOf (compact c) n in
       let es = protectedEntries header in
       ap length (sym (append-nil es))
-      ∙ entries-many header message h es [] [] (protected-entries header message (h .protected) compact-stand) tt tt
+      ∙ entries-many (readTexts header message) h es [] [] (protected-entries header message (h .protected) compact-stand) tt tt
 
   compact-mode : ModeMeans (rules.parameters (headersOf (compact c) n))
-      (modeIn header message (protectedEntries header))
+      (modeIn (readTexts header message) (protectedEntries header))
   compact-mode =
       let h = headersOf (compact c) n in
       let es = protectedEntries header in
-      subst (λ (fs : List Entry). ModeMeans (rules.parameters h) (modeIn header message fs)) (append-nil es)
-      (mode-means header message h es [] [] (protected-entries header message (h .protected) compact-stand) tt tt known
+      subst (λ (fs : List Entry). ModeMeans (rules.parameters h) (modeIn (readTexts header message) fs)) (append-nil es)
+      (mode-means (readTexts header message) h es [] [] (protected-entries header message (h .protected) compact-stand) tt tt known
       (c .key) (record { protected = c .object .distinct; shared = tt; own = tt }) (c .rules))
 
   compact-means : ResultMeans (compact c) n (accepted message (compactOutcome message))
@@ -145,26 +145,26 @@ module _ (known : List (List ℕ)) (message : List ℕ) (j : Json known message)
   es = topEntries message
 
   json-mode : ModeMeans (rules.parameters (headersOf (json j) n))
-      (modeIn (jsonOutcome message n .header) message (jsonOutcome message n .entries))
-  unfolding jsonOutcome componentsIn parameters
+      (modeIn (readTexts (jsonOutcome message n .header) message) (jsonOutcome message n .entries))
+  unfolding jsonOutcome outcomeOf componentsIn parameters
   json-mode =
       let s = json-stands known message j n below in
       let h = headersOf (json j) n in
       let H = headerText message (component 1 es) in
       let r = asked (recipientsIn message es) n in
-      mode-means H message h (protectedEntries H) (sharedEntries message es) (ownEntries message r)
+      mode-means (readTexts H message) h (protectedEntries H) (sharedEntries message (topOf es)) (ownEntries message r)
       (protected-entries H message (h .protected) (s .protected))
       (shared-entries H message es (h .shared) (s .shared)) (own-entries H message r (h .own) (s .own)) known (s .key)
       (s .once) (s .rules)
 
   json-many : length (jsonOutcome message n .entries) ≡ length (rules.parameters (headersOf (json j) n))
-  unfolding jsonOutcome componentsIn parameters
+  unfolding jsonOutcome outcomeOf componentsIn parameters
   json-many =
       let s = json-stands known message j n below in
       let h = headersOf (json j) n in
       let H = headerText message (component 1 es) in
       let r = asked (recipientsIn message es) n in
-      entries-many H message h (protectedEntries H) (sharedEntries message es) (ownEntries message r)
+      entries-many (readTexts H message) h (protectedEntries H) (sharedEntries message (topOf es)) (ownEntries message r)
       (protected-entries H message (h .protected) (s .protected))
       (shared-entries H message es (h .shared) (s .shared)) (own-entries H message r (h .own) (s .own))
 
@@ -176,7 +176,7 @@ module _ (known : List (List ℕ)) (message : List ℕ) (j : Json known message)
       s .is ∙ sym (s .means xs o .0 c)
 
   json-shows : PlacesShow message (jsonOutcome message n .components) (contentsOf (json j) n)
-  unfolding jsonOutcome componentsIn
+  unfolding jsonOutcome outcomeOf componentsIn
   json-shows =
       let o = j .octets in
       let t = j .shape in
@@ -194,21 +194,21 @@ module _ (known : List (List ℕ)) (message : List ℕ) (j : Json known message)
       }
 
   json-header : jsonOutcome message n .header ≡ j .header
-  unfolding jsonOutcome componentsIn
+  unfolding jsonOutcome outcomeOf componentsIn
   json-header = json-stands known message j n below .headerIs
 
   module _ (passed : Passed message n (entriesAt message (partsOf (placedText (j .reading .text))))) where
     places-mean : JsonPlaces message (partsOf (placedText (j .reading .text))) n (jsonOutcome message n .components)
-    unfolding jsonOutcome topEntries memberEntries
+    unfolding jsonOutcome outcomeOf topEntries memberEntries
     places-mean =
         subst (λ (fs : List Entry).
         JsonPlaces message (partsOf (placedText (j .reading .text))) n
-        (componentsIn fs (asked (recipientsIn message fs) n)))
+        (componentsIn (topOf fs) (asked (recipientsIn message fs) n)))
         (sym (ap (memberEntries message) (outermost-rows message (j .reading))))
         (json-places message n (j .reading) passed)
 
     json-means : ResultMeans (json j) n (accepted message (jsonOutcome message n))
-    unfolding accepted jsonOutcome
+    unfolding accepted jsonOutcome outcomeOf
     json-means =
         let m = json-mode in
         record {

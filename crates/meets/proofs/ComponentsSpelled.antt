@@ -4,21 +4,18 @@ use mathlib.Core.Bool.{Bool, true, false, not, cond}
 use mathlib.Core.List.{List, [], _∷_, _++_}
 use Prim.Native.Nat.{ℕ}
 use lib.ListN.{length}
-use lib.Dec.{eqb, leb}
 use Rattle.grammar.specs.Bounds.{Every}
 use Rattle.grammar.specs.Places.{Place}
 use Rattle.grammar.specs.Reader.{opensObject}
 use Rattle.names.specs.Names.{names}
 use Rattle.prelude.specs.Any.{any}
 use Rattle.prelude.specs.Refusals.{Test, _if_, first}
-use Rattle.jose.specs.HeaderRules.{recipientOrder}
 use Rattle.headers.specs.Components.{misspelled, places}
-use Rattle.headers.specs.Headers.{headerText, textOrder, protectedEntries, objectOrder}
 use Rattle.shape.specs.Shape.{Recipient}
 use Rattle.shape.specs.Recipients.{topEntries, recipientsIn, componentsIn}
-use Rattle.jwe.specs.Compact.{fourStops, compactComponents, compactOrder}
+use Rattle.jwe.specs.Compact.{fourStops, compactComponents, compactOrder, compactSpelled, compactLater}
 use Rattle.jwe.specs.General.{jsonOrder}
-use Rattle.jwe.specs.Judge.{Call, refusal, compactOutcome, jsonOutcome, outcome}
+use Rattle.jwe.specs.Judge.{Call, refusal, compactOutcome, outcomeOf, jsonOutcome, outcome}
 use Rattle.meets.proofs.Deciding.{any-every, first-none}
 use Rattle.meets.proofs.InOrder.{first-append}
 use Rattle.meets.proofs.JsonPassed.{json-passed}
@@ -34,18 +31,14 @@ module _ (message : List ℕ) where
   unfolding compactOrder any
   compact-spelled known recipient e =
       let q = compactComponents message in
-      let header = headerText message (q .protected) in
-      let es = protectedEntries header in
-      let spelling : List Test = 4 if not (fourStops message) ∷ 5 if any (misspelled message) (places q) ∷ [] in
-      let left : List Test =
-      textOrder header
-      ++ (objectOrder header es ++ (recipientOrder known (readTexts header message) es (eqb (q .key .size) 0) ++ (19 if leb 1 recipient ∷ []))) in
+      let spelling = compactSpelled message in
+      let left = compactLater known message q recipient in
       let five = first-none spelling refl .0 (first-append spelling left refl .0 e .0) .1 .0 in
       any-every (misspelled message) Sound (λ q. ((λ e. e), (λ e. e))) (places q) .0 five
 
   json-spelled : (known : List (List ℕ)) (recipient : ℕ) → first (jsonOrder message known recipient) ≡ 0 →
       Every Sound (places (jsonOutcome message recipient .components))
-  unfolding jsonOutcome componentsIn
+  unfolding jsonOutcome outcomeOf componentsIn
   json-spelled known recipient e =
       let es = topEntries message in
       let passed = json-passed known message recipient e .1 in

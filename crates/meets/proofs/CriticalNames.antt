@@ -17,9 +17,9 @@ use Rattle.grammar.specs.Reader.{elementsAt}
 use Rattle.grammar.specs.Bounds.{Every}
 use Rattle.names.specs.Names.{numberIn}
 use Rattle.prelude.specs.Any.{any, anyPair}
-use Rattle.rows.specs.Rows.{Entry, Texts, textOf, nameIn, numbered}
+use Rattle.rows.specs.Rows.{Entry, Texts, textOf, nameIn, numbered, nameSays}
 use Rattle.jose.specs.Registered.{registered, crit}
-use Rattle.jose.specs.HeaderRules.{spelledElement, unknown, sameElement, nameSays, misplaced, isEmpty, wrongCrit}
+use Rattle.jose.specs.HeaderRules.{spelledElement, unknown, sameElement, misplaced, isEmpty, wrongCrit}
 use Rattle.jose.specs.HeaderRules.{critical}
 use Rattle.meets.specs.Members.{Member, elementsOf, Some, Among, Distinct}
 use Rattle.meets.specs.Rules.{EveryNamed, arrayNames, OfKind, Critical}

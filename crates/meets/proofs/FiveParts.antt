@@ -128,6 +128,9 @@ pub record Placed (message : List ℕ) (f : FiveParts message) : Type 0 where
   pub ciphertext : octetsAt message (compactComponents message .ciphertext) ≡ f .ciphertext
   pub tag : octetsAt message (compactComponents message .tag) ≡ f .tag
   pub keySize : compactComponents message .key .size ≡ length (f .key)
+  pub ivSize : compactComponents message .iv .size ≡ length (f .iv)
+  pub ciphertextSize : compactComponents message .ciphertext .size ≡ length (f .ciphertext)
+  pub tagSize : compactComponents message .tag .size ≡ length (f .tag)
 
 pub parts-placed : (message : List ℕ) (f : FiveParts message) → Placed message f
 unfolding compactComponents stops
@@ -145,6 +148,9 @@ parts-placed message f =
       ciphertext = d .octets;
       tag = part-last message (four message + 1) (f .tag) (omega arith) (d .rest);
       keySize = omega arith;
+      ivSize = omega (arith, c .place);
+      ciphertextSize = omega (arith, d .place);
+      tagSize = omega (arith, ap length (d .rest), length-drop (four message + 1) message);
     }
 
 -- From the stops to the parts

@@ -20,7 +20,7 @@ use Rattle.shape.specs.Shape.{memberEntries, protected, component}
 use Rattle.shape.specs.Recipients.{topEntries, componentsIn}
 use Rattle.jwe.specs.Compact.{compactOrder}
 use Rattle.jwe.specs.General.{sharedEntries, ownEntries, parameters, jsonOrder}
-use Rattle.jwe.specs.Judge.{Call, callFor, refusal, Outcome, compactOutcome, jsonOutcome, outcome, accepted, refused}
+use Rattle.jwe.specs.Judge.{Call, callFor, refusal, Outcome, compactOutcome, outcomeOf, jsonOutcome, outcome, accepted, refused}
 use Rattle.jwe.specs.Judge.{result, headerAfter, listAfter}
 use Rattle.meets.specs.Handed.{Rows, entries, count, Applies}
 use Rattle.meets.specs.Meets.{Meets}
@@ -68,7 +68,7 @@ module _ (known : List (List ℕ)) (message : List ℕ) (recipient : ℕ) where
 
   json-handed : first (jsonOrder message known recipient) ≡ 0 →
       Handed message recipient (jsonOutcome message recipient)
-  unfolding jsonOutcome componentsIn parameters sharedEntries ownEntries protectedEntries headerEntries
+  unfolding jsonOutcome outcomeOf componentsIn parameters sharedEntries ownEntries protectedEntries headerEntries
   json-handed e =
       let es = topEntries message in
       let header = headerText message (component protected es) in

@@ -13,7 +13,7 @@ use Rattle.grammar.specs.Places.{Place}
 use Rattle.grammar.specs.Bounds.{Every}
 use Rattle.grammar.specs.Reader.{opensObject}
 use Rattle.prelude.specs.Any.{any}
-use Rattle.rows.specs.Rows.{Entry, numbered, present, valueOf}
+use Rattle.rows.specs.Rows.{Entry, numbered, present, valueOf, readTexts}
 use Rattle.rows.specs.Tables.{six, listed}
 use Rattle.prelude.specs.Refusals.{Test, _if_, first}
 use Rattle.jose.specs.Registered.{registered}
@@ -23,7 +23,7 @@ use Rattle.shape.specs.Shape.{protected, component, inner, Recipient}
 use Rattle.shape.specs.Recipients.{topOf, topEntries, recipientsIn, componentsIn}
 use Rattle.jwe.specs.Compact.{compactOrder}
 use Rattle.jwe.specs.General.{sharedEntries, ownEntries, parameters, jsonOrder}
-use Rattle.jwe.specs.Judge.{Call, order, refusal, compactOutcome, asked, jsonOutcome, outcome}
+use Rattle.jwe.specs.Judge.{Call, order, refusal, compactOutcome, asked, outcomeOf, jsonOutcome, outcome}
 use Rattle.meets.specs.Meets.{membersRead, Compact}
 use Rattle.meets.proofs.OneForOne.{zip-length}
 use Rattle.meets.proofs.Deciding.{or-false, first-none}
@@ -62,7 +62,7 @@ compact-small known message c =
     } in
     let few = c .object .few in
     let same : length (membersRead (c .protected)) ≡ length (protectedEntries (c .header)) =
-    zip-length (EntryStands registered (c .header) message 0) (membersRead (c .protected))
+    zip-length (EntryStands registered (readTexts (c .header) message) 0) (membersRead (c .protected))
     (protectedEntries (c .header)) (protected-stands (c .header) message (c .protected)) in
     subst (λ (h : List ℕ). Small h (protectedEntries h)) (sym (spelled-header message s))
     (c .protected .short, omega arith)
@@ -97,7 +97,7 @@ module _ (message : List ℕ) (recipient : ℕ) (es : List Entry) (passed : Pass
           omega arith
 
   parameters-few : length
-      (parameters (headerText message (component protected es)) message es (asked (recipientsIn message es) recipient))
+      (parameters (headerText message (component protected es)) message (topOf es) (asked (recipientsIn message es) recipient))
       ≤ 96
   unfolding parameters
   parameters-few =
@@ -117,7 +117,7 @@ module _ (message : List ℕ) (recipient : ℕ) (es : List Entry) (passed : Pass
 json-small : (known : List (List ℕ)) (message : List ℕ) (recipient : ℕ) →
     first (jsonOrder message known recipient) ≡ 0 →
     Small (jsonOutcome message recipient .header) (jsonOutcome message recipient .entries)
-unfolding jsonOutcome componentsIn
+unfolding jsonOutcome outcomeOf componentsIn
 json-small known message recipient e =
     let es = topEntries message in
     let passed = json-passed known message recipient e .1 in

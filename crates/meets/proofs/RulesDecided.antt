@@ -5,6 +5,7 @@ use mathlib.Core.Bool.{Bool, true}
 use mathlib.Core.Logic.{_↔_}
 use mathlib.Core.List.{List, [], _∷_, _++_}
 use Prim.Native.Nat.{ℕ}
+use lib.Dec.{eqb}
 use Rattle.grammar.specs.Grammar.{Str}
 use Rattle.grammar.specs.Strings.{SayAlike}
 use Rattle.grammar.specs.Bounds.{Every}

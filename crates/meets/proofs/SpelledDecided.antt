@@ -21,6 +21,7 @@ use Rattle.parts.specs.Parts.{holds}
 use Rattle.parts.proofs.Laws.{part-fits}
 use Rattle.grammar.specs.Places.{Place}
 use Rattle.prelude.specs.Any.{any}
+use Rattle.jose.specs.declared.Sizes.{Sizes}
 use Rattle.headers.specs.Components.{absent, octetsAt, places, misspelled, sizesOf}
 use Rattle.headers.specs.Headers.{headerText}
 use Rattle.jwe.specs.Compact.{fourStops, compactComponents}
@@ -126,6 +127,25 @@ pub spelled-key : (message : List ℕ) (s : Spelled message) →
     (eqb (sizesOf (compactComponents message) .key) 0 ≡ true) ↔ (s .key ≡ [])
 spelled-key message s =
     none-decoded (s .key) (compactComponents message .key .size) (parts-placed message (spelled-parts message s) .keySize)
+
+-- All sizes are those of the octets.
+abbrev pub spelledSizes : {message : List ℕ} → Spelled message → Sizes
+spelledSizes s = record {
+  key = length (s .key);
+  iv = length (s .iv);
+  ciphertext = length (s .ciphertext);
+  tag = length (s .tag);
+}
+
+pub spelled-sizes : (message : List ℕ) (s : Spelled message) → sizesOf (compactComponents message) ≡ spelledSizes s
+spelled-sizes message s =
+    let p = parts-placed message (spelled-parts message s) in
+    rw (
+      ap decodedLength (p .keySize) ∙ length-back (s .key),
+      ap decodedLength (p .ivSize) ∙ length-back (s .iv),
+      ap decodedLength (p .ciphertextSize) ∙ length-back (s .ciphertext),
+      ap decodedLength (p .tagSize) ∙ length-back (s .tag),
+    )
 
 -- No component misspelled.
 abbrev WellSpelled : List ℕ → Type 0

@@ -7,16 +7,17 @@ use Prim.Native.Nat.{ℕ, _<_}
 use lib.ListN.{length}
 use lib.Dec.{eqb, leb}
 use borrow.Author.Tests.{eqb-false, ne-eqb, leb-false, lt-leb}
+use Rattle.jose.specs.declared.Sizes.{Sizes}
 use Rattle.base64url.specs.Base64url.{encoded, decoded}
 use Rattle.base64url.proofs.Laws.{decode-encode}
 use Rattle.parts.specs.Parts.{holds}
 use Rattle.grammar.specs.Places.{Place}
 use Rattle.prelude.specs.Any.{any}
-use Rattle.rows.specs.Rows.{Entry}
+use Rattle.rows.specs.Rows.{Entry, readTexts}
 use Rattle.jose.specs.Registered.{registered}
 use Rattle.prelude.specs.Refusals.{Test, _if_, first}
 use Rattle.jose.specs.HeaderRules.{recipientOrder}
-use Rattle.headers.specs.Components.{octetsAt, places, misspelled}
+use Rattle.headers.specs.Components.{octetsAt, places, misspelled, sizesOf}
 use Rattle.headers.specs.Headers.{headerText, textOrder, protectedEntries, objectOrder}
 use Rattle.jwe.specs.Compact.{fourStops, compactComponents, compactOrder}
 use Rattle.meets.specs.Members.{Member, membersOf}
@@ -24,7 +25,7 @@ use Rattle.meets.specs.Rules.{Headers}
 use Rattle.meets.specs.Meets.{Protected}
 use Rattle.meets.proofs.Deciding.{FalseWhere, not-where, neither}
 use Rattle.meets.proofs.FiveParts as parts
-use Rattle.meets.proofs.SpelledDecided.{spelling-decided, absent-spelled, encoded-none}
+use Rattle.meets.proofs.SpelledDecided.{spelling-decided, absent-spelled, none-decoded}
 use Rattle.meets.proofs.CompactHeader.{protected-stands}
 use Rattle.refusals.specs.Table.{Table, pass, rule, Refuses}
 use Rattle.refusals.specs.Numbers.{Stopless, FiveParts, Encoding, Encodings, textTable, objectTable, recipientTable}
@@ -115,16 +116,12 @@ module _ (message : List ℕ) (f : FiveParts message) where
     unfolding headerText
     header-is = ap decoded (placed .header ∙ sym (e .0 .2)) ∙ decode-encode (e .0 .0) (e .0 .1)
 
-    keyed : (eqb (compactComponents message .key .size) 0 ≡ true) ↔ (e .1 .0 ≡ [])
-    keyed =
-        let s : compactComponents message .key .size ≡ length (encoded (e .1 .0)) =
-        placed .keySize ∙ ap length (sym (e .1 .2)) in
-        let t = encoded-none (e .1 .0) in
-        ((λ b. t .0 (ap (λ (n : ℕ). eqb n 0) (sym s) ∙ b)), (λ k. ap (λ (n : ℕ). eqb n 0) s ∙ t .1 k))
+    keyed : (eqb (sizesOf (compactComponents message) .key) 0 ≡ true) ↔ (e .1 .0 ≡ [])
+    keyed = none-decoded (e .1 .0) (compactComponents message .key .size) (placed .keySize ∙ ap length (sym (e .1 .2)))
 
 -- 6 to 19, by the header.
-module _ (known : List (List ℕ)) (message : List ℕ) (recipient : ℕ) (key : List ℕ) (noKey : Bool)
-    (keyed : (noKey ≡ true) ↔ (key ≡ [])) where
+module _ (known : List (List ℕ)) (message : List ℕ) (recipient : ℕ) (key : List ℕ) (sizes : Sizes)
+    (keyed : (eqb (sizes .key) 0 ≡ true) ↔ (key ≡ [])) where
   abbrev lastOrder : List Test
   lastOrder = 19 if leb 1 recipient ∷ []
 
@@ -143,7 +140,7 @@ module _ (known : List (List ℕ)) (message : List ℕ) (recipient : ℕ) (key :
   membersTable ms = objectTable ms (recipientTable known (alone ms) key lastTable)
 
   abbrev rulesOrder : List ℕ → List Test
-  rulesOrder header = recipientOrder known header message (protectedEntries header) noKey ++ lastOrder
+  rulesOrder header = recipientOrder known (readTexts header message) (protectedEntries header) sizes ++ lastOrder
 
   abbrev headerOrder : List ℕ → List Test
   headerOrder header = textOrder header ++ (objectOrder header (protectedEntries header) ++ rulesOrder header)
@@ -158,21 +155,21 @@ module _ (known : List (List ℕ)) (message : List ℕ) (recipient : ℕ) (key :
       (recipientTable known (alone ms) key lastTable) (rulesOrder header) λ few once.
       subst (λ (xs : List Entry).
       Refuses (recipientTable known (alone ms) key lastTable)
-      (first (recipientOrder known header message xs noKey ++ lastOrder)))
+      (first (recipientOrder known (readTexts header message) xs sizes ++ lastOrder)))
       (append-nil es)
-      (recipient-refuses known header message (alone ms) es [] [] key noKey (protected-stands header message p) tt tt
+      (recipient-refuses known (readTexts header message) (alone ms) es [] [] key sizes (protected-stands header message p) tt tt
       (record { protected = once; shared = tt; own = tt }) keyed lastTable lastOrder asked-refuses)
 
 pub compact-refuses : (known : List (List ℕ)) (message : List ℕ) (recipient : ℕ) →
     Refuses (compactTable known message recipient) (first (compactOrder message known recipient))
 unfolding compactTable compactOrder
 compact-refuses known message recipient =
-    let noKey = eqb (compactComponents message .key .size) 0 in
+    let sizes = sizesOf (compactComponents message) in
     step 4 _ _ _ (parts-decided message) λ f.
     step 5 _ _ _ (spelled-where message f) λ e.
     let key = e .1 .0 in
     let k = keyed message f e in
     subst (λ (header : List ℕ).
-    Refuses (textTable (e .0 .0) (membersTable known message recipient key noKey k))
-    (first (headerOrder known message recipient key noKey k header)))
-    (sym (header-is message f e)) (header-refuses known message recipient key noKey k (e .0 .0))
+    Refuses (textTable (e .0 .0) (membersTable known message recipient key sizes k))
+    (first (headerOrder known message recipient key sizes k header)))
+    (sym (header-is message f e)) (header-refuses known message recipient key sizes k (e .0 .0))

@@ -8,6 +8,7 @@ use native.Mathlib.Omega.{arith}
 use lib.ListN.{length}
 use lib.Dec.{eqb, ltb}
 use borrow.Author.Tests.{ltb-false, le-ltb, eqb-true}
+use Rattle.rows.specs.Rows.{oneText}
 use Rattle.prelude.specs.Ascii.{ascii}
 use Rattle.prelude.specs.Limits.{longest}
 use Rattle.prelude.specs.Refusals.{first}
@@ -22,7 +23,7 @@ use Rattle.jose.specs.HeaderRules.{critical}
 use Rattle.headers.specs.Headers.{textOrder, outermost, protectedEntries, objectOrder}
 use Rattle.walk.specs.Walk.{walkOrder}
 use Rattle.aad.specs.Aad.{aadText, aadOrder, aadRefusal}
-use Rattle.jwe_write.specs.Write.{Raw, compactText, writeOrder, writeRefusal}
+use Rattle.jwe_write.specs.Write.{Raw, compactText, writeOrder, writeRefusal, rawSizes}
 use Rattle.meets.specs.Members.{membersOf}
 use Rattle.meets.specs.Rules.{EveryNamed, Critical}
 use Rattle.meets.specs.Meets.{Protected}
@@ -49,7 +50,7 @@ walk-refuses text =
     step 2 _ _ _ (ltb-false longest (length text), le-ltb longest (length text)) λ size.
     step 7 _ _ _ (unread-decides text) λ r.
     let ms = membersOf (r .text .value) in
-    let z = entries-stand registered text text 0 ms (outermost text) (outermost-stand text r) in
+    let z = entries-stand registered (oneText text) 0 ms (outermost text) (outermost-stand text r) in
     step 8 _ _ _ (few-decided registered text 0 ms (protectedEntries text) z) λ few.
     step 9 _ _ _ (distinct-decided registered text 0 ms (protectedEntries text) z) λ once.
     last
@@ -116,19 +117,19 @@ module _ (c : Raw) (known : List ℕ) (room : ℕ) where
       let ms = membersOf (r .text .value) in
       let p : Protected header = record { short = short; reading = r } in
       let z = protected-stands header header p in
-      let seen = zip-into (EntryStands registered header header 0) (Seen registered header header)
-      (entry-seen registered header header 0) ms es z in
+      let seen = zip-into (EntryStands registered (oneText header) 0) (Seen registered (oneText header))
+      (entry-seen registered (oneText header) 0) ms es z in
       step 8 _ _ _ (few-decided registered header 0 ms es z) λ few.
       step 9 _ _ _ (distinct-decided registered header 0 ms es z) λ once.
-      step 13 _ _ _ (required-decided header header ms es seen) λ there.
-      step 14 _ _ _ (kinds-decided header header ms es seen) λ kinds.
-      step 15 _ _ _ (listed-decided header header ms es seen (kinds .0)) λ listed.
+      step 13 _ _ _ (required-decided (oneText header) ms es seen) λ there.
+      step 14 _ _ _ (kinds-decided (oneText header) ms es seen) λ kinds.
+      step 15 _ _ _ (listed-decided (oneText header) ms es seen (kinds .0)) λ listed.
       step 17 _ _ _
       (subst (λ (ns : List (List ℕ)).
-      FalseWhere (any (critical ns header header es) es) (EveryNamed (ascii "crit") (Critical (k .names) ms) ms))
-      (sym (list-names known k)) (critical-decided (k .names) header header ms es seen (kinds .2))) λ crit.
+      FalseWhere (any (critical ns (oneText header) es) es) (EveryNamed (ascii "crit") (Critical (k .names) ms) ms))
+      (sym (list-names known k)) (critical-decided (k .names) (oneText header) ms es seen (kinds .2))) λ crit.
       step 18 _ _ _
-      (key-decided header header ms es (c .key) (eqb (length (c .key)) 0) seen once (there .0) (listed .0)
+      (key-decided (oneText header) ms es (c .key) (rawSizes c) seen once (there .0) (listed .0)
       (none-where (c .key))) λ fits.
       step 2 _ _ _ (ltb-false longest (length (compactText c)), le-ltb longest (length (compactText c))) λ size.
       step 1 _ _ _ (ltb-false room (length (compactText c)), le-ltb room (length (compactText c))) λ lent.

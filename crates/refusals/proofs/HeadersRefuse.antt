@@ -8,9 +8,12 @@ use native.Mathlib.Omega.{arith}
 use lib.ListN.{length}
 use lib.Dec.{eqb, leb}
 use borrow.Author.Tests.{leb-false, lt-leb}
+use Rattle.shape.specs.Recipients.{topOf, componentsIn}
+use Rattle.headers.specs.Components.{sizesOf}
+use Rattle.base64url.specs.Base64url.{decodedLength}
 use Rattle.prelude.specs.Ascii.{ascii}
 use Rattle.grammar.specs.Bounds.{Every}
-use Rattle.rows.specs.Rows.{Entry, valueOf}
+use Rattle.rows.specs.Rows.{Entry, valueOf, readTexts}
 use Rattle.jose.specs.Registered.{registered}
 use Rattle.prelude.specs.Refusals.{Test, _if_, first}
 use Rattle.jose.specs.HeaderRules.{recipientOrder}
@@ -44,9 +47,9 @@ module _ (message : List ℕ) where
       (sym (z .0 .made)) (own-stands message ms (z .0 .entries) (z .0 .holds) (z .1) o)
 
   empty-where : (ms : List Member) (r : Recipient) → Kept message ms r → (k : Key ms) →
-      (eqb (r .key .size) 0 ≡ true) ↔ (k .0 ≡ [])
+      (eqb (decodedLength (r .key .size)) 0 ≡ true) ↔ (k .0 ≡ [])
   empty-where ms r z k =
-      subst (λ (u : Recipient). (eqb (u .key .size) 0 ≡ true) ↔ (k .0 ≡ []))
+      subst (λ (u : Recipient). (eqb (decodedLength (u .key .size)) 0 ≡ true) ↔ (k .0 ≡ []))
       (sym (z .0 .made)) (keyed message ms (z .0 .entries) (z .0 .holds) (z .1) k)
 
   abbrev ownTests : Recipient → List Test
@@ -72,12 +75,14 @@ module _ (known : List (List ℕ)) (header message : List ℕ) (es : List Entry)
     (zs : OneForOne (MemberStands message) shared (headers.membersOf message (valueOf 2 es .start)))
     (dp : Distinct (namesOf protected)) (ds : Distinct (namesOf shared)) where
   abbrev rulesTests : Recipient → List Test
-  rulesTests r = recipientOrder known header message (parameters header message es r) (eqb (r .key .size) 0)
+  rulesTests r =
+      recipientOrder known (readTexts header message) (parameters header message (topOf es) r)
+      (sizesOf (componentsIn (topOf es) r))
 
   rules-refuse : (rs : List (List Member)) (us : List Recipient) → OneForOne (Kept message) rs us → (o : Every Own rs) →
       (k : Every Key rs) → OwnsOnce rs o → (t : Table) (ts : List Test) → Refuses t (first ts) →
       Refuses (recipientsTable known protected shared rs o k t) (first (flatMap rulesTests us ++ ts))
-  unfolding recipientsTable flatMap parameters
+  unfolding recipientsTable flatMap parameters componentsIn
   rules-refuse [] [] z o k d t ts f = f
   rules-refuse [] (u ∷ us) z o k d t ts f = absurd z
   rules-refuse (ms ∷ rs) [] z o k d t ts f = absurd z
@@ -88,8 +93,8 @@ module _ (known : List (List ℕ)) (header message : List ℕ) (es : List Entry)
       let later = recipientsTable known protected shared rs (o .1) (k .1) t in
       subst (λ (xs : List Test). Refuses (recipientTable known h key later) (first xs))
       (sym (append-assoc (rulesTests u) (flatMap rulesTests us) ts))
-      (recipient-refuses known header message h (protectedEntries header) (sharedEntries message es)
-      (ownEntries message u) key (eqb (u .key .size) 0) (protected-entries header message protected zp)
+      (recipient-refuses known (readTexts header message) h (protectedEntries header) (sharedEntries message (topOf es))
+      (ownEntries message u) key (sizesOf (componentsIn (topOf es) u)) (protected-entries header message protected zp)
       (shared-entries header message es shared zs)
       (own-entries header message u own (stands message ms u (z .0) (o .0)))
       (record { protected = dp; shared = ds; own = d .0 }) (empty-where message ms u (z .0) (k .0)) later
@@ -115,7 +120,7 @@ module _ (known : List (List ℕ)) (header message : List ℕ) (recipient : ℕ)
       ) λ asked. last
 
   abbrev pub headersLeft : List Test
-  headersLeft = headersOrder header message es us ++ (recipientsOrder known header message es us ++ lastOrder)
+  headersLeft = headersOrder header message (topOf es) us ++ (recipientsOrder known header message (topOf es) us ++ lastOrder)
 
   pub headers-refuse : (hs : List Member) → OneForOne (MemberStands header) hs (outermost header) →
       Refuses (headersTable known ps rs k recipient hs) (first headersLeft)
@@ -128,9 +133,9 @@ module _ (known : List (List ℕ)) (header message : List ℕ) (recipient : ℕ)
       let ss = s .0 in
       let zs = shared-stands s in
       let sh = shared-entries message message es ss zs in
-      step 8 _ _ _ (few-decided registered message 1 ss (sharedEntries message es) sh) λ fewer.
-      step 9 _ _ _ (distinct-decided registered message 1 ss (sharedEntries message es) sh) λ shared-once.
+      step 8 _ _ _ (few-decided registered message 1 ss (sharedEntries message (topOf es)) sh) λ fewer.
+      step 9 _ _ _ (distinct-decided registered message 1 ss (sharedEntries message (topOf es)) sh) λ shared-once.
       there _ _ (owns-found message rs us z) λ o.
       owns-refuse message rs us z o (recipientsTable known hs ss rs o k lastTable)
-      (recipientsOrder known header message es us ++ lastOrder) λ all.
+      (recipientsOrder known header message (topOf es) us ++ lastOrder) λ all.
       rules-refuse known header message es hs ss zp zs once shared-once rs us z o k all lastTable lastOrder asked-refuses

@@ -7,6 +7,7 @@ use Prim.Native.Nat.{ℕ}
 use lib.ListN.{length}
 use lib.Dec.{leb}
 use borrow.Author.Tests.{ltb-false, le-ltb}
+use Rattle.jwe.proofs.JsonOrder.{json-is}
 use Rattle.prelude.specs.Ascii.{ascii}
 use Rattle.grammar.specs.Bounds.{Every}
 use Rattle.grammar.specs.Strings.{HasOctets}
@@ -15,8 +16,8 @@ use Rattle.rows.specs.Rows.{Entry, present, valueOf}
 use Rattle.prelude.specs.Refusals.{Test, _if_, first}
 use Rattle.headers.specs.Headers.{textOrder, headerText, outermost, objectOrder}
 use Rattle.shape.specs.Shape.{memberNames, component, Recipient}
-use Rattle.shape.specs.Recipients.{topEntries, topOrder, recipientsIn}
-use Rattle.jwe.specs.General.{anyMisspelled, protectedOrder, headersOrder, recipientsOrder, jsonOrder, isHollow}
+use Rattle.shape.specs.Recipients.{topEntries, topOrder, recipientsIn, topOf, elementsOrder}
+use Rattle.jwe.specs.General.{anyMisspelled, protectedOrder, headersOrder, recipientsOrder, jsonOrder, isHollow, jsonLater}
 use Rattle.meets.specs.Members.{Member, membersOf}
 use Rattle.meets.specs.Rules.{Present}
 use Rattle.meets.specs.Meets.{Object, TopShape, Component}
@@ -78,8 +79,8 @@ module _ (known : List (List ℕ)) (message : List ℕ) (recipient : ℕ) (readi
 
     abbrev left : List ℕ → List Test
     left header =
-        headersOrder header message es us
-        ++ (recipientsOrder known header message es us ++ (19 if leb (length us) recipient ∷ []))
+        headersOrder header message (topOf es) us
+        ++ (recipientsOrder known header message (topOf es) us ++ (19 if leb (length us) recipient ∷ []))
 
     module _ (header : List ℕ) (c : Component (ascii "protected") ps header) where
       rest-refuses : (hs : List Member) → OneForOne (MemberStands header) hs (outermost header) →
@@ -91,7 +92,7 @@ module _ (known : List (List ℕ)) (message : List ℕ) (recipient : ℕ) (readi
       abbrev One : Type 0
       One = Lookup message (ascii "protected") ps (valueOf 1 es) (present 1 es)
 
-      pub protected-refuses : Refuses (protectedTable header) (first (protectedOrder es header ++ left header))
+      pub protected-refuses : Refuses (protectedTable header) (first (protectedOrder (topOf es) header ++ left header))
       unfolding textOrder
       protected-refuses = cases one
         where
@@ -101,12 +102,12 @@ module _ (known : List (List ℕ)) (message : List ℕ) (recipient : ℕ) (readi
           by : (b : Bool) → present 1 es ≡ b →
               Refuses (protectedTable header)
               (first (cond b (textOrder header ++ (10 if isHollow (outermost header) ∷ [])) [] ++ left header)) →
-              Refuses (protectedTable header) (first (protectedOrder es header ++ left header))
+              Refuses (protectedTable header) (first (protectedOrder (topOf es) header ++ left header))
           by b t r =
               subst (λ (xs : List Test). Refuses (protectedTable header) (first (xs ++ left header)))
               (sym (order-is es header b t)) r
 
-          cases : One → Refuses (protectedTable header) (first (protectedOrder es header ++ left header))
+          cases : One → Refuses (protectedTable header) (first (protectedOrder (topOf es) header ++ left header))
           cases (missing t a e) =
               by false t
               (where-not _ _ _
@@ -129,9 +130,9 @@ module _ (known : List (List ℕ)) (message : List ℕ) (recipient : ℕ) (readi
 
   abbrev tests : List ℕ → List Test
   tests header =
-      protectedOrder es header
-      ++ (headersOrder header message es us
-      ++ (recipientsOrder known header message es us ++ (19 if leb (length us) recipient ∷ [])))
+      protectedOrder (topOf es) header
+      ++ (headersOrder header message (topOf es) us
+      ++ (recipientsOrder known header message (topOf es) us ++ (19 if leb (length us) recipient ∷ [])))
 
   pub spelled-refuses : (rs : List (List Member)) → OneForOne (Kept message) rs us →
       Refuses (spelledTable known message recipient reading rs)
@@ -143,10 +144,15 @@ module _ (known : List (List ℕ)) (message : List ℕ) (recipient : ℕ) (readi
       subst (λ (header : List ℕ). Refuses (protectedTable rs z (c .5) (c .0 .0)) (first (tests header))) (sym same)
       (protected-refuses rs z (c .5) (c .0 .0) (c .0 .2))
 
-pub json-refuses : (known : List (List ℕ)) (message : List ℕ) (recipient : ℕ) →
-    Refuses (jsonTable known message recipient) (first (jsonOrder message known recipient))
-unfolding jsonTable jsonOrder topOrder objectOrder
-json-refuses known message recipient =
+-- From the top level on.
+order-refuses : (known : List (List ℕ)) (message : List ℕ) (recipient : ℕ) →
+    let es = topEntries message in
+    Refuses (jsonTable known message recipient)
+    (first (topOrder message
+    ++ (elementsOrder message es
+    ++ (5 if anyMisspelled message es ∷ jsonLater known message (topOf es) (recipientsIn message es) recipient))))
+unfolding jsonTable jsonLater topOrder objectOrder
+order-refuses known message recipient =
     let es = topEntries message in
     step 7 _ _ _ (unread-decides message) λ r.
     let ps = membersOf (r .text .value) in
@@ -161,3 +167,9 @@ json-refuses known message recipient =
     (zip-with (Holder message) Formed (g .0) (recipientsIn message es)
     (recipients-stand message ps es five h (shape .recipients) (g .0) (g .1)) formed))
     five
+
+pub json-refuses : (known : List (List ℕ)) (message : List ℕ) (recipient : ℕ) →
+    Refuses (jsonTable known message recipient) (first (jsonOrder message known recipient))
+json-refuses known message recipient =
+    subst (λ (l : List Test). Refuses (jsonTable known message recipient) (first l)) (sym (json-is message known recipient))
+    (order-refuses known message recipient)

@@ -6,8 +6,10 @@ use mathlib.Core.List.{List, [], _++_}
 use Prim.Native.Nat.{ℕ, _≤_}
 use lib.ListN.{length}
 use borrow.Author.Tests.{ltb-false, le-ltb}
+use lib.Dec.{eqb}
+use Rattle.jose.specs.declared.Sizes.{Sizes}
 use Rattle.grammar.specs.Readings.{Reading}
-use Rattle.rows.specs.Rows.{Entry}
+use Rattle.rows.specs.Rows.{Entry, Texts, oneText}
 use Rattle.jose.specs.Registered.{registered}
 use Rattle.prelude.specs.Refusals.{Test, first}
 use Rattle.jose.specs.HeaderRules.{recipientOrder}
@@ -28,7 +30,7 @@ use Rattle.refusals.proofs.Steps.{step}
 
 -- 8 and 9
 pub object-refuses : (names : List (List ℕ)) (s : List ℕ) (o : ℕ) (ps : List Member) (es : List Entry) →
-    OneForOne (EntryStands names s s o) ps es → (t : Table) (ts : List Test) →
+    OneForOne (EntryStands names (oneText s) o) ps es → (t : Table) (ts : List Test) →
     (length ps ≤ 32 → Distinct (namesOf ps) → Refuses t (first ts)) →
     Refuses (objectTable ps t) (first (objectOrder s es ++ ts))
 unfolding objectOrder
@@ -48,24 +50,24 @@ text-refuses header t ts f =
     f short r
 
 -- 12 to 18
-module _ (known : List (List ℕ)) (header message : List ℕ) (h : Headers) (ps ss os : List Entry) (key : List ℕ)
-    (noKey : Bool) (zp : OneForOne (EntryStands registered header message 0) (h .protected) ps)
-    (zs : OneForOne (EntryStands registered header message 1) (h .shared) ss)
-    (zo : OneForOne (EntryStands registered header message 2) (h .own) os) (once : NamesOnce h)
-    (keyed : (noKey ≡ true) ↔ (key ≡ [])) where
-  pub recipient-refuses : (t : Table) (ts : List Test) → Refuses t (first ts) →
-      Refuses (recipientTable known h key t) (first (recipientOrder known header message (ps ++ (ss ++ os)) noKey ++ ts))
+module _ (known : List (List ℕ)) (ts : Texts) (h : Headers) (ps ss os : List Entry) (key : List ℕ)
+    (sizes : Sizes) (zp : OneForOne (EntryStands registered ts 0) (h .protected) ps)
+    (zs : OneForOne (EntryStands registered ts 1) (h .shared) ss)
+    (zo : OneForOne (EntryStands registered ts 2) (h .own) os) (once : NamesOnce h)
+    (keyed : (eqb (sizes .key) 0 ≡ true) ↔ (key ≡ [])) where
+  pub recipient-refuses : (t : Table) (later : List Test) → Refuses t (first later) →
+      Refuses (recipientTable known h key t) (first (recipientOrder known ts (ps ++ (ss ++ os)) sizes ++ later))
   unfolding recipientTable recipientOrder
-  recipient-refuses t ts f =
+  recipient-refuses t later f =
       let ms = parameters h in
       let es = ps ++ (ss ++ os) in
-      let seen = all-seen header message h ps ss os zp zs zo in
-      step 12 _ _ _ (names-apart-decided registered header message h ps ss os zp zs zo) λ apart.
-      step 13 _ _ _ (required-decided header message ms es seen) λ there.
-      step 14 _ _ _ (kinds-decided header message ms es seen) λ kinds.
-      step 15 _ _ _ (listed-decided header message ms es seen (kinds .0)) λ listed.
-      step 16 _ _ _ (protected-decided header message h ps ss os zp zs zo) λ inside.
-      step 17 _ _ _ (critical-decided known header message ms es seen (kinds .2)) λ critical.
+      let seen = all-seen ts h ps ss os zp zs zo in
+      step 12 _ _ _ (names-apart-decided registered ts h ps ss os zp zs zo) λ apart.
+      step 13 _ _ _ (required-decided ts ms es seen) λ there.
+      step 14 _ _ _ (kinds-decided ts ms es seen) λ kinds.
+      step 15 _ _ _ (listed-decided ts ms es seen (kinds .0)) λ listed.
+      step 16 _ _ _ (protected-decided ts h ps ss os zp zs zo) λ inside.
+      step 17 _ _ _ (critical-decided known ts ms es seen (kinds .2)) λ critical.
       step 18 _ _ _
-      (key-decided header message ms es key noKey seen (parameters-distinct h once apart) (there .0) (listed .0) keyed)
+      (key-decided ts ms es key sizes seen (parameters-distinct h once apart) (there .0) (listed .0) keyed)
       λ fits. f

@@ -5,6 +5,7 @@ use mathlib.Core.Logic.{_↔_}
 use mathlib.Core.List.{List, [], _∷_}
 use Prim.Native.Nat.{ℕ}
 use lib.Dec.{eqb}
+use Rattle.base64url.specs.Base64url.{decodedLength}
 use Rattle.prelude.specs.Ascii.{ascii}
 use Rattle.grammar.specs.Bounds.{Every}
 use Rattle.grammar.specs.Readings.{Reading}
@@ -50,7 +51,7 @@ module _ (message : List ℕ) (ms : List Member) (fs : List Entry) (h : Holds me
   key-where : FalseWhere (misspelled message (r .key)) (Key ms)
   key-where = misspelled-decided message (ascii "encrypted_key") ms (inner (valueOf 4 fs)) key-spelling
 
-  pub keyed : (k : Key ms) → (eqb (r .key .size) 0 ≡ true) ↔ (k .0 ≡ [])
+  pub keyed : (k : Key ms) → (eqb (decodedLength (r .key .size)) 0 ≡ true) ↔ (k .0 ≡ [])
   keyed k = none-where-empty message (ascii "encrypted_key") ms (inner (valueOf 4 fs)) key-spelling (k .0) (k .1) (k .2)
 
   own-found : Own ms

@@ -7,6 +7,7 @@ use native.Mathlib.Omega.{arith}
 use lib.ListN.{length, drop, getD}
 use lib.Dec.{eqb, ltb}
 use borrow.Author.Tests.{lt-ltb, le-ltb, eq-eqb, ne-eqb, eqb-true}
+use Rattle.rows.specs.Rows.{readTexts}
 use Rattle.prelude.specs.Buffer.{written}
 use Rattle.prelude.specs.Refusals.{first}
 use Rattle.prelude.proofs.Outputs.{writes-refused, writes-done}
@@ -44,7 +45,7 @@ result-accepted : (message : List ℕ) (x : Outcome) (r : Result) (list before :
 unfolding accepted acceptedReport written
 result-accepted message x r list before e w =
     ap₂ numbersReport e w
-    ∙ ap (λ (l : List ℕ). firstLine (x .form) (x .recipients) (modeIn (x .header) message (x .entries))
+    ∙ ap (λ (l : List ℕ). firstLine (x .form) (x .recipients) (modeIn (readTexts (x .header) message) (x .entries))
     ++ (componentLines (x .components) ++ l))
     (listed-lines (x .entries) (drop (0 + length (listed (x .entries))) before))
 

@@ -9,7 +9,8 @@ use Rattle.prelude.specs.Ascii.{ascii}
 use Rattle.prelude.specs.Buffer.{AllBelow}
 use Rattle.grammar.specs.Places.{Place}
 use Rattle.rows.specs.Tables.{firstOf}
-use Rattle.jwe.specs.Answers.{numbers, componentsOf}
+use Rattle.headers.specs.Answers.{componentsOf}
+use Rattle.jwe.specs.Answers.{numbers}
 use Rattle.jwe.specs.declared.Result.{Result}
 use Rattle.jwe.proofs.Small.{limit, recipients-small, protected-small, key-small, iv-small, aad-small}
 use Rattle.jwe.proofs.Small.{ciphertext-small, tag-small}

@@ -6,7 +6,7 @@ use lib.Dec.{ltb}
 use Rattle.prelude.specs.Refusals.{Test, _if_, first}
 use Rattle.prelude.specs.Outputs.{Writes}
 use Rattle.rows.specs.Tables.{firstOf}
-use Rattle.jwe.specs.Answers.{componentsOf}
+use Rattle.headers.specs.Answers.{componentsOf}
 use Rattle.jwe.specs.declared.Result.{Result}
 use Rattle.report.specs.Report.{firstLine, componentLines, parameterLine, report}
 use Rattle.report.specs.declared.Reported.{Reported}

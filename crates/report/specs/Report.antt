@@ -7,7 +7,7 @@ use lib.ListN.{length}
 use lib.Dec.{eqb, ltb}
 use Rattle.prelude.specs.Ascii.{ascii}
 use Rattle.grammar.specs.Places.{Place}
-use Rattle.rows.specs.Rows.{Entry}
+use Rattle.rows.specs.Rows.{Entry, readTexts}
 use Rattle.jose.specs.HeaderRules.{modeIn}
 use Rattle.prelude.specs.Limits.{headerRoom, listRoom}
 use Rattle.headers.specs.Components.{Components}
@@ -92,7 +92,7 @@ refusedReport n = line (ascii "refused" ∷ decimal n ∷ [])
 
 unfoldable pub acceptedReport : List ℕ → Outcome → List ℕ
 acceptedReport message x =
-    firstLine (x .form) (x .recipients) (modeIn (x .header) message (x .entries))
+    firstLine (x .form) (x .recipients) (modeIn (readTexts (x .header) message) (x .entries))
     ++ (componentLines (x .components) ++ parameterLines (x .entries))
 
 -- Read with no known names, for recipient 0, and with just enough room.

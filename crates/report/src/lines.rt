@@ -5,13 +5,13 @@ ghost use lib.ListN.{length};
 ghost use Rattle.prelude.specs.Buffer.{written};
 ghost use Rattle.headers.specs.Answers.{placeOf};
 ghost use Rattle.rows.specs.Tables.{firstOf};
-ghost use Rattle.jwe.specs.Answers.{componentsOf};
+ghost use Rattle.headers.specs.Answers.{componentsOf};
 ghost use Rattle.report.specs.Report.{firstLine, componentLine, componentLines, parameterLine};
 ghost use Rattle.report.specs.Answers.{listLines};
 use crate::words::put_named;
 use crate::words::put_number;
 use crate::words::put_word;
-use jwe::Components;
+use headers::Components;
 use prelude::Place;
 
 // The words for the reader's numbers, as lists of names, contents first, as `names` reads them. Where one is used it is

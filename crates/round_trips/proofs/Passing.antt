@@ -1,45 +1,44 @@
 -- When neither refuses: the writer's tests, and the reader's on a compact message, one by one. Both ask the same of the
 -- header and of the key.
-use mathlib.Core.Path.{_≡_, refl, ap, sym, _∙_}
+use mathlib.Core.Path.{_≡_, refl, ap, ap₂, sym, subst, _∙_}
 use mathlib.Core.Bool.{Bool, true, false, not, _||_, cond}
 use mathlib.Core.Logic.{_↔_}
 use mathlib.Core.List.{List, [], _∷_, _++_}
 use Prim.Native.Nat.{ℕ, _≤_, _<_}
 use native.Mathlib.Omega.{arith}
 use lib.ListN.{length}
-use lib.Dec.{eqb, leb, ltb}
-use borrow.Author.Tests.{not-false, ltb-false, le-ltb, leb-false, lt-leb, ne-eqb}
-use Rattle.base64url.specs.Base64url.{sextets, encoded}
-use Rattle.base64url.proofs.Laws.{encoded-length}
+use lib.Dec.{leb, ltb}
+use borrow.Author.Tests.{not-false, ltb-false, le-ltb, leb-false, lt-leb}
 use Rattle.names.specs.Names.{names, sound}
 use Rattle.grammar.specs.Reader.{opensObject}
 use Rattle.prelude.specs.Any.{any}
 use Rattle.prelude.specs.Refusals.{Test, _if_, first}
+use Rattle.rows.specs.Rows.{readTexts}
+use Rattle.jose.specs.declared.Sizes.{Sizes}
 use Rattle.jose.specs.HeaderRules.{recipientOrder}
 use Rattle.prelude.specs.Limits.{longest, headerRoom, listRoom}
-use Rattle.headers.specs.Components.{places, misspelled}
+use Rattle.headers.specs.Components.{sizesOf}
 use Rattle.headers.specs.Headers.{headerText, textOrder, protectedEntries, objectOrder}
-use Rattle.jwe.specs.Compact.{fourStops, compactComponents, compactOrder}
+use Rattle.jwe.specs.Compact.{fourStops, compactComponents, compactSpelled, compactOrder}
 use Rattle.jwe.specs.General.{jsonOrder}
 use Rattle.jwe.specs.Judge.{Call, order, refusal}
-use Rattle.jwe_write.specs.Write.{Raw, compactText, writerRules, writeOrder, writeRefusal}
+use Rattle.jwe_write.specs.Write.{Raw, rawSizes, compactText, writerRules, writeOrder, writeRefusal}
 use Rattle.meets.proofs.Deciding.{first-none, or-false}
 use Rattle.meets.proofs.InOrder.{first-append}
-use Rattle.meets.proofs.FiveParts.{parts-placed}
-use Rattle.meets.proofs.SpelledDecided.{Spelled, spelled-parts, spelled-header, spelled-decided}
-use Rattle.round_trips.proofs.OneHeader.{rules-same}
+use Rattle.meets.proofs.SpelledDecided.{Spelled, spelledSizes, spelled-header, spelled-sizes, spelled-decided}
+use Rattle.round_trips.proofs.OneHeader.{header-rules}
 
--- None of 6 to 18 refuses a header, with a key that is empty or not.
-pub record HeaderPasses (known : List (List ℕ)) (header : List ℕ) (noKey : Bool) : Type 0 where
+-- None of 6 to 18 refuses a header, with components of some sizes.
+pub record HeaderPasses (known : List (List ℕ)) (header : List ℕ) (sizes : Sizes) : Type 0 where
   pub text : first (textOrder header) ≡ 0
   pub object : first (objectOrder header (protectedEntries header)) ≡ 0
-  pub rules : first (writerRules known header (protectedEntries header) noKey) ≡ 0
+  pub rules : first (writerRules known header (protectedEntries header) sizes) ≡ 0
 
 -- The writer
 
 pub record WritePasses (c : Raw) (known : List ℕ) (room : ℕ) : Type 0 where
   pub list : sound known ≡ true
-  pub header : HeaderPasses (names known) (c .header) (eqb (length (c .key)) 0)
+  pub header : HeaderPasses (names known) (c .header) (rawSizes c)
   pub size : length (compactText c) ≤ longest
   pub fits : length (compactText c) ≤ room
 
@@ -52,7 +51,7 @@ module _ (c : Raw) (known : List ℕ) (room : ℕ) where
       let list : List Test = 3 if not (sound known) ∷ [] in
       let text = textOrder (c .header) in
       let object = objectOrder (c .header) es in
-      let rules = writerRules (names known) (c .header) es (eqb (length (c .key)) 0) in
+      let rules = writerRules (names known) (c .header) es (rawSizes c) in
       let sizes : List Test = 2 if ltb longest size ∷ 1 if ltb room size ∷ [] in
       let l = first-none list refl in
       let a = first-append list (text ++ (object ++ (rules ++ sizes))) refl in
@@ -90,18 +89,10 @@ module _ (c : Raw) (known : List ℕ) (room : ℕ) where
 
 -- The reader
 
--- A key is empty exactly where its encoding is.
-key-empty : (xs : List ℕ) → eqb (length (encoded xs)) 0 ≡ eqb (length xs) 0
-unfolding encoded sextets
-key-empty [] = refl
-key-empty (x ∷ xs) =
-    ne-eqb (length (encoded (x ∷ xs))) 0 (λ e. omega (arith, encoded-length (x ∷ xs)))
-    ∙ sym (ne-eqb (length (x ∷ xs)) 0 (λ e. omega arith))
-
 module _ (known : List (List ℕ)) (message : List ℕ) (recipient : ℕ) where
   -- 4 and 5
   abbrev spelling : List Test
-  spelling = 4 if not (fourStops message) ∷ 5 if any (misspelled message) (places (compactComponents message)) ∷ []
+  spelling = compactSpelled message
 
   spelling-decided : (first spelling ≡ 0) ↔ Spelled message
   unfolding any
@@ -112,26 +103,26 @@ module _ (known : List (List ℕ)) (message : List ℕ) (recipient : ℕ) where
         (λ w. let h = s .1 w in t .1 (ap not (h .0), (h .1, tt))),
       )
 
-  -- 6 to 19, by the header and whether the key is empty.
-  abbrev others : List ℕ → Bool → List Test
-  others header noKey =
+  -- 6 to 19, by the header and the sizes of the components.
+  abbrev others : List ℕ → Sizes → List Test
+  others header sizes =
       let es = protectedEntries header in
       textOrder header
-      ++ (objectOrder header es ++ (recipientOrder known header message es noKey ++ (19 if leb 1 recipient ∷ [])))
+      ++ (objectOrder header es ++ (recipientOrder known (readTexts header message) es sizes ++ (19 if leb 1 recipient ∷ [])))
 
-  others-decided : (header : List ℕ) (noKey : Bool) →
-      (first (others header noKey) ≡ 0) ↔ (HeaderPasses known header noKey × (recipient < 1))
+  others-decided : (header : List ℕ) (sizes : Sizes) →
+      (first (others header sizes) ≡ 0) ↔ (HeaderPasses known header sizes × (recipient < 1))
   unfolding textOrder objectOrder recipientOrder any
-  others-decided header noKey =
+  others-decided header sizes =
       let es = protectedEntries header in
       let object = objectOrder header es in
-      let rules = recipientOrder known header message es noKey in
+      let rules = recipientOrder known (readTexts header message) es sizes in
       let asked : List Test = 19 if leb 1 recipient ∷ [] in
       let a = first-append (textOrder header) (object ++ (rules ++ asked)) refl in
       let b = first-append object (rules ++ asked) refl in
       let d = first-append rules asked refl in
       let e = first-none asked refl in
-      let same = rules-same known header message noKey in (
+      let same = header-rules known header message sizes in (
         (λ z.
             let h = a .0 z in
             let i = b .0 (h .1) in
@@ -148,20 +139,20 @@ module _ (known : List (List ℕ)) (message : List ℕ) (recipient : ℕ) where
 
   -- What is asked of a compact message, by the octets that it spells.
   abbrev Asked : Spelled message → Type 0
-  Asked s = HeaderPasses known (s .header) (eqb (length (s .key)) 0) × (recipient < 1)
+  Asked s = HeaderPasses known (s .header) (spelledSizes s) × (recipient < 1)
 
   spelled-asked : (s : Spelled message) →
-      (first (others (headerText message (compactComponents message .protected))
-      (eqb (compactComponents message .key .size) 0)) ≡ 0) ↔ Asked s
+      (first (others (headerText message (compactComponents message .protected)) (sizesOf (compactComponents message))) ≡ 0)
+      ↔ Asked s
   spelled-asked s =
-      let size = parts-placed message (spelled-parts message s) .keySize in
-      rw (spelled-header message s, size, key-empty (s .key)) (others-decided (s .header) (eqb (length (s .key)) 0))
+      let both = ap₂ others (spelled-header message s) (spelled-sizes message s) in
+      subst (λ (l : List Test). (first l ≡ 0) ↔ Asked s) (sym both) (others-decided (s .header) (spelledSizes s))
 
   pub compact-decided : (first (compactOrder message known recipient) ≡ 0) ↔ ((s : Spelled message) × Asked s)
   unfolding compactOrder any
   compact-decided =
       let q = compactComponents message in
-      let t = first-append spelling (others (headerText message (q .protected)) (eqb (q .key .size) 0)) refl in (
+      let t = first-append spelling (others (headerText message (q .protected)) (sizesOf q)) refl in (
         (λ e. let h = t .0 e in let s = spelling-decided .0 (h .0) in (s, spelled-asked s .0 (h .1))),
         (λ w. t .1 (spelling-decided .1 (w .0), spelled-asked (w .0) .1 (w .1))),
       )

@@ -15,7 +15,7 @@ use Rattle.rows.specs.Rows.{present}
 use Rattle.shape.specs.Shape.{recipients}
 use Rattle.shape.specs.Recipients.{topEntries}
 use Rattle.jwe.specs.Compact.{compactComponents}
-use Rattle.jwe.specs.Judge.{Call, refusal, compactOutcome, jsonOutcome, outcome}
+use Rattle.jwe.specs.Judge.{Call, refusal, compactOutcome, outcomeOf, jsonOutcome, outcome}
 use Rattle.jwe_write.specs.Write.{Raw, compactText, writeRefusal}
 use Rattle.meets.proofs.FiveParts.{parts-placed}
 use Rattle.meets.proofs.SpelledDecided.{Spelled, spelled-parts}
@@ -31,7 +31,7 @@ raw-same h k i x t h' k' i' x' t' a b c d e = cc
 -- Only what opens no object is handed out as compact, with the places of its five parts.
 module _ (message : List ℕ) (recipient : ℕ) where
   pub compact-form : outcome message recipient .form ≡ 0 → opensObject message ≡ false
-  unfolding outcome jsonOutcome
+  unfolding outcome jsonOutcome outcomeOf
   compact-form e = cases (opensObject message) e
     where
       no-json : (b : Bool) → _≡_ {A = ℕ} (cond b 2 1) 0 → ⊥

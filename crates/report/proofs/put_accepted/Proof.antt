@@ -5,7 +5,7 @@ use mathlib.Core.List.{List, [], _++_, append-nil}
 use Prim.Native.Nat.{ℕ}
 use native.Mathlib.Omega.{arith}
 use Rattle.prelude.proofs.Writing.{Writing, begin, put-part, room-part, ended}
-use Rattle.jwe.specs.Answers.{componentsOf}
+use Rattle.headers.specs.Answers.{componentsOf}
 use Rattle.report.specs.Report.{firstLine, componentLines}
 use Rattle.report.specs.Answers.{listLines, resultReport}
 use Rattle.report.proofs.Sizes.{result-short}

@@ -3,7 +3,7 @@ use mathlib.Core.Path.{_≡_, ap, sym}
 use Prim.Native.Nat.{ℕ}
 use native.Mathlib.Omega.{arith}
 use Rattle.headers.specs.Components.{places}
-use Rattle.jwe.specs.Answers.{codePlace, componentsOf}
+use Rattle.headers.specs.Answers.{codePlace, componentsOf}
 use Rattle.host.specs.Component.{placeAt, componentPlace}
 use Rattle.host.proofs.Decoding.{place-absent}
 use Rattle.host.proofs.component.place_of.Statement.{statement}

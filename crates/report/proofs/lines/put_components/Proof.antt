@@ -6,7 +6,7 @@ use Rattle.prelude.proofs.Writing as writing
 use Rattle.prelude.proofs.Writing.{Writing, begin, put-part, room-part}
 use Rattle.prelude.specs.Ascii.{ascii}
 use Rattle.headers.specs.Answers.{placeOf}
-use Rattle.jwe.specs.Answers.{componentsOf}
+use Rattle.headers.specs.Answers.{componentsOf}
 use Rattle.report.specs.Report.{componentLine, componentLines}
 use borrow.Author.Needs.{needs}
 use Rattle.report.proofs.lines.put_components.Statement.{statement}
