@@ -21,7 +21,8 @@ use Rattle.shape.specs.Recipients.{topEntries, topOrder, elementsIn, elementOrd
 use Rattle.shape.specs.Recipients.{Top, topOf, componentsIn}
 use Rattle.jwe.specs.General.{sharedEntries, ownEntries, parameters, anyMisspelled, isHollow}
 use Rattle.jwe.specs.General.{protectedOrder, headersOrder, recipientsOrder, jsonSpelled, jsonLater, jsonOrder}
-use Rattle.jwe.specs.Judge.{Outcome, asked, outcomeOf, jsonOutcome}
+use Rattle.jwe.specs.Judge.{Outcome, asked}
+use Rattle.jwe.specs.Inner.Outcomes.{outcomeOf, jsonOutcome}
 use Rattle.jwe.specs.Inner.Stages.{textTests, protectedTests, ownTests, ruleTests, allTests, headedOrder}
 use Rattle.jwe.specs.Inner.Stages.{headedOutcome}
 use Rattle.jwe.proofs.CompactOrder.{rules-nonzero}

@@ -26,7 +26,8 @@ use Rattle.headers.specs.Components.{absent}
 use Rattle.shape.specs.Shape.{Recipient}
 use Rattle.shape.specs.Recipients.{Top}
 use Rattle.jwe.specs.General.{sharedEntries, isHollow, jsonLater}
-use Rattle.jwe.specs.Judge.{Outcome, accepted, outcomeOf}
+use Rattle.jwe.specs.Judge.{Outcome, accepted}
+use Rattle.jwe.specs.Inner.Outcomes.{outcomeOf}
 use Rattle.jwe.specs.Answers.{BeginsWith, Judges}
 use Rattle.jwe.specs.Inner.Stages.{textTests, protectedTests, headedOrder, headedOutcome}
 use Rattle.jwe.specs.Inner.Stages.{Heads}

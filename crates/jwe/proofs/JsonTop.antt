@@ -25,7 +25,8 @@ use Rattle.shape.specs.Recipients.{topEntries, topOrder, elementsIn, elementEnt
 use Rattle.shape.specs.Recipients.{Top, topOf, recipientsIn}
 use Rattle.shape.specs.Inner.Answers.{flatRecipients}
 use Rattle.jwe.specs.General.{allPlaces, anyMisspelled, jsonLater, jsonOrder}
-use Rattle.jwe.specs.Judge.{Outcome, accepted, outcomeOf, jsonOutcome}
+use Rattle.jwe.specs.Judge.{Outcome, accepted}
+use Rattle.jwe.specs.Inner.Outcomes.{outcomeOf, jsonOutcome}
 use Rattle.jwe.specs.Answers.{BeginsWith, Judges}
 use Rattle.jwe.specs.Inner.Stages.{recipientsOf}
 use Rattle.jwe.specs.declared.judged.Judged.{Judged}

@@ -18,12 +18,14 @@ use Rattle.prelude.proofs.Refusals.{first-fails, first-passes}
 use Rattle.prelude.specs.Limits.{longest, headerRoom, listRoom}
 use Rattle.jwe.specs.Compact.{compactOrder}
 use Rattle.jwe.specs.General.{jsonOrder}
-use Rattle.jwe.specs.Judge.{Call, Outcome, order, refusal, compactOutcome, jsonOutcome, outcome, accepted, refused}
+use Rattle.jwe.specs.Judge.{Call, Outcome, order, refusal, outcome, accepted, refused}
+use Rattle.jwe.specs.Inner.Outcomes.{compactOutcome, jsonOutcome}
 use Rattle.jwe.specs.Judge.{result, headerAfter, listAfter}
 use Rattle.jwe.specs.Answers.{numbers, Judges}
 use Rattle.jwe.specs.declared.Result.{Result}
 use Rattle.jwe.specs.declared.judged.Judged.{Judged}
 use Rattle.jwe.specs.declared.judged.Judged.the-variants.{Accepted, Refused}
+use Rattle.jwe.proofs.Outcomes.{by-form}
 
 -- The refusals from 4 on
 abbrev pub judging : List ℕ → List (List ℕ) → ℕ → List Test
@@ -36,13 +38,14 @@ pub judges-as : (message : List ℕ) (known : List (List ℕ)) (recipient : ℕ)
     Judges message (cond b (jsonOrder message known recipient) (compactOrder message known recipient))
     (cond b (jsonOutcome message recipient) (compactOutcome message)) r text₀ text table₀ table →
     Judges message (judging message known recipient) (outcome message recipient) r text₀ text table₀ table
-unfolding outcome
 judges-as message known recipient b e r text₀ text table₀ table h =
-    subst
+    by-form message recipient
+    (λ (o : Outcome). Judges message (judging message known recipient) o r text₀ text table₀ table)
+    (subst
     (λ (x : Bool).
     Judges message (cond x (jsonOrder message known recipient) (compactOrder message known recipient))
     (cond x (jsonOutcome message recipient) (compactOutcome message)) r text₀ text table₀ table)
-    (sym e) h
+    (sym e) h)
 
 -- What an answer tells
 module _ (message : List ℕ) (order : List Test) (x : Outcome) (r : Judged) (text₀ text table₀ table : List ℕ)

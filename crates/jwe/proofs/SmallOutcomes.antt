@@ -39,7 +39,9 @@ use Rattle.shape.specs.Recipients.{Top, topOf, topEntries, elementsIn, elementE
 use Rattle.prelude.specs.Ascii.{fullStop}
 use Rattle.jwe.specs.Compact.{after, stops, between, compactComponents}
 use Rattle.jwe.specs.General.{sharedEntries, ownEntries, parameters}
-use Rattle.jwe.specs.Judge.{Outcome, compactOutcome, asked, outcomeOf, jsonOutcome, outcome, place, accepted}
+use Rattle.jwe.specs.Judge.{Outcome, asked, outcome, place, accepted}
+use Rattle.jwe.specs.Inner.Outcomes.{compactOutcome, outcomeOf, jsonOutcome}
+use Rattle.jwe.proofs.Outcomes.{by-form}
 
 -- Modes
 
@@ -333,9 +335,9 @@ module _ (message : List ℕ) where
       }
 
   pub outcome-bounded : (recipient : ℕ) → Bounded (length message) (outcome message recipient)
-  unfolding outcome
   outcome-bounded recipient =
-      either (Bounded (length message)) (opensObject message) (λ _. json-bounded recipient) (λ _. compact-bounded)
+      by-form message recipient (Bounded (length message))
+      (either (Bounded (length message)) (opensObject message) (λ _. json-bounded recipient) (λ _. compact-bounded))
 
 -- All numbers of an outcome are below a limit past three times the message.
 pub accepted-below : (limit n : ℕ) (message : List ℕ) (x : Outcome) → n + (n + n) + 5 < limit → Bounded n x →

@@ -17,7 +17,8 @@ use Rattle.headers.specs.Answers.{codeComponents, headerBuffer}
 use Rattle.prelude.specs.declared.Stage.the-variants as stage
 use Rattle.headers.proofs.Stages.{passed-is, not-long}
 use Rattle.jwe.specs.Compact.{compactComponents}
-use Rattle.jwe.specs.Judge.{Outcome, compactOutcome, accepted}
+use Rattle.jwe.specs.Judge.{Outcome, accepted}
+use Rattle.jwe.specs.Inner.Outcomes.{compactOutcome}
 use Rattle.jwe.specs.Answers.{Judges, numbers}
 use Rattle.headers.specs.declared.Components.{Components}
 use Rattle.jwe.specs.declared.judged.Judged.{Judged}

@@ -15,12 +15,12 @@ use Rattle.prelude.specs.Outputs.{outputAfter}
 pub use Rattle.prelude.specs.Call.{Call, call, callFor}
 use Rattle.jose.specs.HeaderRules.{modeIn}
 use Rattle.prelude.specs.Limits.{longest, headerRoom, listRoom}
-use Rattle.headers.specs.Components.{Components, compactForm}
+use Rattle.headers.specs.Components.{Components, withKey, compactForm}
 use Rattle.headers.specs.Headers.{headerText, protectedEntries}
 use Rattle.shape.specs.Shape.{Recipient, recipientOf}
-use Rattle.shape.specs.Recipients.{Top, topOf, topEntries, recipientsIn, componentsIn}
+use Rattle.shape.specs.Recipients.{topOf, topEntries, recipientsIn}
 use Rattle.jwe.specs.Compact.{compactComponents, compactOrder}
-use Rattle.jwe.specs.General.{parameters, jsonOrder}
+use Rattle.jwe.specs.General.{sharedEntries, ownEntries, jsonOrder}
 
 -- All refusals in order, of what the reader is called with.
 unfoldable pub order : Call → List Test
@@ -35,7 +35,61 @@ order c =
 unfoldable pub refusal : Call → ℕ
 refusal c = first (order c)
 
--- What an accepted message hands out for a recipient.
+-- What an accepted message holds, for any recipient
+
+-- Of one recipient: the place of its key, and the parameters of its own header.
+pub record Share : Type 0 where
+  pub key : Place
+  pub own : List Entry
+
+-- The form, the components but the keys, the decoded protected header, the parameters that are all recipients', how many recipients
+-- there are, and what the n-th of them, counted from 0, has.
+pub record Held : Type 0 where
+  pub form : ℕ
+  pub components : Components
+  pub header : List ℕ
+  pub common : List Entry
+  pub recipients : ℕ
+  pub share : ℕ → Share
+
+abbrev pub compactHeld : List ℕ → Held
+compactHeld message =
+    let q = compactComponents message in
+    let header = headerText message (q .protected) in
+    record {
+      form = compactForm;
+      components = q;
+      header = header;
+      common = protectedEntries header;
+      recipients = 1;
+      share = λ n. record { key = q .key; own = [] };
+    }
+
+-- The n-th recipient; one without header and key where there is none.
+unfoldable pub asked : List Recipient → ℕ → Recipient
+asked [] n = recipientOf []
+asked (r ∷ rs) zero = r
+asked (r ∷ rs) (suc n) = asked rs n
+
+abbrev pub jsonHeld : List ℕ → Held
+jsonHeld message =
+    let es = topEntries message in
+    let t = topOf es in
+    let rs = recipientsIn message es in
+    let header = headerText message (t .components .protected) in
+    record {
+      form = t .form;
+      components = t .components;
+      header = header;
+      common = protectedEntries header ++ sharedEntries message t;
+      recipients = length rs;
+      share = λ n. let r = asked rs n in record { key = r .key; own = ownEntries message r };
+    }
+
+unfoldable pub held : List ℕ → Held
+held message = let j = jsonHeld message in let c = compactHeld message in cond (opensObject message) j c
+
+-- What is handed out for a recipient, of what the message holds.
 pub record Outcome : Type 0 where
   pub form : ℕ
   pub recipients : ℕ
@@ -43,41 +97,17 @@ pub record Outcome : Type 0 where
   pub header : List ℕ
   pub entries : List Entry
 
-unfoldable pub compactOutcome : List ℕ → Outcome
-compactOutcome message =
-    let q = compactComponents message in
-    let header = headerText message (q .protected) in
-    record { form = compactForm; recipients = 1; components = q; header = header; entries = protectedEntries header }
-
--- The n-th recipient, counted from 0; the flattened form's, or one without header and key, where there is none.
-unfoldable pub asked : List Recipient → ℕ → Recipient
-asked [] n = recipientOf []
-asked (r ∷ rs) zero = r
-asked (r ∷ rs) (suc n) = asked rs n
-
--- By what the top level holds and by the recipients.
-unfoldable pub outcomeOf : List ℕ → Top → List Recipient → ℕ → Outcome
-outcomeOf message t rs recipient =
-    let r = asked rs recipient in
-    let header = headerText message (t .components .protected) in
-    record {
-      form = t .form;
-      recipients = length rs;
-      components = componentsIn t r;
-      header = header;
-      entries = parameters header message t r;
-    }
-
-unfoldable pub jsonOutcome : List ℕ → ℕ → Outcome
-jsonOutcome message recipient =
-    let es = topEntries message in
-    outcomeOf message (topOf es) (recipientsIn message es) recipient
+abbrev pub outcomeFor : Held → ℕ → Outcome
+outcomeFor h n = record {
+  form = h .form;
+  recipients = h .recipients;
+  components = withKey (h .components) (h .share n .key);
+  header = h .header;
+  entries = h .common ++ h .share n .own;
+}
 
 unfoldable pub outcome : List ℕ → ℕ → Outcome
-outcome message recipient =
-    let j = jsonOutcome message recipient in
-    let c = compactOutcome message in
-    cond (opensObject message) j c
+outcome message n = outcomeFor (held message) n
 
 -- The numbers of the result, in document 01's order: number, form, recipient count, mode, the six places, header length,
 -- parameter count. Refused, all but the first are 0.

@@ -9,7 +9,7 @@ ghost use Rattle.prelude.specs.Any.{any};
 ghost use Rattle.rows.specs.Tables.{recipientTable};
 ghost use Rattle.headers.specs.Components.{misspelled, places};
 ghost use Rattle.jwe.specs.Compact.{between, fourStops, compactComponents, compactOrder};
-ghost use Rattle.jwe.specs.Judge.{compactOutcome};
+ghost use Rattle.jwe.specs.Inner.Outcomes.{compactOutcome};
 ghost use Rattle.headers.specs.Answers.{codePlace, codeComponents, componentsOf};
 ghost use Rattle.jwe.specs.Answers.{splitOf, Judges};
 use crate::Result;

@@ -19,7 +19,8 @@ ghost use Rattle.headers.specs.Headers.{headerText, protectedEntries, headerEnt
 ghost use Rattle.headers.specs.Answers.{placeOf, componentsOf, headerBuffer};
 ghost use Rattle.shape.specs.Inner.Answers.{recipientWidth, topIn};
 ghost use Rattle.jwe.specs.General.{allPlaces, jsonLater, jsonOrder};
-ghost use Rattle.jwe.specs.Judge.{accepted, outcomeOf, jsonOutcome};
+ghost use Rattle.jwe.specs.Judge.{accepted};
+ghost use Rattle.jwe.specs.Inner.Outcomes.{outcomeOf, jsonOutcome};
 ghost use Rattle.jwe.specs.Answers.{numbers, BeginsWith, Judges};
 ghost use Rattle.jwe.specs.Inner.Stages.{recipientAt, recipientsOf, Owned, LeavesOwn, textTests, protectedTests, ownTests, ruleTests};
 ghost use Rattle.jwe.specs.Inner.Stages.{HeaderKnown, HeadersKnown, allTests, headedOrder, headedOutcome, Heads, ownTable};

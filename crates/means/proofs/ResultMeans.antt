@@ -17,9 +17,11 @@ use Rattle.headers.specs.Components.{octetsAt}
 use Rattle.headers.specs.Headers.{headerText, outermost, protectedEntries}
 use Rattle.shape.specs.Shape.{memberEntries, component}
 use Rattle.shape.specs.Recipients.{topEntries, recipientsIn, componentsIn, topOf}
+use Rattle.jwe.proofs.Outcomes.{outcome-is}
 use Rattle.jwe.specs.Compact.{compactComponents}
 use Rattle.jwe.specs.General.{sharedEntries, ownEntries, parameters}
-use Rattle.jwe.specs.Judge.{Call, callFor, refusal, compactOutcome, asked, outcomeOf, jsonOutcome, outcome, accepted, refused, result}
+use Rattle.jwe.specs.Judge.{Call, callFor, refusal, asked, outcome, accepted, refused, result}
+use Rattle.jwe.specs.Inner.Outcomes.{compactOutcome, outcomeOf, jsonOutcome}
 use Rattle.round_trips.specs.Trips.{writtenPlaces}
 use Rattle.round_trips.proofs.Places.{dotted-written, places-are}
 use Rattle.meets.specs.Members.{Member, membersOf}
@@ -244,20 +246,19 @@ module _ (c : Call) (passes : refusal c ≡ 0) where
       let m = refusal c in
       ap (λ (b : Bool). cond b (accepted message (outcome message n)) (refused m)) (eq-eqb m 0 passes)
 
-  outcome-is : (b : Bool) → opensObject message ≡ b →
+  outcome-as : (b : Bool) → opensObject message ≡ b →
       outcome message n ≡ cond b (jsonOutcome message n) (compactOutcome message)
-  unfolding outcome
-  outcome-is b e = ap (λ (x : Bool). cond x (jsonOutcome message n) (compactOutcome message)) e
+  outcome-as b e = outcome-is message n ∙ ap (λ (x : Bool). cond x (jsonOutcome message n) (compactOutcome message)) e
 
   pub passed-means : (names : List (List ℕ)) (f : Message names (c .message)) → c .recipient < count f →
       ResultMeans f (c .recipient) (result c)
   passed-means names (compact x) below =
       subst (ResultMeans (compact x) n)
-      (sym (result-is ∙ ap (accepted message) (outcome-is false (forms-apart names message .0 x))))
+      (sym (result-is ∙ ap (accepted message) (outcome-as false (forms-apart names message .0 x))))
       (compact-means names message x n)
   passed-means names (json j) below =
       subst (ResultMeans (json j) n)
-      (sym (result-is ∙ ap (accepted message) (outcome-is true (forms-apart names message .1 (j .reading)))))
+      (sym (result-is ∙ ap (accepted message) (outcome-as true (forms-apart names message .1 (j .reading)))))
       (json-means names message j n below (reading-passed c passes (j .reading)))
 
 -- For each recipient below the count.

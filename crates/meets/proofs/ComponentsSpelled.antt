@@ -13,9 +13,11 @@ use Rattle.prelude.specs.Refusals.{Test, _if_, first}
 use Rattle.headers.specs.Components.{misspelled, places}
 use Rattle.shape.specs.Shape.{Recipient}
 use Rattle.shape.specs.Recipients.{topEntries, recipientsIn, componentsIn}
+use Rattle.jwe.proofs.Outcomes.{by-form}
 use Rattle.jwe.specs.Compact.{fourStops, compactComponents, compactOrder, compactSpelled, compactLater}
 use Rattle.jwe.specs.General.{jsonOrder}
-use Rattle.jwe.specs.Judge.{Call, refusal, compactOutcome, outcomeOf, jsonOutcome, outcome}
+use Rattle.jwe.specs.Judge.{Call, refusal, outcome, Outcome}
+use Rattle.jwe.specs.Inner.Outcomes.{compactOutcome, outcomeOf, jsonOutcome}
 use Rattle.meets.proofs.Deciding.{any-every, first-none}
 use Rattle.meets.proofs.InOrder.{first-append}
 use Rattle.meets.proofs.JsonPassed.{json-passed}
@@ -49,8 +51,10 @@ module _ (message : List ℕ) where
 
 pub components-spelled : (c : Call) → refusal c ≡ 0 →
     Every (Sound (c .message)) (places (outcome (c .message) (c .recipient) .components))
-unfolding outcome compactOutcome
-components-spelled c e = cases (opensObject (c .message)) (form-passed c e .2)
+unfolding compactOutcome
+components-spelled c e =
+    by-form (c .message) (c .recipient) (λ (x : Outcome). Every (Sound (c .message)) (places (x .components)))
+    (cases (opensObject (c .message)) (form-passed c e .2))
   where
     cases : (b : Bool) → first (formTests c b) ≡ 0 →
         Every (Sound (c .message))

@@ -18,9 +18,11 @@ use Rattle.jose.specs.Registered.{registered}
 use Rattle.headers.specs.Headers.{headerText, protectedEntries, headerEntries}
 use Rattle.shape.specs.Shape.{memberEntries, protected, component}
 use Rattle.shape.specs.Recipients.{topEntries, componentsIn}
+use Rattle.jwe.proofs.Outcomes.{by-form}
 use Rattle.jwe.specs.Compact.{compactOrder}
 use Rattle.jwe.specs.General.{sharedEntries, ownEntries, parameters, jsonOrder}
-use Rattle.jwe.specs.Judge.{Call, callFor, refusal, Outcome, compactOutcome, outcomeOf, jsonOutcome, outcome, accepted, refused}
+use Rattle.jwe.specs.Judge.{Call, callFor, refusal, Outcome, outcome, accepted, refused}
+use Rattle.jwe.specs.Inner.Outcomes.{compactOutcome, outcomeOf, jsonOutcome}
 use Rattle.jwe.specs.Judge.{result, headerAfter, listAfter}
 use Rattle.meets.specs.Handed.{Rows, entries, count, Applies}
 use Rattle.meets.specs.Meets.{Meets}
@@ -88,8 +90,8 @@ module _ (c : Call) where
   recipient = c .recipient
 
   pub outcome-handed : refusal c ≡ 0 → Handed (c .message) (c .recipient) (outcome (c .message) (c .recipient))
-  unfolding outcome
-  outcome-handed e = cases (opensObject message) (form-passed c e .2)
+  outcome-handed e =
+      by-form message recipient (Handed message recipient) (cases (opensObject message) (form-passed c e .2))
     where
       cases : (b : Bool) → first (formTests c b) ≡ 0 →
           Handed message recipient (cond b (jsonOutcome message recipient) (compactOutcome message))

@@ -21,9 +21,11 @@ use Rattle.prelude.specs.Limits.{longest, headerRoom, listRoom}
 use Rattle.headers.specs.Headers.{headerText, protectedEntries}
 use Rattle.shape.specs.Shape.{protected, component, inner, Recipient}
 use Rattle.shape.specs.Recipients.{topOf, topEntries, recipientsIn, componentsIn}
+use Rattle.jwe.proofs.Outcomes.{by-form}
 use Rattle.jwe.specs.Compact.{compactOrder}
 use Rattle.jwe.specs.General.{sharedEntries, ownEntries, parameters, jsonOrder}
-use Rattle.jwe.specs.Judge.{Call, order, refusal, compactOutcome, asked, outcomeOf, jsonOutcome, outcome}
+use Rattle.jwe.specs.Judge.{Call, order, refusal, asked, outcome, Outcome}
+use Rattle.jwe.specs.Inner.Outcomes.{compactOutcome, outcomeOf, jsonOutcome}
 use Rattle.meets.specs.Meets.{membersRead, Compact}
 use Rattle.meets.proofs.OneForOne.{zip-length}
 use Rattle.meets.proofs.Deciding.{or-false, first-none}
@@ -151,8 +153,8 @@ module _ (c : Call) where
 
   outcome-small : first (formTests (opensObject message)) ≡ 0 →
       Small (outcome message recipient .header) (outcome message recipient .entries)
-  unfolding outcome
-  outcome-small e = cases (opensObject message) e
+  outcome-small e =
+      by-form message recipient (λ (x : Outcome). Small (x .header) (x .entries)) (cases (opensObject message) e)
     where
       cases : (b : Bool) → first (formTests b) ≡ 0 →
           Small (cond b (jsonOutcome message recipient) (compactOutcome message) .header)

@@ -14,7 +14,7 @@ use Rattle.rows.specs.Tables.{listed, six}
 use Rattle.headers.specs.Headers.{headerText, outermost, protectedEntries}
 pub use Rattle.headers.proofs.Outermost.{shown-members, outermost-rows}
 use Rattle.jwe.specs.Compact.{compactComponents}
-use Rattle.jwe.specs.Judge.{compactOutcome}
+use Rattle.jwe.specs.Inner.Outcomes.{compactOutcome}
 use Rattle.meets.specs.Meets.{Compact}
 use Rattle.meets.specs.Handed.{Rows, entry, entries, count, ProtectedRows, Applies, compact}
 use Rattle.meets.proofs.SpelledDecided.{Spelled, spelled-header}

@@ -1,6 +1,6 @@
 -- What is read as compact is written again: it is five encoded texts, and is taken apart to what they encode; its
 -- header and its key pass the reader's tests and so the writer's.
-use mathlib.Core.Path.{_≡_, refl, ap, _∙_}
+use mathlib.Core.Path.{_≡_, refl, ap, sym, _∙_}
 use mathlib.Core.Bool.{Bool, true, false, cond}
 use mathlib.Core.List.{List}
 use Prim.Native.Nat.{ℕ, _≤_}
@@ -14,8 +14,10 @@ use Rattle.grammar.specs.Reader.{opensObject}
 use Rattle.rows.specs.Rows.{present}
 use Rattle.shape.specs.Shape.{recipients}
 use Rattle.shape.specs.Recipients.{topEntries}
+use Rattle.jwe.proofs.Outcomes.{outcome-is}
 use Rattle.jwe.specs.Compact.{compactComponents}
-use Rattle.jwe.specs.Judge.{Call, refusal, compactOutcome, outcomeOf, jsonOutcome, outcome}
+use Rattle.jwe.specs.Judge.{Call, refusal, outcome, Outcome}
+use Rattle.jwe.specs.Inner.Outcomes.{compactOutcome, outcomeOf, jsonOutcome}
 use Rattle.jwe_write.specs.Write.{Raw, compactText, writeRefusal}
 use Rattle.meets.proofs.FiveParts.{parts-placed}
 use Rattle.meets.proofs.SpelledDecided.{Spelled, spelled-parts}
@@ -31,8 +33,8 @@ raw-same h k i x t h' k' i' x' t' a b c d e = cc
 -- Only what opens no object is handed out as compact, with the places of its five parts.
 module _ (message : List ℕ) (recipient : ℕ) where
   pub compact-form : outcome message recipient .form ≡ 0 → opensObject message ≡ false
-  unfolding outcome jsonOutcome outcomeOf
-  compact-form e = cases (opensObject message) e
+  unfolding jsonOutcome outcomeOf
+  compact-form e = cases (opensObject message) (sym (ap (λ (x : Outcome). x .form) (outcome-is message recipient)) ∙ e)
     where
       no-json : (b : Bool) → _≡_ {A = ℕ} (cond b 2 1) 0 → ⊥
       no-json true z = omega arith
@@ -43,9 +45,10 @@ module _ (message : List ℕ) (recipient : ℕ) where
       cases false z = refl
 
   pub places-read : opensObject message ≡ false → outcome message recipient .components ≡ compactComponents message
-  unfolding outcome compactOutcome
+  unfolding compactOutcome
   places-read compact =
-      ap (λ (b : Bool). cond b (jsonOutcome message recipient) (compactOutcome message) .components) compact
+      ap (λ (x : Outcome). x .components) (outcome-is message recipient)
+      ∙ ap (λ (b : Bool). cond b (jsonOutcome message recipient) (compactOutcome message) .components) compact
 
 -- Five encoded texts are taken apart to what they encode.
 module _ (message : List ℕ) (s : Spelled message) where

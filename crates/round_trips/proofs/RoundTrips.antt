@@ -17,7 +17,8 @@ use Rattle.rows.specs.Tables.{listed}
 use Rattle.headers.specs.Components.{Components}
 use Rattle.headers.specs.Headers.{protectedEntries}
 use Rattle.jwe.specs.Compact.{compactComponents}
-use Rattle.jwe.specs.Judge.{Call, call, Outcome, refusal, refused, compactOutcome, jsonOutcome, outcome, accepted, placesIn}
+use Rattle.jwe.specs.Judge.{Call, call, Outcome, refusal, refused, outcome, accepted, placesIn}
+use Rattle.jwe.specs.Inner.Outcomes.{compactOutcome, jsonOutcome}
 use Rattle.jwe.specs.Judge.{result, headerAfter, listAfter}
 use Rattle.jwe_write.specs.Write.{Raw, compactText, writeRefusal}
 use Rattle.meets.specs.Meets.{Meets}

@@ -10,8 +10,10 @@ use Rattle.grammar.specs.Reader.{opensObject}
 use Rattle.prelude.specs.Refusals.{first}
 use Rattle.headers.specs.Components.{Components}
 use Rattle.headers.specs.Headers.{protectedEntries}
+use Rattle.jwe.proofs.Outcomes.{outcome-is}
 use Rattle.jwe.specs.Compact.{compactOrder}
-use Rattle.jwe.specs.Judge.{call, refusal, Outcome, compactOutcome, jsonOutcome, outcome}
+use Rattle.jwe.specs.Judge.{call, refusal, Outcome, outcome}
+use Rattle.jwe.specs.Inner.Outcomes.{compactOutcome, jsonOutcome}
 use Rattle.jwe_write.specs.Write.{Raw, compactText, writeRefusal}
 use Rattle.meets.proofs.SpelledDecided.{spelled-header}
 use Rattle.meets.proofs.CompactDecided as meets
@@ -41,10 +43,11 @@ module _ (c : Raw) (o : RawOctets c) (known : List ℕ) (room : ℕ) (e : writeR
       (record { header = h; table = l; size = w .size; list = w .list }, passed)
 
   pub handed : outcome message 0 ≡ writtenOutcome c
-  unfolding outcome compactOutcome writtenOutcome
+  unfolding compactOutcome writtenOutcome
   handed =
       let made : Components → List ℕ → Outcome =
       λ q header.
       record { form = 0; recipients = 1; components = q; header = header; entries = protectedEntries header } in
-      ap (λ (b : Bool). cond b (jsonOutcome message 0) (compactOutcome message)) opens-none
+      outcome-is message 0
+      ∙ ap (λ (b : Bool). cond b (jsonOutcome message 0) (compactOutcome message)) opens-none
       ∙ ap₂ made (places-are c o) (spelled-header message (spelled c o))

@@ -21,7 +21,7 @@ use Rattle.headers.specs.Answers.{placeOf, componentsOf, headerBuffer}
 use Rattle.headers.proofs.Stages.{passed-is, refused-is}
 use Rattle.headers.proofs.Collected.{Kept, kept-passed, table-length}
 use Rattle.jwe.specs.Compact.{compactComponents, compactOrder}
-use Rattle.jwe.specs.Judge.{compactOutcome}
+use Rattle.jwe.specs.Inner.Outcomes.{compactOutcome}
 use Rattle.jwe.specs.Answers.{handed}
 use Rattle.headers.specs.declared.Components.{Components}
 use Rattle.jwe.proofs.SmallOutcomes.{mode-low}
