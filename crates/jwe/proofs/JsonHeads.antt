@@ -1,8 +1,9 @@
 -- From the own headers on: the first refusal, and the numbers that are handed out.
-use mathlib.Core.Path.{_≡_, ap, ap₂, sym, subst, _∙_}
+use mathlib.Core.Path.{_≡_, ap, ap₂, _∙_}
 use mathlib.Core.Bool.{Bool, true, cond}
 use mathlib.Core.List.{List, [], _∷_, _++_}
 use Prim.Native.Nat.{ℕ, _≤_, _<_}
+use native.Mathlib.Omega.{arith}
 use lib.ListN.{length}
 use lib.Dec.{leb}
 use borrow.Author.Tests.{le-leb, lt-leb}
@@ -15,11 +16,12 @@ use Rattle.headers.specs.Answers.{componentsOf}
 use Rattle.prelude.specs.declared.Stage.{Stage}
 use Rattle.prelude.specs.declared.Stage.the-variants.{Refused}
 use Rattle.shape.specs.Shape.{Recipient}
-use Rattle.jwe.specs.Judge.{Outcome, place, accepted}
-use Rattle.jwe.specs.Answers.{numbers, handed, Judges}
+use Rattle.jwe.specs.Judge.{Outcome, place, accepted, refused}
+use Rattle.jwe.specs.Answers.{numbers, refusedBy, Judges}
 use Rattle.jwe.specs.Inner.Stages.{ownTests, ruleTests, allTests, headedOrder, Heads}
 use Rattle.headers.specs.declared.Components.{Components}
-use Rattle.jwe.specs.declared.judged.Judged.{Judged}
+use Rattle.jwe.specs.declared.Result.{Result}
+use Rattle.jwe.proofs.Answering.{answered-refused, refuses}
 use Rattle.jwe.proofs.JsonOrder.{stop, skip, own-nonzero, rule-nonzero}
 
 module _ (known : List (List ℕ)) (header message : List ℕ) (front : List Entry) (q : headers.Components)
@@ -65,19 +67,27 @@ module _ (known : List (List ℕ)) (header message : List ℕ) (front : List Ent
   unfolding allTests
   own-passes e = skip (ownTests message rs) _ (own-nonzero message rs) e
 
--- A stage's refusal, handed up, is what is answered.
+-- A refusal, by its number.
+pub heads-number : (message : List ℕ) (order : List Test) (x : Outcome) {n : ℕ} (r : Result) → numbers r ≡ refused n →
+    first order ≡ n → 0 < n → (table₀ table : List ℕ) → length table ≡ length table₀ → Heads message order x r table₀ table
+heads-number message order x r is fails some table₀ table l = record {
+  answers = is ∙ answered-refused message x fails some;
+  sameTable = l;
+  entries = λ z. absurd (omega (arith, z, fails, some));
+}
 
-module _ (message : List ℕ) (order : List Test) (x : Outcome) (n : ℕ) (j : Judged) (stage : Stage)
-    (up : j ≡ handed stage) (told : stage ≡ Refused n) (is : first order ≡ n) (some : 0 < n) where
-  pub heads-refused : (table₀ table : List ℕ) → length table ≡ length table₀ → Heads message order x j table₀ table
-  heads-refused table₀ table l =
-      subst (λ (a : Judged). Heads message order x a table₀ table) (sym (up ∙ ap handed told)) (is, some, l)
+-- A stage's refusal, handed up, is what is answered.
+module _ (message : List ℕ) (order : List Test) (x : Outcome) (n : ℕ) (r : Result) (stage : Stage)
+    (up : numbers r ≡ refused (refusedBy stage)) (told : stage ≡ Refused n) (is : first order ≡ n) (some : 0 < n) where
+  refused-n : numbers r ≡ refused n
+  refused-n = up ∙ ap (λ (s : Stage). refused (refusedBy s)) told
+
+  pub heads-refused : (table₀ table : List ℕ) → length table ≡ length table₀ → Heads message order x r table₀ table
+  heads-refused = heads-number message order x r refused-n is some
 
   pub judges-refused : (text₀ text table₀ table : List ℕ) → length text ≡ length text₀ → length table ≡ length table₀ →
-      Judges message order x j text₀ text table₀ table
-  judges-refused text₀ text table₀ table k l =
-      subst (λ (a : Judged). Judges message order x a text₀ text table₀ table) (sym (up ∙ ap handed told))
-      (is, some, k, l)
+      Judges message order x r text₀ text table₀ table
+  judges-refused = refuses message order x r refused-n is some
 
 -- The numbers of a result
 

@@ -26,13 +26,12 @@ use Rattle.headers.specs.Components.{absent}
 use Rattle.shape.specs.Shape.{Recipient}
 use Rattle.shape.specs.Recipients.{Top}
 use Rattle.jwe.specs.General.{sharedEntries, isHollow, jsonLater}
-use Rattle.jwe.specs.Judge.{Outcome, accepted}
+use Rattle.jwe.specs.Judge.{Outcome, answered}
 use Rattle.jwe.specs.Inner.Outcomes.{outcomeOf}
 use Rattle.jwe.specs.Answers.{BeginsWith, Judges}
 use Rattle.jwe.specs.Inner.Stages.{textTests, protectedTests, headedOrder, headedOutcome}
 use Rattle.jwe.specs.Inner.Stages.{Heads}
-use Rattle.jwe.specs.declared.judged.Judged.{Judged}
-use Rattle.jwe.specs.declared.judged.Judged.the-variants.{Accepted, Refused}
+use Rattle.jwe.specs.declared.Result.{Result}
 use Rattle.jwe.proofs.JsonOrder.{stop, skip, text-nonzero, protected-nonzero, object-nonzero, shaped-is}
 use Rattle.jwe.proofs.JsonOrder.{outcome-is}
 use Rattle.jwe.proofs.JsonHeaders.{no-header, few}
@@ -212,36 +211,26 @@ module _ (known : List (List ℕ)) (message : List ℕ) (t : Top) (rs : List Rec
           (object-nonzero message (sharedEntries message t)) e
 
   -- The answer, by that of what comes behind, whose table is as long as that of the whole.
-  pub judges : (j : Judged) (s : List ℕ) (fs : List Entry) (text₀ now table₀ table₁ table : List ℕ) → s ≡ header →
+  pub judges : (r : Result) (s : List ℕ) (fs : List Entry) (text₀ now table₀ table₁ table : List ℕ) → s ≡ header →
       fs ≡ front → first order ≡ first headed → now ≡ written 0 header text₀ → length now ≡ length text₀ →
       length table₁ ≡ length table₀ →
       Heads message (headedOrder known s message fs (t .components) rs recipient)
-      (headedOutcome s message t fs rs recipient) j table₁ table →
-      Judges message order (outcomeOf message t rs recipient) j text₀ now table₀ table
+      (headedOutcome s message t fs rs recipient) r table₁ table →
+      Judges message order (outcomeOf message t rs recipient) r text₀ now table₀ table
   unfolding outcomeOf
-  judges j s fs text₀ now table₀ table₁ table e f rest wrote long same h =
-      cases j
-      (subst
-      (λ (g : List Entry).
-      Heads message (headedOrder known header message g (t .components) rs recipient)
-      (headedOutcome header message t g rs recipient) j table₁ table)
-      f
-      (subst
-      (λ (l : List ℕ).
-      Heads message (headedOrder known l message fs (t .components) rs recipient)
-      (headedOutcome l message t fs rs recipient) j table₁ table)
-      e h))
-    where
-      x : headedOutcome header message t front rs recipient ≡ outcomeOf message t rs recipient
-      x = sym (outcome-is known message t rs recipient)
-
-      cases : (a : Judged) →
-          Heads message headed (headedOutcome header message t front rs recipient) a table₁ table →
-          Judges message order (outcomeOf message t rs recipient) a text₀ now table₀ table
-      cases (Accepted r) k = (
-        rest ∙ k .0,
-        k .1 ∙ ap (accepted message) x,
-        wrote,
-        subst (λ (o : Outcome). BeginsWith (o .entries) table₀ table) x (k .2 .0 ∙ same, k .2 .1),
-      )
-      cases (Refused n) k = (rest ∙ k .0, k .1, long, k .2 ∙ same)
+  judges r s fs text₀ now table₀ table₁ table e f rest wrote long same h =
+      let of : List ℕ → List Entry → Type 0 =
+      λ l g.
+      Heads message (headedOrder known l message g (t .components) rs recipient) (headedOutcome l message t g rs recipient) r
+      table₁ table in
+      let k = subst (λ (g : List Entry). of header g) f (subst (λ (l : List ℕ). of l fs) e h) in
+      let x = sym (outcome-is known message t rs recipient) in
+      record {
+        answers = k .answers ∙ ap₂ (answered message) (sym rest) x;
+        sameText = long;
+        sameTable = k .sameTable ∙ same;
+        header = λ z. wrote;
+        entries = λ z.
+            let b = k .entries (sym rest ∙ z) in
+            subst (λ (o : Outcome). BeginsWith (o .entries) table₀ table) x (b .0 ∙ same, b .1);
+      }

@@ -25,12 +25,11 @@ use Rattle.shape.specs.Recipients.{topEntries, topOrder, elementsIn, elementEnt
 use Rattle.shape.specs.Recipients.{Top, topOf, recipientsIn}
 use Rattle.shape.specs.Inner.Answers.{flatRecipients}
 use Rattle.jwe.specs.General.{allPlaces, anyMisspelled, jsonLater, jsonOrder}
-use Rattle.jwe.specs.Judge.{Outcome, accepted}
+use Rattle.jwe.specs.Judge.{Outcome, answered}
 use Rattle.jwe.specs.Inner.Outcomes.{outcomeOf, jsonOutcome}
 use Rattle.jwe.specs.Answers.{BeginsWith, Judges}
 use Rattle.jwe.specs.Inner.Stages.{recipientsOf}
-use Rattle.jwe.specs.declared.judged.Judged.{Judged}
-use Rattle.jwe.specs.declared.judged.Judged.the-variants.{Accepted, Refused}
+use Rattle.jwe.specs.declared.Result.{Result}
 use Rattle.jwe.proofs.JsonOrder.{json-rest, json-outcome}
 use Rattle.jwe.proofs.RecipientRows.{recipients-written}
 
@@ -140,37 +139,21 @@ module _ (message : List ℕ) (known : List (List ℕ)) (recipient : ℕ) (top :
   abbrev rs : List Recipient
   rs = recipientsIn message es
 
-  pub judges-json : (j : Judged) (t : Top) (ps : List Recipient) (text₀ text table₀ table : List ℕ) → t ≡ topOf es →
+  pub judges-json : (r : Result) (t : Top) (ps : List Recipient) (text₀ text table₀ table : List ℕ) → t ≡ topOf es →
       ps ≡ rs →
-      Judges message (jsonLater known message t ps recipient) (outcomeOf message t ps recipient) j text₀ text table₀ table →
-      Judges message (jsonOrder message known recipient) (jsonOutcome message recipient) j text₀ text table₀ table
-  judges-json j t ps text₀ text table₀ table e f h =
-      cases j
-      (subst
-      (λ (l : List Recipient).
-      Judges message (jsonLater known message (topOf es) l recipient) (outcomeOf message (topOf es) l recipient) j text₀ text table₀
-      table)
-      f
-      (subst
-      (λ (l : Top).
-      Judges message (jsonLater known message l ps recipient) (outcomeOf message l ps recipient) j text₀ text table₀
-      table)
-      e h))
-    where
-      same : first (jsonOrder message known recipient) ≡ first (jsonLater known message (topOf es) rs recipient)
-      same = json-rest message known recipient top elements sound
-
-      x : outcomeOf message (topOf es) rs recipient ≡ jsonOutcome message recipient
-      x = sym (json-outcome message known recipient)
-
-      cases : (a : Judged) →
-          Judges message (jsonLater known message (topOf es) rs recipient) (outcomeOf message (topOf es) rs recipient) a text₀ text
-          table₀ table →
-          Judges message (jsonOrder message known recipient) (jsonOutcome message recipient) a text₀ text table₀ table
-      cases (Accepted r) k = (
-        same ∙ k .0,
-        k .1 ∙ ap (accepted message) x,
-        k .2 ∙ ap (λ (o : Outcome). written 0 (o .header) text₀) x,
-        subst (λ (o : Outcome). BeginsWith (o .entries) table₀ table) x (k .3),
-      )
-      cases (Refused n) k = (same ∙ k .0, k .1, k .2, k .3)
+      Judges message (jsonLater known message t ps recipient) (outcomeOf message t ps recipient) r text₀ text table₀ table →
+      Judges message (jsonOrder message known recipient) (jsonOutcome message recipient) r text₀ text table₀ table
+  judges-json r t ps text₀ text table₀ table e f h =
+      let of : Top → List Recipient → Type 0 =
+      λ u us.
+      Judges message (jsonLater known message u us recipient) (outcomeOf message u us recipient) r text₀ text table₀ table in
+      let k = subst (λ (us : List Recipient). of (topOf es) us) f (subst (λ (u : Top). of u ps) e h) in
+      let same = json-rest message known recipient top elements sound in
+      let x = sym (json-outcome message known recipient) in
+      record {
+        answers = k .answers ∙ ap₂ (answered message) (sym same) x;
+        sameText = k .sameText;
+        sameTable = k .sameTable;
+        header = λ z. k .header (sym same ∙ z) ∙ ap (λ (o : Outcome). written 0 (o .header) text₀) x;
+        entries = λ z. subst (λ (o : Outcome). BeginsWith (o .entries) table₀ table) x (k .entries (sym same ∙ z));
+      }

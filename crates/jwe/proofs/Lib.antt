@@ -20,6 +20,8 @@ pub mod Splitting
 pub mod CompactOrder
 -- What is known where a stage passed, or refused.
 pub mod Stages
+-- What judging answers.
+pub mod Answering
 -- What is handed out, form by form.
 pub mod Outcomes
 -- For `read`: 1 to 3, and what the lent outputs hold afterwards.

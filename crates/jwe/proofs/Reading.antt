@@ -23,8 +23,6 @@ use Rattle.jwe.specs.Inner.Outcomes.{compactOutcome, jsonOutcome}
 use Rattle.jwe.specs.Judge.{result, headerAfter, listAfter}
 use Rattle.jwe.specs.Answers.{numbers, Judges}
 use Rattle.jwe.specs.declared.Result.{Result}
-use Rattle.jwe.specs.declared.judged.Judged.{Judged}
-use Rattle.jwe.specs.declared.judged.Judged.the-variants.{Accepted, Refused}
 use Rattle.jwe.proofs.Outcomes.{by-form}
 
 -- The refusals from 4 on
@@ -34,7 +32,7 @@ judging message known recipient =
 
 -- A path of the two, as the message opens.
 pub judges-as : (message : List ℕ) (known : List (List ℕ)) (recipient : ℕ) (b : Bool) → opensObject message ≡ b →
-    (r : Judged) (text₀ text table₀ table : List ℕ) →
+    (r : Result) (text₀ text table₀ table : List ℕ) →
     Judges message (cond b (jsonOrder message known recipient) (compactOrder message known recipient))
     (cond b (jsonOutcome message recipient) (compactOutcome message)) r text₀ text table₀ table →
     Judges message (judging message known recipient) (outcome message recipient) r text₀ text table₀ table
@@ -46,16 +44,6 @@ judges-as message known recipient b e r text₀ text table₀ table h =
     Judges message (cond x (jsonOrder message known recipient) (compactOrder message known recipient))
     (cond x (jsonOutcome message recipient) (compactOutcome message)) r text₀ text table₀ table)
     (sym e) h)
-
--- What an answer tells
-module _ (message : List ℕ) (order : List Test) (x : Outcome) (r : Judged) (text₀ text table₀ table : List ℕ)
-    (h : Judges message order x r text₀ text table₀ table) where
-  pub refused-told : (n : ℕ) → r ≡ Refused n → (first order ≡ n) × (0 < n)
-  refused-told n e =
-      let k = subst (λ (j : Judged). Judges message order x j text₀ text table₀ table) e h in (k .0, k .1)
-
-  pub accepted-told : (a : Result) → r ≡ Accepted a → Judges message order x (Accepted a) text₀ text table₀ table
-  accepted-told a e = subst (λ (j : Judged). Judges message order x j text₀ text table₀ table) e h
 
 -- 1 to 3
 

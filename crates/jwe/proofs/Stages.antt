@@ -10,27 +10,18 @@ use Rattle.prelude.specs.Buffer.{written}
 use Rattle.prelude.proofs.Writing.{written-length, begins}
 use Rattle.rows.specs.Rows.{Entry, readTexts}
 use Rattle.rows.specs.Inner.Prints.{Printed}
-use Rattle.prelude.specs.Refusals.{Test, first, stageOf}
+use Rattle.prelude.specs.Refusals.{first, stageOf}
 use Rattle.jose.specs.HeaderRules.{modeIn}
 use Rattle.headers.specs.Headers.{tooLong, textOrder}
 use Rattle.headers.specs.Answers.{codeComponents, headerBuffer}
 use Rattle.prelude.specs.declared.Stage.the-variants as stage
 use Rattle.headers.proofs.Stages.{passed-is, not-long}
 use Rattle.jwe.specs.Compact.{compactComponents}
-use Rattle.jwe.specs.Judge.{Outcome, accepted}
+use Rattle.jwe.specs.Judge.{accepted}
 use Rattle.jwe.specs.Inner.Outcomes.{compactOutcome}
-use Rattle.jwe.specs.Answers.{Judges, numbers}
+use Rattle.jwe.specs.Answers.{numbers}
 use Rattle.headers.specs.declared.Components.{Components}
-use Rattle.jwe.specs.declared.judged.Judged.{Judged}
-use Rattle.jwe.specs.declared.judged.Judged.the-variants.{Accepted, Refused}
 use Rattle.jwe.proofs.CompactOrder.{header, entries}
-
--- A refusal, by its number
-pub refuses : (message : List ℕ) (order : List Test) (x : Outcome) (text₀ text table₀ table : List ℕ) (n : ℕ) →
-    first order ≡ n → 0 < n → length text ≡ length text₀ → length table ≡ length table₀ →
-    (r : Judged) → r ≡ Refused n → Judges message order x r text₀ text table₀ table
-refuses message order x text₀ text table₀ table n f p s t r e =
-    subst (λ (j : Judged). Judges message order x j text₀ text table₀ table) (sym e) (f, p, s, t)
 
 -- The decoded header
 

@@ -143,10 +143,12 @@ placesIn r = record {
 
 -- The result, and what the lent header buffer and list hold afterwards, by what they held before.
 
+-- Those of a refusal, 0 where there is none, and of what is handed out.
+abbrev pub answered : List ℕ → ℕ → Outcome → List ℕ
+answered message n x = cond (eqb n 0) (accepted message x) (refused n)
+
 unfoldable pub result : Call → List ℕ
-result c =
-    let n = refusal c in
-    cond (eqb n 0) (accepted (c .message) (outcome (c .message) (c .recipient))) (refused n)
+result c = answered (c .message) (refusal c) (outcome (c .message) (c .recipient))
 
 unfoldable pub headerAfter : Call → List ℕ → List ℕ
 headerAfter c before = outputAfter (refusal c) (outcome (c .message) (c .recipient) .header) before

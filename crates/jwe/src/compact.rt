@@ -13,8 +13,8 @@ ghost use Rattle.jwe.specs.Inner.Outcomes.{compactOutcome};
 ghost use Rattle.headers.specs.Answers.{codePlace, codeComponents, componentsOf};
 ghost use Rattle.jwe.specs.Answers.{splitOf, Judges};
 use crate::Result;
-use crate::judged::Judged;
-use crate::judged::handed;
+use crate::handed;
+use crate::refused;
 use headers::Components;
 use prelude::Place;
 use prelude::Stage;
@@ -96,7 +96,7 @@ fn judge_header(
     recipient: u32,
     text: &mut [u8],
     table: &mut [u32],
-) -> Judged
+) -> Result
     requires { ⌜ fourStops (now message) ≡ true ⌝ }
     requires { ⌜ q ≡ codeComponents (compactComponents (now message)) ⌝ }
     requires { ⌜ any (misspelled (now message)) (places (componentsOf q)) ≡ false ⌝ }
@@ -126,9 +126,9 @@ fn judge_header(
         return handed(judged);
     };
     if 1 <= recipient {
-        return Judged::Refused(19);
+        return refused(19);
     }
-    Judged::Accepted(Result {
+    Result {
         number: 0,
         form: 0,
         recipients: 1,
@@ -136,7 +136,7 @@ fn judge_header(
         components: q,
         header: n,
         parameters: count,
-    })
+    }
 }
 
 // A compact message judged in document 01's order, from 4 on; `text` and `table` are room for the decoded header and for
@@ -147,7 +147,7 @@ pub(crate) fn judge(
     recipient: u32,
     text: &mut [u8],
     table: &mut [u32],
-) -> Judged
+) -> Result
     requires { ⌜ length (now message) ≤ longest ⌝ }
     requires { ⌜ filled (now known) ≡ true ⌝ }
     requires { ⌜ length (now text) ≡ headerRoom ⌝ }
@@ -156,10 +156,10 @@ pub(crate) fn judge(
 {
     let found = split(message);
     let FullStops::Four(q) = found else {
-        return Judged::Refused(4);
+        return refused(4);
     };
     if misspelled(message, q) {
-        return Judged::Refused(5);
+        return refused(5);
     }
     judge_header(message, q, known, recipient, text, table)
 }

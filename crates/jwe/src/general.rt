@@ -25,8 +25,8 @@ ghost use Rattle.jwe.specs.Answers.{numbers, BeginsWith, Judges};
 ghost use Rattle.jwe.specs.Inner.Stages.{recipientAt, recipientsOf, Owned, LeavesOwn, textTests, protectedTests, ownTests, ruleTests};
 ghost use Rattle.jwe.specs.Inner.Stages.{HeaderKnown, HeadersKnown, allTests, headedOrder, headedOutcome, Heads, ownTable};
 use crate::Result;
-use crate::judged::Judged;
-use crate::judged::handed;
+use crate::handed;
+use crate::refused;
 use headers::Components;
 use json::Position;
 use prelude::Place;
@@ -313,7 +313,7 @@ fn headed(
     number: usize,
     table: &mut [u32],
     front: usize,
-) -> Judged
+) -> Result
     requires { ⌜ length (now message) ≤ longest ⌝ }
     requires { ⌜ filled (now known) ≡ true ⌝ }
     requires { ⌜ number ≤ mostRecipients ⌝ }
@@ -349,9 +349,9 @@ fn headed(
     };
     let i = recipient as usize;
     if number <= i {
-        return Judged::Refused(19);
+        return refused(19);
     }
-    Judged::Accepted(hand_out(
+    hand_out(
         header,
         message,
         top,
@@ -362,7 +362,7 @@ fn headed(
         i,
         table,
         front,
-    ))
+    )
 }
 
 // From the protected header on, all components being base64url.
@@ -375,7 +375,7 @@ fn shaped(
     number: usize,
     text: &mut [u8],
     table: &mut [u32],
-) -> Judged
+) -> Result
     requires { ⌜ length (now message) ≤ longest ⌝ }
     requires { ⌜ filled (now known) ≡ true ⌝ }
     requires { ⌜ number ≤ mostRecipients ⌝ }
@@ -423,7 +423,7 @@ pub(crate) fn judge(
     recipient: u32,
     text: &mut [u8],
     table: &mut [u32],
-) -> Judged
+) -> Result
     requires { ⌜ length (now message) ≤ longest ⌝ }
     requires { ⌜ filled (now known) ≡ true ⌝ }
     requires { ⌜ length (now text) ≡ headerRoom ⌝ }
@@ -442,7 +442,7 @@ pub(crate) fn judge(
     };
     let top = shape::held::held(&members, count);
     if misspelled(message, top.components, &of, number) {
-        return Judged::Refused(5);
+        return refused(5);
     }
     shaped(message, known, recipient, top, &of, number, text, table)
 }

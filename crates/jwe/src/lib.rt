@@ -12,12 +12,11 @@ ghost use Rattle.jwe.specs.General.{jsonOrder};
 ghost use Rattle.jwe.specs.Judge.{call, outcome, result, refused, headerAfter, listAfter};
 ghost use Rattle.jwe.specs.Answers.{numbers, refusedBy, Judges};
 use headers::Components;
-use judged::Judged;
 use prelude::Place;
+use prelude::Stage;
 
 mod compact;
 mod general;
-mod judged;
 
 // What the reader answers (document 01, 'What the reader hands out').
 pub struct Result {
@@ -31,7 +30,7 @@ pub struct Result {
 }
 
 // A refusal: its number with zeros.
-fn refused(n: u32) -> Result
+pub(crate) fn refused(n: u32) -> Result
     ensures { λ r. ⌜ numbers r ≡ refused n ⌝ }
 {
     let none = Place { start: 0, len: 0 };
@@ -53,18 +52,18 @@ fn refused(n: u32) -> Result
     }
 }
 
-// The refusal of a message, likewise.
-fn refusal(judged: Judged) -> Result
-    ensures { λ r. ⌜ numbers r ≡ refused (refusedBy judged) ⌝ }
+// The refusal of a stage: its number with zeros.
+pub(crate) fn handed(stage: Stage) -> Result
+    ensures { λ r. ⌜ numbers r ≡ refused (refusedBy stage) ⌝ }
 {
-    let Judged::Refused(n) = judged else {
+    let Stage::Refused(n) = stage else {
         return refused(0);
     };
     refused(n)
 }
 
 // A message judged in document 01's order, from 4 on: a JSON message where it opens an object, a compact one elsewhere.
-fn judge(message: &[u8], known: &[u8], recipient: u32, text: &mut [u8], table: &mut [u32]) -> Judged
+fn judge(message: &[u8], known: &[u8], recipient: u32, text: &mut [u8], table: &mut [u32]) -> Result
     requires { ⌜ length (now message) ≤ longest ⌝ }
     requires { ⌜ filled (now known) ≡ true ⌝ }
     requires { ⌜ length (now text) ≡ headerRoom ⌝ }
@@ -111,10 +110,10 @@ pub fn read(
     }
     let mut text = [0u8; 4096];
     let mut table = [0u32; 768];
-    let judged = judge(message, known, recipient, &mut text, &mut table);
-    let Judged::Accepted(result) = judged else {
-        return refusal(judged);
-    };
+    let result = judge(message, known, recipient, &mut text, &mut table);
+    if result.number != 0 {
+        return result;
+    }
     prelude::copy_octets(&text[..result.header], header, 0);
     rows::copy::lay(&table, result.parameters, list);
     result

@@ -2,7 +2,7 @@
 use mathlib.Core.Path.{_≡_, refl, ap, sym, _∙_}
 use mathlib.Core.Bool.{true}
 use mathlib.Core.List.{List}
-use Prim.Native.Nat.{ℕ}
+use Prim.Native.Nat.{ℕ, _<_}
 use native.Mathlib.Omega.{arith}
 use lib.ListN.{length}
 use borrow.Author.Tests.{not-true, not-false}
@@ -12,10 +12,10 @@ use Rattle.names.proofs.Laws.{sound-filled}
 use Rattle.rows.specs.Rows.{Entry}
 use Rattle.rows.specs.Tables.{listed}
 use Rattle.prelude.specs.Refusals.{first}
-use Rattle.jwe.specs.Judge.{Call, call, refusal, refused, outcome}
-use Rattle.jwe.specs.Answers.{refusedBy}
-use Rattle.jwe.specs.declared.judged.Judged.{Judged}
-use Rattle.jwe.proofs.Reading.{judging, refused-told, accepted-told, Holds, holds}
+use Rattle.jwe.specs.Judge.{Call, call, refusal, outcome, accepted}
+use Rattle.jwe.specs.Answers.{numbers}
+use Rattle.jwe.proofs.Answering.{number-is, answered-refused, answered-accepted}
+use Rattle.jwe.proofs.Reading.{judging, Holds, holds}
 use Rattle.jwe.proofs.Reading.{answers-refused, answers-accepted}
 use Rattle.jwe.proofs.Reading.{refusal-header, refusal-list, refusal-long, refusal-names, refusal-judged}
 use borrow.Author.Needs.{needs}
@@ -46,18 +46,45 @@ judged-first c =
     refusal-judged (called (start-of c))
     (c .before .before .before .before .before .before .before .if1 .left) (c .before .before .before .before .before .before .if2 .left) (c .before .before .before .before .before .if3 .left) (names-sound c)
 
--- what its own memory holds where it accepts
-held : (c : tie.After-known-told) →
-    let call = c .before .before .before .before .before in
+-- the result's first number is that refusal
+number-first : (c : tie.After-judge) →
+    let given = start-of c .args in
+    c .judge .result .number ≡ first (judging (given .message .now) (names (given .known .now)) (given .recipient))
+number-first c =
+    let given = start-of c .args in
+    number-is (given .message .now) (outcome (given .message .now) (given .recipient)) _ (c .judge .result)
+    (c .judge .ensures .answers)
+
+-- where it accepts: that nothing is refused, and what is answered
+abbrev judged-of : tie.Else5 → tie.After-judge
+judged-of c = c .before .before .before .before
+
+passes : (c : tie.Else5) →
+    let given = start-of (judged-of c) .args in
+    first (judging (given .message .now) (names (given .known .now)) (given .recipient)) ≡ 0
+passes c = sym (number-first (judged-of c)) ∙ c .if5 .left
+
+accepts : (c : tie.Else5) →
+    let given = start-of (judged-of c) .args in
+    numbers (judged-of c .judge .result)
+    ≡ accepted (given .message .now) (outcome (given .message .now) (given .recipient))
+accepts c =
+    let given = start-of (judged-of c) .args in
+    judged-of c .judge .ensures .answers
+    ∙ sym (answered-accepted (given .message .now) (outcome (given .message .now) (given .recipient)) (passes c))
+
+-- what its own memory holds then
+held : (c : tie.Else5) →
+    let call = judged-of c in
     let given = start-of call .args in
-    let a = c .before .judged .given .0 .0 in
     Holds (outcome (given .message .now) (given .recipient)) (call .judge .last .1 .1 .1 .0)
-    (call .judge .last .1 .1 .1 .1 .0) (a .header) (a .parameters)
+    (call .judge .last .1 .1 .1 .1 .0) (call .judge .result .header) (call .judge .result .parameters)
 held c =
-    let call = c .before .before .before .before .before in
+    let call = judged-of c in
     let given = start-of call .args in
-    let k = accepted-told _ _ _ (call .judge .result) _ _ _ _ (call .judge .ensures) _ (c .before .judged .given .1) in
-    holds (given .message .now) _ _ _ _ _ (k .1) (k .2) (k .3 .1) (search needs) (search needs)
+    let k = call .judge .ensures in
+    holds (given .message .now) _ _ _ _ _ (accepts c) (k .header (passes c)) (k .entries (passes c) .1) (search needs)
+    (search needs)
 
 refused-requires : tie.Need-refused-requires
 refused-requires c κs = search needs
@@ -121,24 +148,17 @@ judge-requires c κs = (
   ),
 )
 
-enum-known-judged : tie.Need-enum-known-judged
-enum-known-judged c = search needs
-
-enum-told : tie.Need-enum-told
-enum-told c = search needs
-
-refusal-requires : tie.Need-refusal-requires
-refusal-requires c κs = search needs
-
 returns-5 : tie.Need-returns-5
 returns-5 c =
-    let call = c .before .before .before .before .before in
+    let call = c .before .before .before .before in
     let given = start-of call .args in
-    let told = c .before .enum-told .given in
-    let k = refused-told _ _ _ (call .judge .result) _ _ _ _ (call .judge .ensures) (told .0 .0) (told .1) in
-    answers-refused (called (start-of call)) (given .header .now) (given .list .now) (told .0 .0)
-    (judged-first call ∙ k .0) (k .1) (c .refusal .result)
-    (c .refusal .ensures ∙ ap (λ (j : Judged). refused (refusedBy j)) (told .1))
+    let message = given .message .now in
+    let n = first (judging message (names (given .known .now)) (given .recipient)) in
+    let some : 0 < n = omega (arith, number-first call, c .if5 .taken) in
+    answers-refused (called (start-of call)) (given .header .now) (given .list .now) n (judged-first call) some
+    (call .judge .result)
+    (call .judge .ensures .answers
+    ∙ sym (answered-refused message (outcome message (given .recipient)) refl some))
 
 array-share-prefix-text : tie.Need-array-share-prefix-text
 array-share-prefix-text c = omega (arith, held c .size, held c .within)
@@ -149,7 +169,7 @@ slice-aggregate-copy-octets c = let h = held (c .before) in h .size ∙ sym (ap 
 copy-octets-requires : tie.Need-copy-octets-requires
 copy-octets-requires c κs =
     let h = held (c .before .before) in
-    let call = c .before .before .before .before .before .before .before in
+    let call = judged-of (c .before .before) in
     omega (arith, ap length (h .front), h .within, call .before .before .before .before .before .before .before .if1 .left)
 
 slice-aggregate-lay : tie.Need-slice-aggregate-lay
@@ -157,8 +177,9 @@ slice-aggregate-lay c = search needs
 
 lay-requires : tie.Need-lay-requires
 lay-requires c κs =
-    let h = held (c .before .before .before .before .before .before .before) in
-    let call = c .before .before .before .before .before .before .before .before .before .before .before .before in
+    let told = c .before .before .before .before .before .before .before in
+    let h = held told in
+    let call = judged-of told in
     (omega (arith, h .few), omega (arith, h .few, call .before .before .before .before .before .before .if2 .left))
 
 same-length : tie.Need-same-length
@@ -169,14 +190,12 @@ same-length-2 c = search needs
 
 returns-6 : tie.Need-returns-6
 returns-6 c =
-    let known = c .before .before .before .before .before .before .before .before .before .before in
-    let call = known .before .before .before .before .before in
+    let told = c .before .before .before .before .before .before .before .before .before .before in
+    let call = judged-of told in
     let given = start-of call .args in
-    let h = held known in
-    let a = known .before .judged .given in
-    let k = accepted-told _ _ _ (call .judge .result) _ _ _ _ (call .judge .ensures) _ (a .1) in
+    let h = held told in
     answers-accepted (called (start-of call)) (given .header .now) (given .list .now)
-    (judged-first call ∙ k .0) (a .0 .0) (k .1) _ _
+    (judged-first call ∙ passes told) (call .judge .result) (accepts told) _ _
     (c .before .before .before .before .before .before .before .copy-octets .ensures ∙ ap (λ (x : List ℕ). written 0 x (given .header .now)) (h .front))
     (c .before .before .lay .ensures ∙ ap (λ (es : List Entry). written 0 (listed es) (given .list .now)) (h .entries))
 
@@ -196,9 +215,6 @@ read-spec =
     slice-aggregate-judge
     slice-aggregate-judge-2
     judge-requires
-    enum-known-judged
-    enum-told
-    refusal-requires
     returns-5
     array-share-prefix-text
     slice-aggregate-copy-octets

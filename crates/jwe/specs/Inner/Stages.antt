@@ -21,10 +21,9 @@ use Rattle.shape.specs.Shape.{Recipient}
 use Rattle.shape.specs.Recipients.{Top, componentsIn}
 use Rattle.shape.specs.Inner.Answers.{recipientWidth}
 use Rattle.jwe.specs.General.{ownEntries, isHollow}
-use Rattle.jwe.specs.Judge.{Outcome, accepted, asked}
+use Rattle.jwe.specs.Judge.{Outcome, answered, asked}
 use Rattle.jwe.specs.Answers.{numbers, BeginsWith}
-use Rattle.jwe.specs.declared.judged.Judged.{Judged}
-use Rattle.jwe.specs.declared.judged.Judged.the-variants as message
+use Rattle.jwe.specs.declared.Result.{Result}
 
 -- The recipients of a table
 
@@ -110,9 +109,8 @@ headedOutcome header message t front rs recipient =
       entries = front ++ ownEntries message r;
     }
 
--- As Answers' Judges, the header having been decoded before; where it is refused the table's contents are free likewise.
-abbrev pub Heads : List ℕ → List Test → Outcome → Judged → List ℕ → List ℕ → Type 0
-Heads text order x (message.Accepted r) table₀ table =
-    (first order ≡ 0) × (numbers r ≡ accepted text x) × BeginsWith (x .entries) table₀ table
-Heads text order x (message.Refused n) table₀ table =
-    (first order ≡ n) × (0 < n) × (length table ≡ length table₀)
+-- As Answers' `Judges`, where the header has been decoded before.
+pub record Heads (message : List ℕ) (order : List Test) (x : Outcome) (r : Result) (table₀ table : List ℕ) : Type 0 where
+  pub answers : numbers r ≡ answered message (first order) x
+  pub sameTable : length table ≡ length table₀
+  pub entries : first order ≡ 0 → BeginsWith (x .entries) table₀ table

@@ -4,6 +4,7 @@ use native.Mathlib.Omega.{arith}
 use Rattle.names.specs.Names.{names}
 use Rattle.jwe.proofs.Splitting.{four-told, other-told, asked-are}
 use Rattle.jwe.proofs.CompactOrder.{first-4, first-5}
+use Rattle.jwe.proofs.Answering.{refuses}
 use borrow.Author.Needs.{needs}
 use Rattle.jwe.proofs.compact.judge.Statement.{statement}
 use Rattle.jwe.proofs.compact.judge.Tie as tie
@@ -17,26 +18,35 @@ enum-known-found c = search needs
 enum-told : tie.Need-enum-told
 enum-told c = search needs
 
+refused-requires : tie.Need-refused-requires
+refused-requires c κs = search needs
+
 returns : tie.Need-returns
 returns c =
-    let given = c .before .before .before .before .before .before .before .args in
+    let given = c .before .before .before .before .before .before .before .before .args in
     let message = given .message .now in
-    let other = other-told message (sym (c .enum-told .given .1) ∙ c .before .before .split .ensures) in
-    (first-4 message (names (given .known .now)) (given .recipient) other, omega arith, refl, refl)
+    let other = other-told message (sym (c .before .enum-told .given .1) ∙ c .before .before .before .split .ensures) in
+    refuses message _ _ _ (c .refused .ensures) (first-4 message (names (given .known .now)) (given .recipient) other)
+    (omega arith) (given .text .now) (given .text .now) (given .table .now) (given .table .now) refl refl
 
 misspelled-requires : tie.Need-misspelled-requires
 misspelled-requires c κs = search needs
 
+refused-requires-2 : tie.Need-refused-requires-2
+refused-requires-2 c κs = search needs
+
 returns-2 : tie.Need-returns-2
 returns-2 c =
-    let split = c .before .before .before .before .before in
+    let split = c .before .before .before .before .before .before in
     let given = split .before .before .before .before .before .args in
     let message = given .message .now in
-    let found = c .before .before .before .found .given in
+    let found = c .before .before .before .before .found .given in
     let four = four-told message (found .0 .0) (sym (found .1) ∙ split .split .ensures) in
     let some =
-    sym (asked-are message (found .0 .0) (four .1)) ∙ sym (c .before .misspelled .ensures) ∙ c .if1 .taken in
-    (first-5 message (names (given .known .now)) (given .recipient) (four .0) some, omega arith, refl, refl)
+    sym (asked-are message (found .0 .0) (four .1)) ∙ sym (c .before .before .misspelled .ensures) ∙ c .before .if1 .taken in
+    refuses message _ _ _ (c .refused2 .ensures)
+    (first-5 message (names (given .known .now)) (given .recipient) (four .0) some)
+    (omega arith) (given .text .now) (given .text .now) (given .table .now) (given .table .now) refl refl
 
 judge-header-requires : tie.Need-judge-header-requires
 judge-header-requires c κs =
@@ -65,8 +75,10 @@ judge-spec =
     split-requires
     enum-known-found
     enum-told
+    refused-requires
     returns
     misspelled-requires
+    refused-requires-2
     returns-2
     judge-header-requires
     same-length

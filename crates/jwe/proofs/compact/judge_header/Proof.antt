@@ -22,13 +22,14 @@ use Rattle.headers.proofs.Stages.{passed-is, refused-is}
 use Rattle.headers.proofs.Collected.{Kept, kept-passed, table-length}
 use Rattle.jwe.specs.Compact.{compactComponents, compactOrder}
 use Rattle.jwe.specs.Inner.Outcomes.{compactOutcome}
-use Rattle.jwe.specs.Answers.{handed}
 use Rattle.headers.specs.declared.Components.{Components}
 use Rattle.jwe.proofs.SmallOutcomes.{mode-low}
 use Rattle.jwe.proofs.Splitting.{none-first, asked-are}
 use Rattle.jwe.proofs.CompactOrder.{header, entries, rules}
 use Rattle.jwe.proofs.CompactOrder.{first-text, first-object, first-rule, first-19, first-none}
-use Rattle.jwe.proofs.Stages.{Read, read-passed, buffer-length, refuses, printed-as, accepted-are}
+use Rattle.jwe.proofs.Stages.{Read, read-passed, buffer-length, printed-as, accepted-are}
+use Rattle.jwe.proofs.JsonHeads.{judges-refused}
+use Rattle.jwe.proofs.Answering.{answered-accepted, refuses}
 use borrow.Author.Needs.{needs}
 use Rattle.jwe.proofs.compact.judge_header.Statement.{statement}
 use Rattle.jwe.proofs.compact.judge_header.Tie as tie
@@ -151,10 +152,10 @@ returns c =
     let start = begin after in
     let told = c .before .enum-told .given in
     let r = refused-is (told .0 .0) _ _ (sym (told .1) ∙ text-answer after) in
-    refuses _ _ _ _ _ _ _ (told .0 .0)
+    judges-refused (message start) _ _ _ _ _ (c .handed .ensures) (told .1)
     (first-text (message start) _ _ (start .pre .0) (spelled start) (told .0 .0) (r .0) (r .1)) (r .1)
+    (start .args .text .now) _ (start .args .table .now) _
     (ap length (text-left after) ∙ buffer-length _ _ (start .pre .1 .1 .1 .1 .0)) refl
-    (c .handed .result) (c .handed .ensures ∙ ap handed (told .1))
 
 slice-reshare-prefix-protected-entries : tie.Need-slice-reshare-prefix-protected-entries
 slice-reshare-prefix-protected-entries c = read c .fits
@@ -190,10 +191,10 @@ returns-2 c =
     let after = c .before .before .before .before .before in
     let text = read (c .before .before .before .before .before .before .before .before) in
     let r = refused-is (told .0 .0) _ _ (sym (told .1) ∙ entries-answer after) in
-    refuses _ _ _ _ _ _ _ (told .0 .0)
+    judges-refused (message start) _ _ _ _ _ (c .handed2 .ensures) (told .1)
     (first-object (message start) _ _ (start .pre .0) (spelled start) (text .passes) (told .0 .0) (r .0) (r .1)) (r .1)
-    (text .same) (ap length (entries-left after) ∙ table-length _ _ (omega (arith, start .pre .1 .1 .1 .1 .1)))
-    (c .handed2 .result) (c .handed2 .ensures ∙ ap handed (told .1))
+    (start .args .text .now) _ (start .args .table .now) _ (text .same)
+    (ap length (entries-left after) ∙ table-length _ _ (omega (arith, start .pre .1 .1 .1 .1 .1)))
 
 slice-reshare-prefix-judge : tie.Need-slice-reshare-prefix-judge
 slice-reshare-prefix-judge c = read (told-of c) .fits
@@ -244,31 +245,31 @@ returns-3 c =
     let text = read (told-of known) in
     let table = kept known in
     let r = refused-is (told .0 .0) _ _ (sym (told .1) ∙ rules-answer (c .before .before .before)) in
-    refuses _ _ _ _ _ _ _ (told .0 .0)
+    judges-refused (message start) _ _ _ _ _ (c .handed3 .ensures) (told .1)
     (first-rule (message start) _ _ (start .pre .0) (spelled start) (text .passes) (table .passes) (told .0 .0) (r .0)
     (r .1))
-    (r .1) (text .same) (table .same) (c .handed3 .result) (c .handed3 .ensures ∙ ap handed (told .1))
+    (r .1) (start .args .text .now) _ (start .args .table .now) _ (text .same) (table .same)
+
+refused-requires : tie.Need-refused-requires
+refused-requires c κs = search needs
 
 same-length-6 : tie.Need-same-length-6
-same-length-6 c = read (told-of (known-of (c .before .before .before .before))) .same
+same-length-6 c = read (told-of (known-of (c .before .before .before .before .before))) .same
 
 same-length-7 : tie.Need-same-length-7
 same-length-7 c = search needs
 
 returns-4 : tie.Need-returns-4
 returns-4 c =
-    let known = known-of (c .before .before .before .before) in
+    let known = known-of (c .before .before .before .before .before) in
     let start = start-of (told-of known) in
     let text = read (told-of known) in
     let table = kept known in
-    let mode = c .before .before .judged .given in
-    let r = passed-is (mode .0 .0) _ _ (sym (mode .1) ∙ rules-answer (c .before .before .before .before)) in (
-      first-19 (message start) _ _ (start .pre .0) (spelled start) (text .passes) (table .passes) (r .0)
-          (c .if1 .taken),
-      omega arith,
-      text .same,
-      table .same,
-    )
+    let mode = c .before .before .before .judged .given in
+    let r = passed-is (mode .0 .0) _ _ (sym (mode .1) ∙ rules-answer (c .before .before .before .before .before)) in
+    refuses (message start) _ _ _ (c .refused .ensures)
+    (first-19 (message start) _ _ (start .pre .0) (spelled start) (text .passes) (table .passes) (r .0) (c .before .if1 .taken))
+    (omega arith) (start .args .text .now) _ (start .args .table .now) _ (text .same) (table .same)
 
 -- a mode is at most 5
 cast-t25 : tie.Need-cast-t25
@@ -292,20 +293,24 @@ returns-5 c =
     let text = read (told-of known) in
     let table = kept known in
     let mode = c .before .before .judged .given in
-    let r = passed-is (mode .0 .0) _ _ (sym (mode .1) ∙ rules-answer (c .before .before .before .before)) in (
-      first-none (message start) _ _ (start .pre .0) (spelled start) (text .passes) (table .passes) (r .0)
-          (c .if1 .left),
-      accepted-are (message start) _ _ _ _ (start .pre .1 .0) (r .1) (text .size) (table .size),
-      text .left,
-      (
+    let r = passed-is (mode .0 .0) _ _ (sym (mode .1) ∙ rules-answer (c .before .before .before .before)) in
+    let none = first-none (message start) _ _ (start .pre .0) (spelled start) (text .passes) (table .passes) (r .0)
+    (c .if1 .left) in
+    record {
+      answers = accepted-are (message start) _ _ _ _ (start .pre .1 .0) (r .1) (text .size) (table .size)
+          ∙ answered-accepted (message start) (compactOutcome (message start)) none;
+      sameText = text .same;
+      sameTable = table .same;
+      header = λ z. text .left;
+      entries = λ z. (
         table .same,
         (
           omega (arith, table .size, table .fits),
           ap (λ (n : ℕ). entriesOf n (known .before .before .before .before .before .protected-entries .last .1 .0))
               (sym (table .size)) ∙ table .entries,
         ),
-      ),
-    )
+      );
+    }
 
 pub judge-header-spec : {M : Type 1} → statement M
 judge-header-spec =
@@ -336,6 +341,7 @@ judge-header-spec =
     same-length-4
     same-length-5
     returns-3
+    refused-requires
     same-length-6
     same-length-7
     returns-4

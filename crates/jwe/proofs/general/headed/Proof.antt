@@ -16,7 +16,8 @@ use Rattle.jwe.specs.Judge.{Outcome, accepted}
 use Rattle.jwe.specs.Answers.{BeginsWith}
 use Rattle.jwe.specs.Inner.Stages.{recipientsOf, LeavesOwn, allTests, headedOutcome}
 use Rattle.jwe.proofs.RecipientRows.{recipients-length}
-use Rattle.jwe.proofs.JsonHeads.{heads-all, heads-none, heads-one, heads-refused}
+use Rattle.jwe.proofs.JsonHeads.{heads-all, heads-none, heads-one, heads-refused, heads-number}
+use Rattle.jwe.proofs.Answering.{answered-accepted}
 use borrow.Author.Needs.{needs}
 use Rattle.jwe.proofs.general.headed.Statement.{statement}
 use Rattle.jwe.proofs.general.headed.Tie as tie
@@ -102,20 +103,23 @@ returns c =
     (args .recipient) (told .0) (told .1)) (told .1)
     (args .table .now) _ (after .judged .kept .1 .1 .1 .1 .1 .1 .1 .1 .0)
 
+refused-requires : tie.Need-refused-requires
+refused-requires c κs = search needs
+
 same-length-2 : tie.Need-same-length-2
 same-length-2 c = search needs
 
 returns-2 : tie.Need-returns-2
 returns-2 c =
-    let after = c .before .before .before .before .before .before .before in
+    let after = c .before .before .before .before .before .before .before .before in
     let s = start after in
     let args = s .args in
-    let passed = passed-is _ (first (all s)) (args .number) (sym (c .before .enum-told .given .1) ∙ after .judged .ensures .0) in (
-      heads-none (known s) (args .header .now) (args .message .now) (front s) (componentsOf (args .top .components)) (rs s)
-          (args .recipient) (passed .0) (omega (arith, recipients-length (args .number) (args .of .now), c .if1 .taken)),
-      omega arith,
-      after .judged .kept .1 .1 .1 .1 .1 .1 .1 .1 .0,
-    )
+    let passed = passed-is _ (first (all s)) (args .number)
+    (sym (c .before .before .enum-told .given .1) ∙ after .judged .ensures .0) in
+    heads-number (args .message .now) _ _ _ (c .refused .ensures)
+    (heads-none (known s) (args .header .now) (args .message .now) (front s) (componentsOf (args .top .components)) (rs s)
+    (args .recipient) (passed .0) (omega (arith, recipients-length (args .number) (args .of .now), c .before .if1 .taken)))
+    (omega arith) (args .table .now) _ (after .judged .kept .1 .1 .1 .1 .1 .1 .1 .1 .0)
 
 slice-aggregate-hand-out : tie.Need-slice-aggregate-hand-out
 slice-aggregate-hand-out c = search needs
@@ -165,12 +169,16 @@ returns-3 c =
     let kept = after .judged .ensures .1 .1 in
     let held = subst
     (λ (es : List Entry). BeginsWith (outcome s es .entries) (after .judged .last .1 .1 .1 .1 .1 .1 .1 .1 .0) (call .last .1 .1 .1 .1 .1 .1 .1 .1 .0)) kept
-    (call .ensures .1) in (
-      heads-one (known s) (args .header .now) message (front s) (componentsOf (args .top .components)) (rs s)
-          (args .recipient) (passed .0) (omega (arith, recipients-length (args .number) (args .of .now), asks)),
-      call .ensures .0 ∙ ap (λ (es : List Entry). accepted message (outcome s es)) kept,
-      (held .0 ∙ after .judged .kept .1 .1 .1 .1 .1 .1 .1 .1 .0, held .1),
-    )
+    (call .ensures .1) in
+    let none = heads-one (known s) (args .header .now) message (front s) (componentsOf (args .top .components)) (rs s)
+    (args .recipient) (passed .0) (omega (arith, recipients-length (args .number) (args .of .now), asks)) in
+    let same = held .0 ∙ after .judged .kept .1 .1 .1 .1 .1 .1 .1 .1 .0 in
+    record {
+      answers = call .ensures .0 ∙ ap (λ (es : List Entry). accepted message (outcome s es)) kept
+          ∙ answered-accepted message (outcome s (front s)) none;
+      sameTable = same;
+      entries = λ z. (same, held .1);
+    }
 
 pub headed-spec : {M : Type 1} → statement M
 headed-spec =
@@ -184,6 +192,7 @@ headed-spec =
     handed-requires
     same-length
     returns
+    refused-requires
     same-length-2
     returns-2
     slice-aggregate-hand-out

@@ -25,6 +25,7 @@ use Rattle.jwe.proofs.JsonOrder.{json-top, json-elements, json-misspell
 use Rattle.jwe.proofs.JsonHeaders.{no-component}
 use Rattle.jwe.proofs.JsonHeads.{judges-refused}
 use Rattle.jwe.proofs.JsonTop.{top-is, elements-as, listed-is, misspelled-as, protected-sound, judges-json}
+use Rattle.jwe.proofs.Answering.{refuses}
 use borrow.Author.Needs.{needs}
 use Rattle.jwe.proofs.general.judge.Statement.{statement}
 use Rattle.jwe.proofs.general.judge.Tie as tie
@@ -183,17 +184,18 @@ misspelled-requires c κs =
     let list = listed-of (c .before) in
     omega (arith, lists list .1 .0, recipients-of list .recipients .kept .1 .1 .1 .0)
 
+refused-requires : tie.Need-refused-requires
+refused-requires c κs = search needs
+
 returns-3 : tie.Need-returns-3
 returns-3 c =
-    let after = c .before in
+    let after = c .before .before in
     let list = listed-of (held-of after) in
-    let args = begin list .args in (
-      json-misspelled (args .message .now) (names (args .known .now)) (args .recipient)
-          (tops (told-of (recipients-of list)) .0) (lists list .0) (sym (spelled after) ∙ c .if1 .taken),
-      omega arith,
-      refl,
-      refl,
-    )
+    let args = begin list .args in
+    refuses (args .message .now) _ _ _ (c .refused .ensures)
+    (json-misspelled (args .message .now) (names (args .known .now)) (args .recipient)
+    (tops (told-of (recipients-of list)) .0) (lists list .0) (sym (spelled after) ∙ c .before .if1 .taken))
+    (omega arith) (args .text .now) (args .text .now) (args .table .now) (args .table .now) refl refl
 
 slice-aggregate-shaped : tie.Need-slice-aggregate-shaped
 slice-aggregate-shaped c = search needs
@@ -264,6 +266,7 @@ judge-spec =
     held-requires
     slice-aggregate-misspelled
     misspelled-requires
+    refused-requires
     returns-3
     slice-aggregate-shaped
     shaped-requires

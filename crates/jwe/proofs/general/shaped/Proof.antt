@@ -281,7 +281,9 @@ same-length-6 c =
     decodes told .1 .long ∙ sym (start (decoded-of told) .pre .1 .1 .1 .1 .1 .1 .0)
 
 same-length-7 : tie.Need-same-length-7
-same-length-7 c = search needs
+same-length-7 c =
+    let told = c .before .before .before .before .before in
+    c .before .before .headed .kept .1 .1 .1 .1 .1 .1 .1 .0 ∙ gathers told .1 .1 .0 ∙ sym (begin told .pre .1 .1 .1 .1 .1 .1 .1 .0)
 
 returns-4 : tie.Need-returns-4
 returns-4 c =
