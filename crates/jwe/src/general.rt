@@ -97,9 +97,8 @@ fn decoded(message: &[u8], there: bool, place: Place, text: &mut [u8]) -> Stage
     headers::header(message, place, text)
 }
 
-// 10 where the protected header is there and has no member; 8 and 9 on it: its parameters as entries of the table.
-// Where it
-// has none, 8 and 9 pass, so that 10 is asked after them.
+// 10 where the protected header is there and has no member; 8 and 9 on it: its parameters as entries of
+// the table. Where it has none, 8 and 9 pass, so that 10 is asked after them.
 fn protected(header: &[u8], there: bool, table: &mut [u32]) -> Stage
     requires { ⌜ length (now header) ≤ longest ⌝ }
     requires { ⌜ headerTable ≤ length (now table) ⌝ }
@@ -120,9 +119,8 @@ fn protected(header: &[u8], there: bool, table: &mut [u32]) -> Stage
     Stage::Passed(count)
 }
 
-// 8 and 9 on a header that stands in the message, if its start is not 0: its parameters as entries of the table from
-// the entry
-// `from` on.
+// 8 and 9 on a header that stands in the message, if its start is not 0: its parameters as entries of the
+// table from the entry `from` on.
 fn unprotected(message: &[u8], start: usize, origin: u32, table: &mut [u32], from: usize) -> Stage
     requires { ⌜ length (now message) ≤ longest ⌝ }
     requires { ⌜ from * width + headerTable ≤ length (now table) ⌝ }
@@ -137,8 +135,8 @@ fn unprotected(message: &[u8], start: usize, origin: u32, table: &mut [u32], fro
     headers::object(message, start, origin, &list, table, from, true)
 }
 
-// 8 and 9 on each recipient's own header: its parameters as entries of a table, 32 entries apart, and how many they
-// are.
+// 8 and 9 on each recipient's own header: its parameters as entries of a table, 32 entries apart, and how
+// many they are.
 fn own_headers(
     message: &[u8],
     of: &[usize],
