@@ -5,6 +5,8 @@ use Prim.Native.Nat.{ℕ, _*_}
 use lib.ListN.{length, take, getD, replicate}
 use Rattle.prelude.specs.Ascii.{ascii}
 use Rattle.prelude.specs.Limits.{headerRoom, listRoom}
+use Rattle.prelude.specs.Result.{parametersAt}
+use Rattle.rows.specs.Tables.{listWidth}
 use Rattle.prelude.specs.Outputs.{octetsWritten}
 use Rattle.base64url.specs.Base64url.{encoded, decoded}
 use Rattle.base64url.specs.Answers.{decodeRefusal, decodeBuffer}
@@ -36,7 +38,7 @@ unfoldable pub readAnswer : List ℕ → ℕ → List ℕ
 readAnswer message recipient =
     let c = call message (0 ∷ []) recipient headerRoom listRoom in
     let r = result c in
-    r ++ take (6 * getD r 17 0) (listAfter c (zeros listRoom))
+    r ++ take (listWidth * getD r parametersAt 0) (listAfter c (zeros listRoom))
 
 -- The AAD of the encoded protected header and aad as reading for recipient 0 shows them, into 64 octets.
 unfoldable pub aadAnswer : List ℕ → List ℕ

@@ -12,7 +12,7 @@ use Rattle.prelude.proofs.Writing.{written-length}
 use Rattle.names.specs.Names.{names}
 use Rattle.grammar.specs.Reader.{skipSpace, membersAt}
 use Rattle.rows.specs.Rows.{Entry, oneText, repeated, entryOf, entriesIn}
-use Rattle.rows.specs.Tables.{flat, entriesOf, collectedTable}
+use Rattle.rows.specs.Tables.{flat, entriesOf, collectedTable, width}
 use Rattle.rows.proofs.Entries.{flat-length, entries-written}
 use Rattle.prelude.specs.Refusals.{first, stageOf}
 use Rattle.jose.specs.Registered.{registered}
@@ -37,7 +37,7 @@ pub record Kept (s : List ℕ) (es : List Entry) (before after : List ℕ) (coun
   pub left : after ≡ written 0 (flat es) before
   pub entries : entriesOf count after ≡ es
   pub same : length after ≡ length before
-  pub fits : count * 8 ≤ length after
+  pub fits : count * width ≤ length after
 
 -- Whatever the answer, the table is as long as it was.
 pub table-length : (es : List Entry) (before : List ℕ) → 256 ≤ length before →

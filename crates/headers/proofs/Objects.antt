@@ -15,7 +15,7 @@ use Rattle.json.specs.Members.{collectedOf}
 use Rattle.json.specs.declared.member.Collected.{Collected}
 use Rattle.json.specs.declared.member.Collected.the-variants.{Rows, More}
 use Rattle.rows.specs.Rows.{Entry, oneText, entryOf, entriesIn, textOf, repeated, clashes}
-use Rattle.rows.specs.Tables.{flat, entriesOf, collectedTable}
+use Rattle.rows.specs.Tables.{flat, entriesOf, collectedTable, width}
 use Rattle.rows.proofs.Entries.{flat-length, entries-written-from}
 use Rattle.rows.proofs.Printing.{clashes-repeated, entries-printed}
 use Rattle.prelude.specs.Refusals.{first, stageOf}
@@ -29,24 +29,24 @@ collectedAs es = cond (ltb 32 (length es)) More (Rows (length es))
 
 -- A table from an entry on, as it is lent.
 abbrev pub rest : ℕ → List ℕ → List ℕ
-rest from t = take (length t - from * 8) (drop (from * 8) t)
+rest from t = take (length t - from * width) (drop (from * width) t)
 
-rest-is : (from : ℕ) (t : List ℕ) → rest from t ≡ drop (from * 8) t
-rest-is from t = take-all (length t - from * 8) (drop (from * 8) t) (omega (arith, length-drop (from * 8) t))
+rest-is : (from : ℕ) (t : List ℕ) → rest from t ≡ drop (from * width) t
+rest-is from t = take-all (length t - from * width) (drop (from * width) t) (omega (arith, length-drop (from * width) t))
 
 -- What is known where the entries were collected.
 pub record Collects (es : List Entry) (from : ℕ) (last : List ℕ) (count : ℕ) : Type 0 where
   pub few : ltb 32 (length es) ≡ false
   pub counted : count ≡ length es
-  pub fits : count * 8 ≤ length (rest from last)
+  pub fits : count * width ≤ length (rest from last)
   pub entries : entriesOf count (rest from last) ≡ es
 
-module _ (es : List Entry) (from count : ℕ) (before last : List ℕ) (room : from * 8 + 256 ≤ length before)
+module _ (es : List Entry) (from count : ℕ) (before last : List ℕ) (room : from * width + 256 ≤ length before)
     (left : last ≡ collectedTable from es before) where
-  written-is : length es ≤ 32 → last ≡ written (from * 8) (flat es) before
+  written-is : length es ≤ 32 → last ≡ written (from * width) (flat es) before
   unfolding collectedTable
   written-is h =
-      left ∙ ap (λ (b : Bool). cond b (written (from * 8) (flat es) before) before) (le-leb (length es) 32 h)
+      left ∙ ap (λ (b : Bool). cond b (written (from * width) (flat es) before) before) (le-leb (length es) 32 h)
 
   pub collects : Rows count ≡ collectedAs es → Collects es from last count
   collects e = whole (cases (ltb 32 (length es)) refl e)
@@ -59,16 +59,16 @@ module _ (es : List Entry) (from count : ℕ) (before last : List ℕ) (room : f
       whole : (ltb 32 (length es) ≡ false) × (count ≡ length es) → Collects es from last count
       whole p =
           let within : length es ≤ 32 = ltb-false 32 (length es) (p .0) in
-          let w : last ≡ written (from * 8) (flat es) before = written-is within in
+          let w : last ≡ written (from * width) (flat es) before = written-is within in
           let size = flat-length es in
-          let same : length (written (from * 8) (flat es) before) ≡ length before =
-          written-length (from * 8) (flat es) before (omega arith) in
+          let same : length (written (from * width) (flat es) before) ≡ length before =
+          written-length (from * width) (flat es) before (omega arith) in
           record {
             few = p .0;
             counted = p .1;
-            fits = omega (arith, ap length (rest-is from last), length-drop (from * 8) last, ap length w, p .1);
+            fits = omega (arith, ap length (rest-is from last), length-drop (from * width) last, ap length w, p .1);
             entries =
-                ap₂ entriesOf (p .1) (rest-is from last ∙ ap (drop (from * 8)) w)
+                ap₂ entriesOf (p .1) (rest-is from last ∙ ap (drop (from * width)) w)
                 ∙ entries-written-from from es before (omega arith);
           }
 

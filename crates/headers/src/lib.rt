@@ -22,6 +22,7 @@ use json::Position;
 use json::member::Collected;
 use prelude::Place;
 use prelude::Stage;
+use prelude::limits::LEVELS;
 
 // The encoded components by their places in the message; 0, 0 where one is absent.
 pub struct Components {
@@ -97,7 +98,7 @@ pub fn object(
     let Collected::Rows(count) = collected else {
         return Stage::Refused(8);
     };
-    let first = from * 8;
+    let first = from * rows::layout::WIDTH;
     if rows::repeat::clashes(s, s, s, &table[first..], count, false) {
         return Stage::Refused(9);
     }
@@ -128,7 +129,7 @@ pub fn header(message: &[u8], place: Place, buffer: &mut [u8]) -> Stage
     let Decoded::Octets(n) = decoded else {
         return Stage::Refused(6);
     };
-    let judged = json::judge(&buffer[..n], 12);
+    let judged = json::judge(&buffer[..n], LEVELS);
     let Found::Value(_, _) = judged else {
         return Stage::Refused(7);
     };

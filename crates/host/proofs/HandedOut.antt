@@ -13,7 +13,8 @@ use Rattle.jwe.specs.Judge.{Call, refusal, accepted, refused, result, headerAft
 use Rattle.jwe.specs.Answers.{numbers}
 use Rattle.jwe.specs.declared.Result.{Result}
 use Rattle.jwe.proofs.Small.{limit, result-small}
-use Rattle.host.specs.Read.{resultRoom, readRefusal, readHeader, readList, readResult}
+use Rattle.prelude.specs.Result.{resultRoom}
+use Rattle.host.specs.Read.{readRefusal, readHeader, readList, readResult}
 
 -- The result begins with the refusal's number.
 pub number-first : (c : Call) (r : Result) → numbers r ≡ result c → r .number ≡ refusal c

@@ -5,11 +5,8 @@ use Prim.Native.Nat.{ℕ}
 use lib.ListN.{length}
 use lib.Dec.{ltb}
 use Rattle.prelude.specs.Outputs.{outputAfter}
+use Rattle.prelude.specs.Result.{resultRoom}
 use Rattle.jwe.specs.Judge.{Call, refusal, result, headerAfter, listAfter}
-
--- How many numbers a result has.
-abbrev pub resultRoom : ℕ
-resultRoom = 18
 
 -- The refusal, of the call and how many numbers were lent for the result: too few is 1, as it is for the header and the list.
 unfoldable pub readRefusal : Call → ℕ → ℕ

@@ -9,14 +9,16 @@ ghost use Rattle.host.specs.Component.{componentPlace, componentOctets, 
 use crate::jwe_decode;
 use headers::Components;
 use prelude::Place;
+use prelude::limits::HEADER_ROOM;
+use prelude::limits::LIST_ROOM;
 
 // Judges a message for a recipient. What reading it hands out stays in here.
 #[no_mangle]
 pub extern "C" fn jwe_judge(message: &[u8], known: &[u8], recipient: u32) -> u32
     ensures { λ r. ⌜ r ≡ refusal (call (now (message .entry)) (now (known .entry)) recipient headerRoom listRoom) ⌝ }
 {
-    let mut header = [0u8; 4096];
-    let mut list = [0u32; 576];
+    let mut header = [0u8; HEADER_ROOM];
+    let mut list = [0u32; LIST_ROOM];
     let judged = gateway::read(message, known, recipient, &mut header, &mut list);
     judged.number
 }
@@ -63,8 +65,8 @@ pub extern "C" fn jwe_component(
         (componentOctets (now (message .entry)) recipient component)
         (now (out .entry)) r (now (octets .exit)) (now (out .exit)) ⌝ }
 {
-    let mut header = [0u8; 4096];
-    let mut list = [0u32; 576];
+    let mut header = [0u8; HEADER_ROOM];
+    let mut list = [0u32; LIST_ROOM];
     let answer = gateway::read(message, known, recipient, &mut header, &mut list);
     if answer.number != 0 {
         *octets = 0;

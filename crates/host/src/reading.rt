@@ -4,16 +4,46 @@ ghost use mathlib.Core.List.{[]};
 ghost use Prim.Native.Nat.{_+_, _≤_, _<_};
 ghost use lib.ListN.{length};
 ghost use Rattle.prelude.specs.Buffer.{AllBelow, written};
+ghost use Rattle.prelude.specs.Limits.{numberLimit};
+ghost use Rattle.prelude.specs.Result.{resultRoom};
 ghost use Rattle.jwe.specs.Judge.{call};
 ghost use Rattle.jwe.specs.Answers.{numbers, placeNumbers};
-ghost use Rattle.host.specs.Read.{resultRoom, readRefusal, readHeader, readList, readResult};
+ghost use Rattle.host.specs.Read.{readRefusal, readHeader, readList, readResult};
 use jwe::Result;
 use prelude::Place;
 
+// Where the numbers of a result stand (prelude/specs/Result).
+const NUMBER: usize = 0;
+
+const FORM: usize = 1;
+
+const RECIPIENTS: usize = 2;
+
+const MODE: usize = 3;
+
+const PROTECTED: usize = 4;
+
+const KEY: usize = 6;
+
+const IV: usize = 8;
+
+const AAD: usize = 10;
+
+const CIPHERTEXT: usize = 12;
+
+const TAG: usize = 14;
+
+const HEADER: usize = 16;
+
+const PARAMETERS: usize = 17;
+
+// How many they are.
+const ROOM: usize = 18;
+
 // A place's two numbers, written from a position on.
 fn put_place(place: Place, into: &mut [u32], at: usize)
-    requires { ⌜ place .start < 4294967296 ⌝ }
-    requires { ⌜ place .len < 4294967296 ⌝ }
+    requires { ⌜ place .start < numberLimit ⌝ }
+    requires { ⌜ place .len < numberLimit ⌝ }
     requires { ⌜ at + 2 ≤ length (now into) ⌝ }
     ensures { λ _. ⌜ now (into .exit) ≡ written at (placeNumbers place []) (now (into .entry)) ⌝ }
 {
@@ -21,28 +51,28 @@ fn put_place(place: Place, into: &mut [u32], at: usize)
     into[at + 1] = place.len as u32;
 }
 
-// The eighteen numbers of a result, written at the start of a buffer.
+// The numbers of a result, written at the start of a buffer.
 fn put_result(r: Result, into: &mut [u32])
-    requires { ⌜ AllBelow 4294967296 (numbers r) ⌝ }
+    requires { ⌜ AllBelow numberLimit (numbers r) ⌝ }
     requires { ⌜ resultRoom ≤ length (now into) ⌝ }
     ensures { λ _. ⌜ now (into .exit) ≡ written 0 (numbers r) (now (into .entry)) ⌝ }
 {
-    into[0] = r.number;
-    into[1] = r.form;
-    into[2] = r.recipients as u32;
-    into[3] = r.mode;
-    put_place(r.components.protected, into, 4);
-    put_place(r.components.key, into, 6);
-    put_place(r.components.iv, into, 8);
-    put_place(r.components.aad, into, 10);
-    put_place(r.components.ciphertext, into, 12);
-    put_place(r.components.tag, into, 14);
-    into[16] = r.header as u32;
-    into[17] = r.parameters as u32;
+    into[NUMBER] = r.number;
+    into[FORM] = r.form;
+    into[RECIPIENTS] = r.recipients as u32;
+    into[MODE] = r.mode;
+    put_place(r.components.protected, into, PROTECTED);
+    put_place(r.components.key, into, KEY);
+    put_place(r.components.iv, into, IV);
+    put_place(r.components.aad, into, AAD);
+    put_place(r.components.ciphertext, into, CIPHERTEXT);
+    put_place(r.components.tag, into, TAG);
+    into[HEADER] = r.header as u32;
+    into[PARAMETERS] = r.parameters as u32;
 }
 
-// Reads a message. Answers 0 and the result's eighteen numbers at the start of `result`, or the refusal's number; that is 1
-// as well where fewer than eighteen numbers are lent. Refused, `result` is unchanged.
+// Reads a message. Answers 0 and the result's numbers at the start of `result`, or the refusal's number; that is 1
+// as well where too few numbers are lent for them. Refused, `result` is unchanged.
 #[no_mangle]
 pub extern "C" fn jwe_read(
     message: &[u8],
@@ -65,7 +95,7 @@ pub extern "C" fn jwe_read(
         ≡ readResult (call (now (message .entry)) (now (known .entry)) recipient
         (length (now (header .entry))) (length (now (list .entry)))) (now (result .entry)) ⌝ }
 {
-    if result.len() < 18 {
+    if result.len() < ROOM {
         return 1;
     }
     let answer = gateway::read(message, known, recipient, header, list);

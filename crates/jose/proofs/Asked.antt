@@ -10,19 +10,19 @@ use lib.Dec.{eqb, leb}
 use borrow.Author.Tests.{eq-eqb, ne-eqb, le-leb, lt-leb}
 use Rattle.names.specs.Names.{numberIn}
 use Rattle.rows.specs.Rows.{Entry, Texts, valueIn}
-use Rattle.rows.specs.Tables.{firstOf, entriesOf}
+use Rattle.rows.specs.Tables.{firstOf, entriesOf, width}
 use Rattle.rows.proofs.Entries.{entry-at, entries-done}
 use Rattle.algorithms.specs.Algorithms.{algs, algNames, encNames, zipNames, nth, modeOf}
 use Rattle.jose.specs.Registered.{alg, enc, zip, crit, jwk, x5c, object, array, string, anyKind, kindAsked}
 use Rattle.jose.specs.HeaderRules.{wrongKind, unlisted, unprotected, modeIn}
 
 -- What stands at a place of an entry's numbers.
-pub number-at : (t : List ℕ) (i k : ℕ) → getD (drop (i * 8) t) k 0 ≡ getD t (i * 8 + k) 0
-number-at t i k = getD-drop (i * 8) t k 0
+pub number-at : (t : List ℕ) (i k : ℕ) → getD (drop (i * width) t) k 0 ≡ getD t (i * width + k) 0
+number-at t i k = getD-drop (i * width) t k 0
 
 -- Its first is the origin.
-pub origin-at : (t : List ℕ) (i : ℕ) → getD (drop (i * 8) t) 0 0 ≡ getD t (i * 8) 0
-origin-at t i = let e : i * 8 + 0 ≡ i * 8 = omega arith in number-at t i 0 ∙ ap (λ (n : ℕ). getD t n 0) e
+pub origin-at : (t : List ℕ) (i : ℕ) → getD (drop (i * width) t) 0 0 ≡ getD t (i * width) 0
+origin-at t i = let e : i * width + 0 ≡ i * width = omega arith in number-at t i 0 ∙ ap (λ (n : ℕ). getD t n 0) e
 
 -- The kind asked for
 
@@ -122,22 +122,22 @@ module _ (ts : Texts) (answer count i : ℕ) (t : List ℕ)
   module _ (h : i < count) where
     abbrev here : Bool → ℕ
     here b =
-        cond b (modeOf (nth algs (numberIn algNames (valueIn ts (firstOf (drop (i * 8) t))))))
+        cond b (modeOf (nth algs (numberIn algNames (valueIn ts (firstOf (drop (i * width) t))))))
         (modeIn ts (drop (i + 1) (entriesOf count t)))
 
-    at-turn : here (eqb (firstOf (drop (i * 8) t) .number) alg) ≡ answer
+    at-turn : here (eqb (firstOf (drop (i * width) t) .number) alg) ≡ answer
     unfolding modeIn
     at-turn = sym (ap (modeIn ts) (entry-at i count t h)) ∙ so
 
     -- This one is no `alg`.
-    pub mode-turn : (firstOf (drop (i * 8) t) .number ≡ alg → ⊥) →
+    pub mode-turn : (firstOf (drop (i * width) t) .number ≡ alg → ⊥) →
         modeIn ts (drop (i + 1) (entriesOf count t)) ≡ answer
-    mode-turn n = sym (ap here (ne-eqb (firstOf (drop (i * 8) t) .number) alg n)) ∙ at-turn
+    mode-turn n = sym (ap here (ne-eqb (firstOf (drop (i * width) t) .number) alg n)) ∙ at-turn
 
     -- This one is.
-    pub mode-found : firstOf (drop (i * 8) t) .number ≡ alg →
-        modeOf (nth algs (numberIn algNames (valueIn ts (firstOf (drop (i * 8) t))))) ≡ answer
-    mode-found n = sym (ap here (eq-eqb (firstOf (drop (i * 8) t) .number) alg n)) ∙ at-turn
+    pub mode-found : firstOf (drop (i * width) t) .number ≡ alg →
+        modeOf (nth algs (numberIn algNames (valueIn ts (firstOf (drop (i * width) t))))) ≡ answer
+    mode-found n = sym (ap here (eq-eqb (firstOf (drop (i * width) t) .number) alg n)) ∙ at-turn
 
   -- There are no more.
   pub mode-done : count ≤ i → 0 ≡ answer

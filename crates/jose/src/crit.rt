@@ -16,6 +16,7 @@ ghost use Rattle.jose.specs.Inner.Elements.{elementOf, elementsFrom};
 use json::Position;
 use json::member::Member;
 use json::member::Row;
+use prelude::limits::LEVELS;
 use rows::ask::field;
 
 // A string element as it is spelled, without quotation marks; the empty part where it lies outside the text.
@@ -34,7 +35,7 @@ fn spelled(s: &[u8], row: Row) -> &[u8]
 fn empty(s: &[u8], at: usize) -> bool
     ensures { λ r. ⌜ r ≡ isEmpty (elementsAt levels (now (s .entry)) at) ⌝ }
 {
-    let first = Position { at }.inside(s).element(s, 12, false);
+    let first = Position { at }.inside(s).element(s, LEVELS, false);
     let Member::Here(_, _) = first else {
         return true;
     };
@@ -60,7 +61,7 @@ fn some_unknown(s: &[u8], known: &[u8], at: usize) -> bool
     let mut p = Position { at }.inside(s);
     let mut left = s.len();
     while 0 < left {
-        let found = p.element(s, 12, false);
+        let found = p.element(s, LEVELS, false);
         let Member::Here(row, next) = found else {
             return false;
         };
@@ -87,7 +88,7 @@ fn again(s: &[u8], row: Row, from: Position, turns: usize) -> bool
     let mut p = from;
     let mut left = turns;
     while 0 < left {
-        let found = p.element(s, 12, false);
+        let found = p.element(s, LEVELS, false);
         let Member::Here(other, next) = found else {
             return false;
         };
@@ -108,7 +109,7 @@ fn twice(s: &[u8], at: usize) -> bool
     let mut p = Position { at }.inside(s);
     let mut left = s.len();
     while 0 < left {
-        let found = p.element(s, 12, false);
+        let found = p.element(s, LEVELS, false);
         let Member::Here(row, next) = found else {
             return false;
         };
@@ -173,7 +174,7 @@ fn some_misplaced(
     let mut p = Position { at }.inside(s);
     let mut left = s.len();
     while 0 < left {
-        let found = p.element(s, 12, false);
+        let found = p.element(s, LEVELS, false);
         let Member::Here(row, next) = found else {
             return false;
         };

@@ -19,6 +19,7 @@ use crate::lists::ZIP;
 use algorithms::Alg;
 use algorithms::NamedAlg;
 use rows::ask::field;
+use rows::layout;
 
 // Kinds as the list that is handed out has them, and one more for a name that asks for none.
 const OBJECT: u32 = 0;
@@ -66,12 +67,12 @@ fn wrong_kind_at(table: &[u32], i: usize) -> bool
     requires { ⌜ i * width + width ≤ length (now table) ⌝ }
     ensures { λ r. ⌜ r ≡ wrongKind (firstOf (drop (i * width) (now (table .entry)))) ⌝ }
 {
-    let at = i * 8;
-    let asked = kind_asked(table[at + 6]);
+    let at = i * layout::WIDTH;
+    let asked = kind_asked(table[at + layout::NUMBER]);
     if asked == ANY_KIND {
         return false;
     }
-    asked != table[at + 5]
+    asked != table[at + layout::KIND]
 }
 
 // 14: whether a parameter is of another kind than its name asks for.
@@ -96,7 +97,7 @@ fn number_in(list: &[u8], header: &[u8], shared: &[u8], own: &[u8], table: &[u32
     requires { ⌜ i * width + width ≤ length (now table) ⌝ }
     ensures { λ r. ⌜ r ≡ numberIn (names (now (list .entry))) (valueIn (texts (now (header .entry)) (now (shared .entry)) (now (own .entry))) (firstOf (drop (i * width) (now (table .entry))))) ⌝ }
 {
-    let origin = field(table, i, 0);
+    let origin = field(table, i, layout::ORIGIN);
     if origin == 0 {
         return names::find(list, rows::ask::value(header, table, i));
     }
@@ -110,7 +111,7 @@ fn unlisted_at(header: &[u8], shared: &[u8], own: &[u8], table: &[u32], i: usize
     requires { ⌜ i * width + width ≤ length (now table) ⌝ }
     ensures { λ r. ⌜ r ≡ unlisted (texts (now (header .entry)) (now (shared .entry)) (now (own .entry))) (firstOf (drop (i * width) (now (table .entry)))) ⌝ }
 {
-    let number = table[i * 8 + 6];
+    let number = table[i * layout::WIDTH + layout::NUMBER];
     if number == ALG {
         let list = algorithms::ALGS;
         return number_in(&list, header, shared, own, table, i) == 0;
@@ -145,8 +146,8 @@ fn unprotected_at(table: &[u32], i: usize) -> bool
     requires { ⌜ i * width + width ≤ length (now table) ⌝ }
     ensures { λ r. ⌜ r ≡ unprotected (firstOf (drop (i * width) (now (table .entry)))) ⌝ }
 {
-    let origin = table[i * 8];
-    let number = table[i * 8 + 6];
+    let origin = table[i * layout::WIDTH];
+    let number = table[i * layout::WIDTH + layout::NUMBER];
     if number == ZIP {
         return origin != 0;
     }
@@ -189,7 +190,7 @@ pub fn mode(header: &[u8], shared: &[u8], own: &[u8], table: &[u32], count: usiz
 {
     let mut i: usize = 0;
     while i < count {
-        if table[i * 8 + 6] == ALG {
+        if table[i * layout::WIDTH + layout::NUMBER] == ALG {
             return mode_at(header, shared, own, table, i);
         }
         i += 1;

@@ -10,7 +10,7 @@ use borrow.Author.Tests.{le-leb, lt-leb}
 use Rattle.prelude.specs.Buffer.{written}
 use Rattle.prelude.proofs.Writing.{written-length}
 use Rattle.grammar.specs.Places as places
-use Rattle.json.specs.Members.{numbers, flat, collectedOf}
+use Rattle.json.specs.Members.{numbers, flat, collectedOf, memberWidth}
 use Rattle.json.specs.declared.member.Collected.the-variants.{Rows, More}
 
 pub flat-length : (rows : List places.Member) → length (flat rows) ≡ 5 * length rows
@@ -62,15 +62,15 @@ module _ (rows rest : List places.Member) (m : places.Member) (count : ℕ) (her
       ∙ ap (λ (x : places.Member). take count rows ++ (x ∷ [])) same
 
   pub table-more : (before table next five : List ℕ) → table ≡ written 0 (flat (take count rows)) before
-      → five ≡ numbers m → next ≡ written (count * 5) five table → next ≡ written 0 (flat (take (count + 1) rows)) before
+      → five ≡ numbers m → next ≡ written (count * memberWidth) five table → next ≡ written 0 (flat (take (count + 1) rows)) before
   unfolding flat
   table-more before table next five t f n =
-      let size : count * 5 ≡ length (flat (take count rows)) =
+      let size : count * memberWidth ≡ length (flat (take count rows)) =
       omega (arith, flat-length (take count rows), length-take count rows, inside) in
       let row : flat (m ∷ []) ≡ five = append-nil (numbers m) ∙ sym f in
       let all : flat (take (count + 1) rows) ≡ flat (take count rows) ++ five =
       ap flat take-more ∙ flat-append (take count rows) (m ∷ []) ∙ ap (λ (l : List ℕ). flat (take count rows) ++ l) row in
-      n ∙ ap (written (count * 5) five) t ∙ written-more (count * 5) (flat (take count rows)) five before size
+      n ∙ ap (written (count * memberWidth) five) t ∙ written-more (count * memberWidth) (flat (take count rows)) five before size
       ∙ ap (λ (l : List ℕ). written 0 l before) (sym all)
 
 -- no row is left

@@ -10,7 +10,7 @@ use Rattle.prelude.specs.Buffer.{written}
 use Rattle.grammar.specs.Grammar.{Bracket, curly}
 use Rattle.grammar.specs.Places.{Member}
 use Rattle.grammar.specs.Reader.{membersAt}
-use Rattle.json.specs.Members.{numbers, flat}
+use Rattle.json.specs.Members.{numbers, flat, memberWidth}
 use Rattle.grammar.specs.Bounds.{Every, Inside, RowAt}
 use Rattle.json.proofs.MemberTable.{flat-length}
 use Rattle.json.proofs.Within.{every-take, members-within}
@@ -41,11 +41,11 @@ module _ (b : Bracket) (n : ℕ) where
         row = r .row;
         is = r .is;
         inside = r .inside;
-        nameStart = past m ms (suc k * 5) (k * 5) (omega arith) ∙ r .nameStart;
-        nameSize = past m ms (suc k * 5 + 1) (k * 5 + 1) (omega arith) ∙ r .nameSize;
-        valueStart = past m ms (suc k * 5 + 2) (k * 5 + 2) (omega arith) ∙ r .valueStart;
-        valueSize = past m ms (suc k * 5 + 3) (k * 5 + 3) (omega arith) ∙ r .valueSize;
-        kind = past m ms (suc k * 5 + 4) (k * 5 + 4) (omega arith) ∙ r .kind;
+        nameStart = past m ms (suc k * memberWidth) (k * memberWidth) (omega arith) ∙ r .nameStart;
+        nameSize = past m ms (suc k * memberWidth + 1) (k * memberWidth + 1) (omega arith) ∙ r .nameSize;
+        valueStart = past m ms (suc k * memberWidth + 2) (k * memberWidth + 2) (omega arith) ∙ r .valueStart;
+        valueSize = past m ms (suc k * memberWidth + 3) (k * memberWidth + 3) (omega arith) ∙ r .valueSize;
+        kind = past m ms (suc k * memberWidth + 4) (k * memberWidth + 4) (omega arith) ∙ r .kind;
       }
 
 -- What is written over the beginning of a buffer is read there.
@@ -66,11 +66,11 @@ collected-row l s at k before table e i =
       row = r .row;
       is = r .is;
       inside = r .inside;
-      nameStart = here (k * 5) (omega (arith, flat-length ms)) ∙ r .nameStart;
-      nameSize = here (k * 5 + 1) (omega (arith, flat-length ms)) ∙ r .nameSize;
-      valueStart = here (k * 5 + 2) (omega (arith, flat-length ms)) ∙ r .valueStart;
-      valueSize = here (k * 5 + 3) (omega (arith, flat-length ms)) ∙ r .valueSize;
-      kind = here (k * 5 + 4) (omega (arith, flat-length ms)) ∙ r .kind;
+      nameStart = here (k * memberWidth) (omega (arith, flat-length ms)) ∙ r .nameStart;
+      nameSize = here (k * memberWidth + 1) (omega (arith, flat-length ms)) ∙ r .nameSize;
+      valueStart = here (k * memberWidth + 2) (omega (arith, flat-length ms)) ∙ r .valueStart;
+      valueSize = here (k * memberWidth + 3) (omega (arith, flat-length ms)) ∙ r .valueSize;
+      kind = here (k * memberWidth + 4) (omega (arith, flat-length ms)) ∙ r .kind;
     }
   where
     here : (j : ℕ) → j < length (flat (take 32 (membersAt l s at))) →

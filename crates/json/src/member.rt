@@ -13,6 +13,12 @@ use crate::Ends;
 use crate::Found;
 use crate::Position;
 use prelude::Place;
+use prelude::limits::MOST_MEMBERS;
+
+// How many numbers a row has in a table, and the room of a table for the rows of an object.
+pub const WIDTH: usize = 5;
+
+pub const ROOM: usize = MOST_MEMBERS * WIDTH;
 
 // A member: the place of its name without quotation marks (0, 0 for an element), the place of its value, its kind.
 pub struct Row {
@@ -133,10 +139,10 @@ impl Position {
             let Member::Here(row, next) = found else {
                 return Collected::Rows(count);
             };
-            if count == 32 {
+            if count == MOST_MEMBERS {
                 return Collected::More;
             }
-            put_row(row, table, count * 5);
+            put_row(row, table, count * WIDTH);
             count += 1;
             p = next;
             left -= 1;

@@ -17,7 +17,7 @@ use Rattle.grammar.specs.Places.{Place, Member}
 use Rattle.grammar.specs.Reader.{skipSpace, membersAt}
 use Rattle.prelude.specs.Any.{any, anyPair}
 use Rattle.rows.specs.Rows.{Entry, oneText, entryOf, entriesIn, numbered, present, valueOf, repeated}
-use Rattle.rows.specs.Tables.{flat, collectedTable}
+use Rattle.rows.specs.Tables.{flat, collectedTable, width}
 use Rattle.jose.specs.Registered.{registered}
 use Rattle.prelude.specs.Refusals.{first, stageOf}
 use Rattle.headers.specs.Components.{absent}
@@ -183,8 +183,8 @@ module _ (message : List ℕ) (origin start : ℕ) where
   pub absent-left : start ≡ 0 → (from : ℕ) (table : List ℕ) → table ≡ collectedTable from found table
   unfolding collectedTable written flat
   absent-left e from table =
-      let none : written (from * 8) [] table ≡ table =
-      ap (λ (n : ℕ). take (from * 8) table ++ drop n table) (add-zero (from * 8)) ∙ take-append-drop (from * 8) table in
+      let none : written (from * width) [] table ≡ table =
+      ap (λ (n : ℕ). take (from * width) table ++ drop n table) (add-zero (from * width)) ∙ take-append-drop (from * width) table in
       sym (ap (λ (es : List Entry). collectedTable from es table) (nowhere e) ∙ none)
 
   pub stands : (start ≡ 0 → ⊥) → entriesIn registered message origin (membersAt 12 message start) ≡ found

@@ -7,13 +7,14 @@ use lib.ListN.{drop, getD}
 use lib.Seq.{getD-drop}
 use Rattle.grammar.specs.Places.{Place}
 use Rattle.jwe.specs.Inner.Stages.{recipientAt}
+use Rattle.shape.specs.Inner.Answers.{recipientWidth}
 
 abbrev placed : ℕ → ℕ → Place
 placed start size = record { start = start; size = size }
 
 -- A recipient's key, by its numbers in a table.
-pub key-is : (t : List ℕ) (i : ℕ) → placed (getD t (i * 3 + 1) 0) (getD t (i * 3 + 2) 0) ≡ recipientAt (drop (i * 3) t) .key
-key-is t i = ap₂ placed (sym (getD-drop (i * 3) t 1 0)) (sym (getD-drop (i * 3) t 2 0))
+pub key-is : (t : List ℕ) (i : ℕ) → placed (getD t (i * recipientWidth + 1) 0) (getD t (i * recipientWidth + 2) 0) ≡ recipientAt (drop (i * recipientWidth) t) .key
+key-is t i = ap₂ placed (sym (getD-drop (i * recipientWidth) t 1 0)) (sym (getD-drop (i * recipientWidth) t 2 0))
 
 -- One holds, or one of the others.
 

@@ -12,7 +12,7 @@ use Rattle.prelude.specs.Buffer.{written}
 use Rattle.prelude.proofs.Writing.{written-length, begins}
 use Rattle.rows.specs.Rows.{Entry, readTexts}
 use Rattle.rows.specs.Inner.Prints.{Printed}
-use Rattle.rows.specs.Tables.{flat, entriesOf, collectedTable}
+use Rattle.rows.specs.Tables.{flat, entriesOf, collectedTable, width}
 use Rattle.rows.proofs.Entries.{entries-written, entries-more}
 use Rattle.rows.proofs.Printing.{entries-printed, printed-append}
 use Rattle.jose.specs.Registered.{registered}
@@ -90,7 +90,7 @@ module _ (message : List ℕ) (t : Top) (none : t .protected ≡ false → t .co
 pub record Collected (es : List Entry) (from : ℕ) (before last : List ℕ) (n : ℕ) : Type 0 where
   pub count : n ≡ length es
   pub short : n ≤ 32
-  pub wrote : last ≡ written (from * 8) (flat es) before
+  pub wrote : last ≡ written (from * width) (flat es) before
 
 collected : (s : List ℕ) (es : List Entry) (from : ℕ) (before last : List ℕ) (n : ℕ) →
     first (objectOrder s es) ≡ 0 → n ≡ length es → last ≡ collectedTable from es before → Collected es from before last n

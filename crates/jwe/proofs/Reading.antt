@@ -12,7 +12,7 @@ use Rattle.prelude.proofs.Writing.{begins}
 use Rattle.names.specs.Names.{names, sound}
 use Rattle.grammar.specs.Reader.{opensObject}
 use Rattle.rows.specs.Rows.{Entry}
-use Rattle.rows.specs.Tables.{listed, entriesOf}
+use Rattle.rows.specs.Tables.{listed, entriesOf, width}
 use Rattle.prelude.specs.Refusals.{Test, _if_, first}
 use Rattle.prelude.proofs.Refusals.{first-fails, first-passes}
 use Rattle.prelude.specs.Limits.{longest, headerRoom, listRoom}
@@ -128,7 +128,7 @@ pub record Holds (x : Outcome) (text table : List ℕ) (n count : ℕ) : Type 0 
   pub front : take n text ≡ x .header
   pub within : length (x .header) ≤ 4096
   pub entries : entriesOf count table ≡ x .entries
-  pub few : count * 8 ≤ 768
+  pub few : count * width ≤ 768
 
 written-most : (xs before : List ℕ) → length xs ≤ length (written 0 xs before)
 unfolding written
@@ -136,7 +136,7 @@ written-most xs before = omega (arith, length-append xs (drop (0 + length xs) be
 
 pub holds : (message : List ℕ) (x : Outcome) (r : Result) (text₀ text table : List ℕ) →
     numbers r ≡ accepted message x → text ≡ written 0 (x .header) text₀ →
-    (length (x .entries) * 8 ≤ length table) × (entriesOf (length (x .entries)) table ≡ x .entries) →
+    (length (x .entries) * width ≤ length table) × (entriesOf (length (x .entries)) table ≡ x .entries) →
     length text ≡ 4096 → length table ≡ 768 → Holds x text table (r .header) (r .parameters)
 unfolding accepted
 holds message x r text₀ text table e f g room space =

@@ -16,7 +16,7 @@ use Rattle.prelude.specs.Any.{any}
 use Rattle.prelude.specs.Refusals.{Test, first}
 use Rattle.prelude.proofs.Refusals.{nonzero}
 use Rattle.shape.specs.Shape.{Recipient}
-use Rattle.shape.specs.Inner.Answers.{flatRecipients}
+use Rattle.shape.specs.Inner.Answers.{flatRecipients, recipientWidth}
 use Rattle.jwe.specs.Judge.{asked}
 use Rattle.jwe.specs.Inner.Stages.{recipientAt, recipientsOf}
 use Rattle.jwe.proofs.JsonOrder.{stop, skip}
@@ -26,7 +26,7 @@ unfolding recipientsOf
 recipients-length zero t = refl
 recipients-length (suc n) t = ap suc (recipients-length n (drop 3 t))
 
-pub flat-length : (rs : List Recipient) → length (flatRecipients rs) ≡ length rs * 3
+pub flat-length : (rs : List Recipient) → length (flatRecipients rs) ≡ length rs * recipientWidth
 unfolding flatRecipients
 flat-length [] = refl
 flat-length (r ∷ rs) = omega (arith, flat-length rs)
@@ -45,20 +45,20 @@ recipients-written rs table = recipients-flat rs (drop (0 + length (flatRecipien
 
 -- From a recipient on
 
-drop-recipients : (i n : ℕ) (t : List ℕ) → drop i (recipientsOf n t) ≡ recipientsOf (n - i) (drop (i * 3) t)
+drop-recipients : (i n : ℕ) (t : List ℕ) → drop i (recipientsOf n t) ≡ recipientsOf (n - i) (drop (i * recipientWidth) t)
 unfolding recipientsOf
 drop-recipients zero n t = let e : n ≡ n - 0 = omega arith in ap (λ (k : ℕ). recipientsOf k t) e
 drop-recipients (suc i) zero t =
-    let e : 0 ≡ 0 - suc i = omega arith in ap (λ (k : ℕ). recipientsOf k (drop (suc i * 3) t)) e
+    let e : 0 ≡ 0 - suc i = omega arith in ap (λ (k : ℕ). recipientsOf k (drop (suc i * recipientWidth) t)) e
 drop-recipients (suc i) (suc n) t =
     let left : n - i ≡ suc n - suc i = omega arith in
-    let at : 3 + i * 3 ≡ suc i * 3 = omega arith in
+    let at : 3 + i * recipientWidth ≡ suc i * recipientWidth = omega arith in
     drop-recipients i n (drop 3 t)
-    ∙ ap₂ recipientsOf left (drop-drop (i * 3) 3 t ∙ ap (λ (k : ℕ). drop k t) at)
+    ∙ ap₂ recipientsOf left (drop-drop (i * recipientWidth) 3 t ∙ ap (λ (k : ℕ). drop k t) at)
 
 module _ (number i : ℕ) (t : List ℕ) where
   abbrev pub here : Recipient
-  here = recipientAt (drop (i * 3) t)
+  here = recipientAt (drop (i * recipientWidth) t)
 
   abbrev pub behind : List Recipient
   behind = drop (i + 1) (recipientsOf number t)
@@ -67,11 +67,11 @@ module _ (number i : ℕ) (t : List ℕ) where
   unfolding recipientsOf
   recipient-at h =
       let left : number - i ≡ suc (number - (i + 1)) = omega arith in
-      let at : i * 3 + 3 ≡ (i + 1) * 3 = omega arith in
-      let rest : recipientsOf (number - (i + 1)) (drop 3 (drop (i * 3) t)) ≡ behind =
-      ap (recipientsOf (number - (i + 1))) (drop-drop 3 (i * 3) t ∙ ap (λ (k : ℕ). drop k t) at)
+      let at : i * recipientWidth + 3 ≡ (i + 1) * recipientWidth = omega arith in
+      let rest : recipientsOf (number - (i + 1)) (drop 3 (drop (i * recipientWidth) t)) ≡ behind =
+      ap (recipientsOf (number - (i + 1))) (drop-drop 3 (i * recipientWidth) t ∙ ap (λ (k : ℕ). drop k t) at)
       ∙ sym (drop-recipients (i + 1) number t) in
-      drop-recipients i number t ∙ ap (λ (n : ℕ). recipientsOf n (drop (i * 3) t)) left
+      drop-recipients i number t ∙ ap (λ (n : ℕ). recipientsOf n (drop (i * recipientWidth) t)) left
       ∙ ap (λ (l : List Recipient). here ∷ l) rest
 
   pub recipients-done : number ≤ i → drop i (recipientsOf number t) ≡ []
@@ -86,19 +86,19 @@ asked-drop zero (x ∷ rs) r rest e = cc
 asked-drop (suc i) [] r rest e = absurd (omega (arith, ap length e))
 asked-drop (suc i) (x ∷ rs) r rest e = asked-drop i rs r rest e
 
-pub asked-at : (number i : ℕ) (t : List ℕ) → i < number → asked (recipientsOf number t) i ≡ recipientAt (drop (i * 3) t)
+pub asked-at : (number i : ℕ) (t : List ℕ) → i < number → asked (recipientsOf number t) i ≡ recipientAt (drop (i * recipientWidth) t)
 asked-at number i t h =
     asked-drop i (recipientsOf number t) (here number i t) (behind number i t) (recipient-at number i t h)
 
 -- What holds of all of their headers.
 pub header-at : (P : ℕ → Type 0) (n i : ℕ) (t : List ℕ) → Every (λ r. P (r .header)) (recipientsOf n t) → i < n →
-    P (getD t (i * 3) 0)
+    P (getD t (i * recipientWidth) 0)
 unfolding recipientsOf
 header-at P zero i t h l = absurd (not-suc-le-zero l)
 header-at P (suc n) zero t h l = h .0
 header-at P (suc n) (suc i) t h l =
-    let k : 3 + i * 3 ≡ suc i * 3 = omega arith in
-    subst P (getD-drop 3 t (i * 3) 0 ∙ ap (λ (j : ℕ). getD t j 0) k)
+    let k : 3 + i * recipientWidth ≡ suc i * recipientWidth = omega arith in
+    subst P (getD-drop 3 t (i * recipientWidth) 0 ∙ ap (λ (j : ℕ). getD t j 0) k)
     (header-at P n i (drop 3 t) (h .1) (le-of-suc-le-suc l))
 
 -- Whether something holds of one of their keys

@@ -14,7 +14,7 @@ use Rattle.grammar.proofs.Endings.{either}
 use Rattle.grammar.specs.Reader.{opensObject}
 use Rattle.names.specs.Names.{names, sound}
 use Rattle.prelude.specs.Refusals.{_if_, first}
-use Rattle.prelude.specs.Limits.{longest, headerRoom, listRoom}
+use Rattle.prelude.specs.Limits.{longest, headerRoom, listRoom, numberLimit}
 use Rattle.jwe.specs.Compact.{compactOrder}
 use Rattle.jwe.specs.General.{jsonOrder}
 use Rattle.jwe.specs.Judge.{Call, order, refusal, outcome, accepted, refused, result}
@@ -25,7 +25,7 @@ use Rattle.jwe.proofs.SmallOutcomes.{outcome-bounded, accepted-below}
 
 -- The first number that 32 bits do not hold.
 abbrev pub limit : ℕ
-limit = 4294967296
+limit = numberLimit
 
 -- An accepted message, of the permitted length.
 pub accepted-small : (message : List ℕ) (recipient : ℕ) → length message ≤ longest →

@@ -2,8 +2,8 @@
 -- hands out').
 use mathlib.Core.List.{List, [], _∷_, _++_}
 use mathlib.Core.Bool.{Bool, not, _||_, cond}
-use Prim.Native.Nat.{ℕ, zero, suc}
-use lib.ListN.{length, getD}
+use Prim.Native.Nat.{ℕ, zero, suc, _+_, _-_}
+use lib.ListN.{length, getD, replicate}
 use lib.Dec.{eqb, ltb}
 use Rattle.names.specs.Names.{names, sound}
 use Rattle.grammar.specs.Places.{Place}
@@ -15,6 +15,7 @@ use Rattle.prelude.specs.Outputs.{outputAfter}
 pub use Rattle.prelude.specs.Call.{Call, call, callFor}
 use Rattle.jose.specs.HeaderRules.{modeIn}
 use Rattle.prelude.specs.Limits.{longest, headerRoom, listRoom}
+use Rattle.prelude.specs.Result.{protectedAt, keyAt, ivAt, aadAt, ciphertextAt, tagAt, resultRoom}
 use Rattle.headers.specs.Components.{Components, withKey, compactForm}
 use Rattle.headers.specs.Headers.{headerText, protectedEntries}
 use Rattle.shape.specs.Shape.{Recipient, recipientOf}
@@ -128,17 +129,20 @@ accepted message x =
     (place (x .components .tag) (length (x .header) ∷ length (x .entries) ∷ []))))))
 
 unfoldable pub refused : ℕ → List ℕ
-refused n = n ∷ 0 ∷ 0 ∷ 0 ∷ 0 ∷ 0 ∷ 0 ∷ 0 ∷ 0 ∷ 0 ∷ 0 ∷ 0 ∷ 0 ∷ 0 ∷ 0 ∷ 0 ∷ 0 ∷ 0 ∷ []
+refused n = n ∷ replicate (resultRoom - 1) 0
 
 -- The six places in a result.
+abbrev pub placeIn : List ℕ → ℕ → Place
+placeIn r k = record { start = getD r k 0; size = getD r (k + 1) 0 }
+
 abbrev pub placesIn : List ℕ → Components
 placesIn r = record {
-  protected = record { start = getD r 4 0; size = getD r 5 0 };
-  key = record { start = getD r 6 0; size = getD r 7 0 };
-  iv = record { start = getD r 8 0; size = getD r 9 0 };
-  aad = record { start = getD r 10 0; size = getD r 11 0 };
-  ciphertext = record { start = getD r 12 0; size = getD r 13 0 };
-  tag = record { start = getD r 14 0; size = getD r 15 0 };
+  protected = placeIn r protectedAt;
+  key = placeIn r keyAt;
+  iv = placeIn r ivAt;
+  aad = placeIn r aadAt;
+  ciphertext = placeIn r ciphertextAt;
+  tag = placeIn r tagAt;
 }
 
 -- The result, and what the lent header buffer and list hold afterwards, by what they held before.

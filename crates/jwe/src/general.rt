@@ -31,6 +31,9 @@ use headers::Components;
 use json::Position;
 use prelude::Place;
 use prelude::Stage;
+use prelude::limits::MOST_MEMBERS;
+use prelude::limits::MOST_RECIPIENTS;
+use rows::layout;
 use shape::held::Top;
 
 // The place of a recipient's key.
@@ -38,7 +41,7 @@ fn key(of: &[usize], i: usize) -> Place
     requires { ⌜ i * recipientWidth + recipientWidth ≤ length (now of) ⌝ }
     ensures { λ r. ⌜ placeOf r ≡ recipientAt (drop (i * recipientWidth) (now (of .entry))) .key ⌝ }
 {
-    let at = i * 3;
+    let at = i * shape::RECIPIENT_WIDTH;
     Place {
         start: of[at + 1],
         len: of[at + 2],
@@ -155,7 +158,7 @@ fn own_headers(
 {
     let mut i: usize = 0;
     while i < number {
-        let object = unprotected(message, of[i * 3], 2, own, i * 32);
+        let object = unprotected(message, of[i * shape::RECIPIENT_WIDTH], 2, own, i * MOST_MEMBERS);
         let Stage::Passed(count) = object else {
             return object;
         };
@@ -176,9 +179,9 @@ fn gather(own: &[u32], counts: &[usize], i: usize, table: &mut [u32], front: usi
     ensures { λ _. ⌜ now (table .exit) ≡ written (front * width) (flat (entriesOf (getD (now (counts .entry)) i 0) (drop (i * headerTable) (now (own .entry))))) (now (table .entry)) ⌝ }
 {
     let count = counts[i];
-    let start = i * 256;
-    let end = start + count * 8;
-    rows::copy::copy(&own[start..end], table, front * 8);
+    let start = i * layout::HEADER_TABLE;
+    let end = start + count * layout::WIDTH;
+    rows::copy::copy(&own[start..end], table, front * layout::WIDTH);
     front + count
 }
 
@@ -328,7 +331,7 @@ fn headed(
         r (now (table .entry)) (now (table .exit)) ⌝ }
 {
     let mut own = [0u32; 2048];
-    let mut counts = [0usize; 8];
+    let mut counts = [0usize; MOST_RECIPIENTS];
     let q = top.components;
     let all = judged(
         header,
@@ -428,12 +431,12 @@ pub(crate) fn judge(
     requires { ⌜ length (now table) ≡ recipientTable ⌝ }
     ensures { λ r. ⌜ Judges (now (message .entry)) (jsonOrder (now (message .entry)) (names (now (known .entry))) recipient) (jsonOutcome (now (message .entry)) recipient) r (now (text .entry)) (now (text .exit)) (now (table .entry)) (now (table .exit)) ⌝ }
 {
-    let mut members = [0u32; 256];
+    let mut members = [0u32; layout::HEADER_TABLE];
     let outermost = shape::top(message, &mut members);
     let Stage::Passed(count) = outermost else {
         return handed(outermost);
     };
-    let mut of = [0usize; 24];
+    let mut of = [0usize; shape::RECIPIENTS_ROOM];
     let elements = shape::recipients(message, &members, count, &mut of);
     let Stage::Passed(number) = elements else {
         return handed(elements);

@@ -14,6 +14,9 @@ ghost use Rattle.jwe.specs.Answers.{numbers, refusedBy, Judges};
 use headers::Components;
 use prelude::Place;
 use prelude::Stage;
+use prelude::limits::HEADER_ROOM;
+use prelude::limits::LIST_ROOM;
+use prelude::limits::LONGEST;
 
 mod compact;
 mod general;
@@ -96,20 +99,20 @@ pub fn read(
         ≡ listAfter (call (now (message .entry)) (now (known .entry)) recipient
         (length (now (header .entry))) (length (now (list .entry)))) (now (list .entry)) ⌝ }
 {
-    if header.len() < 4096 {
+    if header.len() < HEADER_ROOM {
         return refused(1);
     }
-    if list.len() < 576 {
+    if list.len() < LIST_ROOM {
         return refused(1);
     }
-    if 16777216 < message.len() {
+    if LONGEST < message.len() {
         return refused(2);
     }
     if !names::sound(known) {
         return refused(3);
     }
-    let mut text = [0u8; 4096];
-    let mut table = [0u32; 768];
+    let mut text = [0u8; HEADER_ROOM];
+    let mut table = [0u32; rows::layout::RECIPIENT_TABLE];
     let result = judge(message, known, recipient, &mut text, &mut table);
     if result.number != 0 {
         return result;

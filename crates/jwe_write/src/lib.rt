@@ -6,7 +6,7 @@ ghost use mathlib.Core.List.{_∷_};
 ghost use Prim.Native.Nat.{_+_, _≤_, min};
 ghost use lib.ListN.{length};
 ghost use Rattle.prelude.specs.Buffer.{written};
-ghost use Rattle.prelude.specs.Limits.{headerRoom};
+ghost use Rattle.prelude.specs.Limits.{headerRoom, longest};
 ghost use Rattle.base64url.specs.Base64url.{encoded};
 ghost use Rattle.names.specs.Names.{names, filled};
 ghost use Rattle.rows.specs.Rows.{oneText};
@@ -19,6 +19,9 @@ ghost use Rattle.jwe_write.specs.Answers.{WritesCompact};
 use jose::Sizes;
 use json::Found;
 use prelude::Stage;
+use prelude::limits::HEADER_ROOM;
+use prelude::limits::LEVELS;
+use prelude::limits::LONGEST;
 
 // The header
 
@@ -26,10 +29,10 @@ use prelude::Stage;
 fn text(header: &[u8]) -> Stage
     ensures { λ r. ⌜ r ≡ stageOf (first (textOrder (now (header .entry)))) (length (now (header .entry))) ⌝ }
 {
-    if 4096 < header.len() {
+    if HEADER_ROOM < header.len() {
         return Stage::Refused(6);
     }
-    let judged = json::judge(header, 12);
+    let judged = json::judge(header, LEVELS);
     let Found::Value(_, _) = judged else {
         return Stage::Refused(7);
     };
@@ -42,7 +45,7 @@ fn parameters(header: &[u8], known: &[u8], sizes: Sizes) -> Stage
     requires { ⌜ filled (now known) ≡ true ⌝ }
     ensures { λ r. ⌜ r ≡ stageOf (first (parametersOrder (names (now (known .entry))) (now (header .entry)) sizes)) (modeIn (oneText (now (header .entry))) (protectedEntries (now (header .entry)))) ⌝ }
 {
-    let mut table = [0u32; 256];
+    let mut table = [0u32; rows::layout::HEADER_TABLE];
     let collected = headers::protected_entries(header, &mut table);
     let Stage::Passed(count) = collected else {
         return collected;
@@ -52,24 +55,27 @@ fn parameters(header: &[u8], known: &[u8], sizes: Sizes) -> Stage
 
 // The message
 
-// How many characters a component has encoded; 16,777,217 where it has more.
+// One octet more than a message may have: where it would have more, lengths stop here.
+const OVER: usize = LONGEST + 1;
+
+// How many characters a component has encoded, at most `OVER`.
 fn measure(octets: &[u8]) -> usize
-    ensures { λ r. ⌜ r ≡ min (length (encoded (now (octets .entry)))) 16777217 ⌝ }
+    ensures { λ r. ⌜ r ≡ min (length (encoded (now (octets .entry)))) (longest + 1) ⌝ }
 {
     let n = base64url::encoded_length(octets.len());
-    if 16777217 < n {
-        return 16777217;
+    if OVER < n {
+        return OVER;
     }
     n
 }
 
-// How many octets the message has; 16,777,217 where it has more.
+// How many octets the message has, at most `OVER`.
 fn message_length(header: &[u8], key: &[u8], iv: &[u8], ciphertext: &[u8], tag: &[u8]) -> usize
-    ensures { λ r. ⌜ r ≡ min (length (compactText (raw (now (header .entry)) (now (key .entry)) (now (iv .entry)) (now (ciphertext .entry)) (now (tag .entry))))) 16777217 ⌝ }
+    ensures { λ r. ⌜ r ≡ min (length (compactText (raw (now (header .entry)) (now (key .entry)) (now (iv .entry)) (now (ciphertext .entry)) (now (tag .entry))))) (longest + 1) ⌝ }
 {
     let n = measure(header) + measure(key) + measure(iv) + measure(ciphertext) + measure(tag) + 4;
-    if 16777217 < n {
-        return 16777217;
+    if OVER < n {
+        return OVER;
     }
     n
 }
@@ -145,7 +151,7 @@ pub fn write(
         return ruled;
     };
     let n = message_length(header, key, iv, ciphertext, tag);
-    if 16777216 < n {
+    if LONGEST < n {
         return Stage::Refused(2);
     }
     if out.len() < n {

@@ -8,6 +8,7 @@ use Prim.Native.Nat.{ℕ, zero, suc, _+_, _≤_}
 use lib.ListN.{length, getD}
 use Rattle.prelude.specs.Ascii.{ascii}
 use Rattle.prelude.specs.Limits.{levels}
+use Rattle.prelude.specs.Result.{numberAt, formAt, recipientsAt, modeAt, headerAt, parametersAt, resultRoom}
 use Rattle.prelude.specs.Buffer.{written}
 use Rattle.prelude.specs.Call.{Call}
 use Rattle.base64url.specs.Base64url.{encoded}
@@ -151,22 +152,22 @@ PlacesMean {known} {message} (json j) n q = JsonPlaces message (partsOf (placedT
 abbrev pub HasAlg : Alg → Member → Type 0
 HasAlg a p = HasOctets (p .name) (ascii "alg") × ValueAmong (algName a ∷ []) (p .value)
 
--- What the eighteen numbers of a result say of a message and its recipient n.
+-- What the numbers of a result say of a message and its recipient n.
 pub record ResultMeans {known : List (List ℕ)} {message : List ℕ} (f : Message known message) (n : ℕ)
     (r : List ℕ) : Type 0 where
-  pub size : length r ≡ 18
-  pub number : getD r 0 0 ≡ 0
-  pub form : getD r 1 0 ≡ formOf f
+  pub size : length r ≡ resultRoom
+  pub number : getD r numberAt 0 ≡ 0
+  pub form : getD r formAt 0 ≡ formOf f
   pub told : IsJson f ↔ OpensCurly message
-  pub recipients : getD r 2 0 ≡ count f
+  pub recipients : getD r recipientsAt 0 ≡ count f
   pub alg : Alg
   pub named : Some (HasAlg alg) (parameters (headersOf f n))
-  pub modeIs : getD r 3 0 ≡ mode alg
-  pub noOther : (a : Alg) → Some (HasAlg a) (parameters (headersOf f n)) → getD r 3 0 ≡ mode a
+  pub modeIs : getD r modeAt 0 ≡ mode alg
+  pub noOther : (a : Alg) → Some (HasAlg a) (parameters (headersOf f n)) → getD r modeAt 0 ≡ mode a
   pub places : PlacesMean f n (placesIn r)
   pub shows : PlacesShow message (placesIn r) (contentsOf f n)
-  pub headerLength : getD r 16 0 ≡ length (headerOf f)
-  pub parameterCount : getD r 17 0 ≡ length (parameters (headersOf f n))
+  pub headerLength : getD r headerAt 0 ≡ length (headerOf f)
+  pub parameterCount : getD r parametersAt 0 ≡ length (parameters (headersOf f n))
 
 -- Rows
 

@@ -14,7 +14,7 @@ use Rattle.grammar.specs.Bounds.{Every}
 use Rattle.grammar.specs.Reader.{opensObject}
 use Rattle.prelude.specs.Any.{any}
 use Rattle.rows.specs.Rows.{Entry, numbered, present, valueOf, readTexts}
-use Rattle.rows.specs.Tables.{six, listed}
+use Rattle.rows.specs.Tables.{listed}
 use Rattle.prelude.specs.Refusals.{Test, _if_, first}
 use Rattle.jose.specs.Registered.{registered}
 use Rattle.prelude.specs.Limits.{longest, headerRoom, listRoom}
@@ -169,7 +169,7 @@ module _ (c : Call) where
   handed-fits e =
       let t = form-passed e in
       let small = outcome-small (t .2) in
-      let six = listed-length (outcome message recipient .entries) in
+      let numbers = listed-length (outcome message recipient .entries) in
       let header = small .0 in
       let count = small .1 in
       let room = t .0 in

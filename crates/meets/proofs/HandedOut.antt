@@ -10,7 +10,7 @@ use Rattle.grammar.specs.Places.{elements}
 use Rattle.grammar.specs.Readings.{Reading}
 use Rattle.grammar.specs.Shown.{Shown, Everywhere}
 use Rattle.rows.specs.Rows.{Entry, entriesIn}
-use Rattle.rows.specs.Tables.{listed, six}
+use Rattle.rows.specs.Tables.{listed, listRow}
 use Rattle.headers.specs.Headers.{headerText, outermost, protectedEntries}
 pub use Rattle.headers.proofs.Outermost.{shown-members, outermost-rows}
 use Rattle.jwe.specs.Compact.{compactComponents}
@@ -37,7 +37,7 @@ module _ (names : List (List ℕ)) (s : List ℕ) (o : ℕ) where
 pub listed-append : (es fs : List Entry) → listed (es ++ fs) ≡ listed es ++ listed fs
 unfolding listed
 listed-append [] fs = refl
-listed-append (e ∷ es) fs = ap (λ (xs : List ℕ). six e ++ xs) (listed-append es fs)
+listed-append (e ∷ es) fs = ap (λ (xs : List ℕ). listRow e ++ xs) (listed-append es fs)
 
 -- The entries of three headers are listed as their rows, and counted so.
 module _ (names : List (List ℕ)) (header message : List ℕ) (x : Rows) where

@@ -13,6 +13,10 @@ headerRoom = 4096
 abbrev pub listRoom : ℕ
 listRoom = 576
 
+-- Numbers that are handed out have 32 bits: each is below this.
+abbrev pub numberLimit : ℕ
+numberLimit = 4294967296
+
 -- Levels of JSON nesting, the outermost object being level 1.
 abbrev pub levels : ℕ
 levels = 12

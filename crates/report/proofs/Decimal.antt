@@ -9,6 +9,7 @@ use lib.ListN.{length, getD, length-append}
 use lib.Dec.{ltb}
 use borrow.Author.Tests.{lt-ltb, le-ltb, ltb-true, ltb-false}
 use Rattle.report.specs.Text.{digit, digits, decimal}
+use Rattle.prelude.specs.Limits.{numberLimit}
 
 -- A number is below ten, or it is not.
 by-size : {P : Type 0} (n : ℕ) → (n < 10 → P) → (10 ≤ n → P) → P
@@ -125,5 +126,5 @@ short (suc k) n h =
     ))
 
 -- A number that 32 bits hold has at most ten digits.
-pub decimal-short : (n : ℕ) → n < 4294967296 → length (decimal n) ≤ 10
+pub decimal-short : (n : ℕ) → n < numberLimit → length (decimal n) ≤ 10
 decimal-short n h = short 9 n (omega arith)

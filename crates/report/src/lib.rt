@@ -3,10 +3,14 @@ ghost use mathlib.Core.Path.{_≡_};
 ghost use Prim.Native.Nat.{_*_, _≤_};
 ghost use lib.ListN.{length};
 ghost use Rattle.prelude.specs.Buffer.{AllBelow, written};
+ghost use Rattle.prelude.specs.Limits.{numberLimit};
+ghost use Rattle.rows.specs.Tables.{listWidth};
 ghost use Rattle.jwe.specs.Answers.{numbers};
 ghost use Rattle.report.specs.Report.{tooLong, refusedReport};
 ghost use Rattle.report.specs.Answers.{reportRoom, Reports, resultReport};
 use jwe::Result;
+use prelude::limits::HEADER_ROOM;
+use prelude::limits::LIST_ROOM;
 
 mod lines;
 mod words;
@@ -39,9 +43,9 @@ fn put_refused(n: u32, out: &mut [u8]) -> usize
 // By the reader's result and its list, of at most 96 parameters.
 fn put_accepted(r: Result, list: &[u32], out: &mut [u8]) -> usize
     requires { ⌜ reportRoom ≤ length (now out) ⌝ }
-    requires { ⌜ AllBelow 4294967296 (numbers r) ⌝ }
+    requires { ⌜ AllBelow numberLimit (numbers r) ⌝ }
     requires { ⌜ r .parameters ≤ 96 ⌝ }
-    requires { ⌜ r .parameters * 6 ≤ length (now list) ⌝ }
+    requires { ⌜ r .parameters * listWidth ≤ length (now list) ⌝ }
     ensures { λ n. ⌜ n ≡ length (resultReport r (now (list .entry))) ⌝ }
     ensures { λ _. ⌜ now (out .exit) ≡ written 0 (resultReport r (now (list .entry))) (now (out .entry)) ⌝ }
     ensures { λ n. ⌜ n ≤ length (now (out .entry)) ⌝ }
@@ -63,8 +67,8 @@ pub fn report(message: &[u8], out: &mut [u8]) -> Reported
         return Reported::Octets(put_too_long(out));
     }
     let known = [0u8; 1];
-    let mut header = [0u8; 4096];
-    let mut list = [0u32; 576];
+    let mut header = [0u8; HEADER_ROOM];
+    let mut list = [0u32; LIST_ROOM];
     let answer = gateway::read(message, &known, 0, &mut header, &mut list);
     if answer.number == 0 {
         return Reported::Octets(put_accepted(answer, &list, out));

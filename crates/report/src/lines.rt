@@ -4,7 +4,7 @@ ghost use Prim.Native.Nat.{_+_, _*_, _≤_};
 ghost use lib.ListN.{length};
 ghost use Rattle.prelude.specs.Buffer.{written};
 ghost use Rattle.headers.specs.Answers.{placeOf};
-ghost use Rattle.rows.specs.Tables.{firstOf};
+ghost use Rattle.rows.specs.Tables.{firstOf, listWidth};
 ghost use Rattle.headers.specs.Answers.{componentsOf};
 ghost use Rattle.report.specs.Report.{firstLine, componentLine, componentLines, parameterLine};
 ghost use Rattle.report.specs.Answers.{listLines};
@@ -13,6 +13,7 @@ use crate::words::put_number;
 use crate::words::put_word;
 use headers::Components;
 use prelude::Place;
+use rows::layout;
 
 // The words for the reader's numbers, as lists of names, contents first, as `names` reads them. Where one is used it is
 // proved to be the list of the words that the definition has, by computing.
@@ -83,26 +84,26 @@ pub(crate) fn put_components(places: Components, out: &mut [u8], at: usize) -> u
     put_component(b"tag", places.tag, out, e)
 }
 
-// A parameter by its six numbers of the reader's list.
-fn put_parameter(six: &[u32], out: &mut [u8], at: usize) -> usize
-    requires { ⌜ length (now six) ≡ 6 ⌝ }
-    requires { ⌜ at + length (parameterLine (firstOf (now six))) ≤ length (now out) ⌝ }
-    ensures { λ r. ⌜ r ≡ at + length (parameterLine (firstOf (now (six .entry)))) ⌝ }
-    ensures { λ _. ⌜ now (out .exit) ≡ written at (parameterLine (firstOf (now (six .entry)))) (now (out .entry)) ⌝ }
+// A parameter by its numbers of the reader's list.
+fn put_parameter(row: &[u32], out: &mut [u8], at: usize) -> usize
+    requires { ⌜ length (now row) ≡ listWidth ⌝ }
+    requires { ⌜ at + length (parameterLine (firstOf (now row))) ≤ length (now out) ⌝ }
+    ensures { λ r. ⌜ r ≡ at + length (parameterLine (firstOf (now (row .entry)))) ⌝ }
+    ensures { λ _. ⌜ now (out .exit) ≡ written at (parameterLine (firstOf (now (row .entry)))) (now (out .entry)) ⌝ }
 {
     let origins = ORIGINS;
     let kinds = KINDS;
-    let a = put_named(&origins, six[0] as usize + 1, b' ', out, at);
-    let b = put_number(six[1] as usize, b' ', out, a);
-    let c = put_number(six[2] as usize, b' ', out, b);
-    let d = put_number(six[3] as usize, b' ', out, c);
-    let e = put_number(six[4] as usize, b' ', out, d);
-    put_named(&kinds, six[5] as usize + 1, b'\n', out, e)
+    let a = put_named(&origins, row[layout::ORIGIN] as usize + 1, b' ', out, at);
+    let b = put_number(row[layout::NAME_START] as usize, b' ', out, a);
+    let c = put_number(row[layout::NAME_SIZE] as usize, b' ', out, b);
+    let d = put_number(row[layout::VALUE_START] as usize, b' ', out, c);
+    let e = put_number(row[layout::VALUE_SIZE] as usize, b' ', out, d);
+    put_named(&kinds, row[layout::KIND] as usize + 1, b'\n', out, e)
 }
 
 // The first parameters of the reader's list.
 pub(crate) fn put_parameters(list: &[u32], count: usize, out: &mut [u8], at: usize) -> usize
-    requires { ⌜ count * 6 ≤ length (now list) ⌝ }
+    requires { ⌜ count * listWidth ≤ length (now list) ⌝ }
     requires { ⌜ at + length (listLines count (now list)) ≤ length (now out) ⌝ }
     ensures { λ r. ⌜ r ≡ at + length (listLines count (now (list .entry))) ⌝ }
     ensures { λ _. ⌜ now (out .exit) ≡ written at (listLines count (now (list .entry))) (now (out .entry)) ⌝ }
@@ -110,8 +111,8 @@ pub(crate) fn put_parameters(list: &[u32], count: usize, out: &mut [u8], at: usi
     let mut next = at;
     let mut i: usize = 0;
     while i < count {
-        let start = i * 6;
-        let stop = start + 6;
+        let start = i * layout::LIST_WIDTH;
+        let stop = start + layout::LIST_WIDTH;
         next = put_parameter(&list[start..stop], out, next);
         i += 1;
     }

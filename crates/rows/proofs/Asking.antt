@@ -7,23 +7,23 @@ use Prim.Native.Nat.{ℕ, _+_, _*_, _≤_, _<_}
 use lib.ListN.{drop}
 use Rattle.prelude.specs.Any.{any, anyPair}
 use Rattle.rows.specs.Rows.{Entry}
-use Rattle.rows.specs.Tables.{firstOf, entriesOf}
+use Rattle.rows.specs.Tables.{firstOf, entriesOf, width}
 use Rattle.rows.proofs.Entries.{entry-at, entries-done}
 
 -- Whether one of them passes; `answer` is what is answered in the end, the same as from entry i on.
 module _ (f : Entry → Bool) (answer : Bool) (count i : ℕ) (t : List ℕ)
     (so : any f (drop i (entriesOf count t)) ≡ answer) where
   module _ (h : i < count) where
-    here : f (firstOf (drop (i * 8) t)) || any f (drop (i + 1) (entriesOf count t)) ≡ answer
+    here : f (firstOf (drop (i * width) t)) || any f (drop (i + 1) (entriesOf count t)) ≡ answer
     unfolding any
     here = sym (ap (any f) (entry-at i count t h)) ∙ so
 
     -- This one does not.
-    pub any-turn : f (firstOf (drop (i * 8) t)) ≡ false → any f (drop (i + 1) (entriesOf count t)) ≡ answer
+    pub any-turn : f (firstOf (drop (i * width) t)) ≡ false → any f (drop (i + 1) (entriesOf count t)) ≡ answer
     any-turn e = sym (ap (λ (b : Bool). b || any f (drop (i + 1) (entriesOf count t))) e) ∙ here
 
     -- This one does.
-    pub any-found : f (firstOf (drop (i * 8) t)) ≡ true → true ≡ answer
+    pub any-found : f (firstOf (drop (i * width) t)) ≡ true → true ≡ answer
     any-found e = sym (ap (λ (b : Bool). b || any f (drop (i + 1) (entriesOf count t))) e) ∙ here
 
   -- There are no more.
@@ -35,16 +35,16 @@ module _ (f : Entry → Bool) (answer : Bool) (count i : ℕ) (t : List ℕ)
 module _ (f : Entry → Entry → Bool) (answer : Bool) (count i : ℕ) (t : List ℕ)
     (so : anyPair f (drop i (entriesOf count t)) ≡ answer) where
   module _ (h : i < count) where
-    here-pair : any (f (firstOf (drop (i * 8) t))) (drop (i + 1) (entriesOf count t))
+    here-pair : any (f (firstOf (drop (i * width) t))) (drop (i + 1) (entriesOf count t))
         || anyPair f (drop (i + 1) (entriesOf count t)) ≡ answer
     unfolding anyPair
     here-pair = sym (ap (anyPair f) (entry-at i count t h)) ∙ so
 
-    pub pair-turn : any (f (firstOf (drop (i * 8) t))) (drop (i + 1) (entriesOf count t)) ≡ false →
+    pub pair-turn : any (f (firstOf (drop (i * width) t))) (drop (i + 1) (entriesOf count t)) ≡ false →
         anyPair f (drop (i + 1) (entriesOf count t)) ≡ answer
     pair-turn e = sym (ap (λ (b : Bool). b || anyPair f (drop (i + 1) (entriesOf count t))) e) ∙ here-pair
 
-    pub pair-found : any (f (firstOf (drop (i * 8) t))) (drop (i + 1) (entriesOf count t)) ≡ true → true ≡ answer
+    pub pair-found : any (f (firstOf (drop (i * width) t))) (drop (i + 1) (entriesOf count t)) ≡ true → true ≡ answer
     pair-found e = sym (ap (λ (b : Bool). b || anyPair f (drop (i + 1) (entriesOf count t))) e) ∙ here-pair
 
   pub pair-done : count ≤ i → false ≡ answer

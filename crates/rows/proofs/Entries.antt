@@ -8,16 +8,16 @@ use lib.ListN.{length, take, drop, length-drop, drop-of-length-le}
 use lib.Seq.{drop-drop, drop-at, take-add, length-take-le}
 use Rattle.prelude.specs.Buffer.{written}
 use Rattle.rows.specs.Rows.{Entry}
-use Rattle.rows.specs.Tables.{six, eight, flat, listed, firstOf, entriesOf}
+use Rattle.rows.specs.Tables.{listRow, tableRow, flat, listed, firstOf, entriesOf, width, listWidth}
 
 -- Lengths, and one list after another
 
-pub flat-length : (es : List Entry) → length (flat es) ≡ length es * 8
+pub flat-length : (es : List Entry) → length (flat es) ≡ length es * width
 unfolding flat
 flat-length [] = refl
 flat-length (e ∷ es) = omega (arith, flat-length es)
 
-pub listed-length : (es : List Entry) → length (listed es) ≡ length es * 6
+pub listed-length : (es : List Entry) → length (listed es) ≡ length es * listWidth
 unfolding listed
 listed-length [] = refl
 listed-length (e ∷ es) = omega (arith, listed-length es)
@@ -25,17 +25,17 @@ listed-length (e ∷ es) = omega (arith, listed-length es)
 pub entries-length : (count : ℕ) (t : List ℕ) → length (entriesOf count t) ≡ count
 unfolding entriesOf
 entries-length zero t = refl
-entries-length (suc n) t = ap suc (entries-length n (drop 8 t))
+entries-length (suc n) t = ap suc (entries-length n (drop width t))
 
 pub flat-append : (es fs : List Entry) → flat (es ++ fs) ≡ flat es ++ flat fs
 unfolding flat
 flat-append [] fs = refl
-flat-append (e ∷ es) fs = ap (λ (l : List ℕ). eight e ++ l) (flat-append es fs)
+flat-append (e ∷ es) fs = ap (λ (l : List ℕ). tableRow e ++ l) (flat-append es fs)
 
 pub listed-append : (es fs : List Entry) → listed (es ++ fs) ≡ listed es ++ listed fs
 unfolding listed
 listed-append [] fs = refl
-listed-append (e ∷ es) fs = ap (λ (l : List ℕ). six e ++ l) (listed-append es fs)
+listed-append (e ∷ es) fs = ap (λ (l : List ℕ). listRow e ++ l) (listed-append es fs)
 
 -- What was laid flat is read back
 
@@ -44,7 +44,7 @@ unfolding entriesOf flat
 entries-flat [] rest = refl
 entries-flat (e ∷ es) rest = ap (λ (l : List Entry). e ∷ l) (entries-flat es rest)
 
-eight-first : (t : List ℕ) → 8 ≤ length t → eight (firstOf t) ≡ take 8 t
+eight-first : (t : List ℕ) → width ≤ length t → tableRow (firstOf t) ≡ take width t
 eight-first [] h = absurd (omega arith)
 eight-first (a ∷ []) h = absurd (omega arith)
 eight-first (a ∷ b ∷ []) h = absurd (omega arith)
@@ -55,59 +55,59 @@ eight-first (a ∷ b ∷ c ∷ d ∷ e ∷ f ∷ []) h = absurd (omega arith)
 eight-first (a ∷ b ∷ c ∷ d ∷ e ∷ f ∷ g ∷ []) h = absurd (omega arith)
 eight-first (a ∷ b ∷ c ∷ d ∷ e ∷ f ∷ g ∷ i ∷ rest) h = refl
 
-pub flat-of : (count : ℕ) (t : List ℕ) → count * 8 ≤ length t → flat (entriesOf count t) ≡ take (count * 8) t
+pub flat-of : (count : ℕ) (t : List ℕ) → count * width ≤ length t → flat (entriesOf count t) ≡ take (count * width) t
 unfolding entriesOf flat
 flat-of zero t h = refl
 flat-of (suc n) t h =
-    let sum : 8 + n * 8 ≡ suc n * 8 = omega arith in
-    let rest = flat-of n (drop 8 t) (omega (arith, length-drop 8 t)) in
-    ap₂ _++_ (eight-first t (omega arith)) rest ∙ sym (take-add 8 (n * 8) t) ∙ ap (λ (k : ℕ). take k t) sum
+    let sum : width + n * width ≡ suc n * width = omega arith in
+    let rest = flat-of n (drop width t) (omega (arith, length-drop width t)) in
+    ap₂ _++_ (eight-first t (omega arith)) rest ∙ sym (take-add width (n * width) t) ∙ ap (λ (k : ℕ). take k t) sum
 
 -- From an entry on
 
-pub drop-entries : (i count : ℕ) (t : List ℕ) → drop i (entriesOf count t) ≡ entriesOf (count - i) (drop (i * 8) t)
+pub drop-entries : (i count : ℕ) (t : List ℕ) → drop i (entriesOf count t) ≡ entriesOf (count - i) (drop (i * width) t)
 unfolding entriesOf
 drop-entries zero count t = let e : count ≡ count - 0 = omega arith in ap (λ (n : ℕ). entriesOf n t) e
 drop-entries (suc i) zero t =
-    let e : 0 ≡ 0 - suc i = omega arith in ap (λ (n : ℕ). entriesOf n (drop (suc i * 8) t)) e
+    let e : 0 ≡ 0 - suc i = omega arith in ap (λ (n : ℕ). entriesOf n (drop (suc i * width) t)) e
 drop-entries (suc i) (suc n) t =
     let left : n - i ≡ suc n - suc i = omega arith in
-    let at : 8 + i * 8 ≡ suc i * 8 = omega arith in
-    drop-entries i n (drop 8 t)
-    ∙ ap₂ entriesOf left (drop-drop (i * 8) 8 t ∙ ap (λ (k : ℕ). drop k t) at)
+    let at : width + i * width ≡ suc i * width = omega arith in
+    drop-entries i n (drop width t)
+    ∙ ap₂ entriesOf left (drop-drop (i * width) width t ∙ ap (λ (k : ℕ). drop k t) at)
 
 -- The entry that a loop is at, and those behind it.
 pub entry-at : (i count : ℕ) (t : List ℕ) → i < count →
-    drop i (entriesOf count t) ≡ firstOf (drop (i * 8) t) ∷ drop (i + 1) (entriesOf count t)
+    drop i (entriesOf count t) ≡ firstOf (drop (i * width) t) ∷ drop (i + 1) (entriesOf count t)
 unfolding entriesOf
 entry-at i count t h =
     let left : count - i ≡ suc (count - (i + 1)) = omega arith in
-    let at : i * 8 + 8 ≡ (i + 1) * 8 = omega arith in
-    let behind : entriesOf (count - (i + 1)) (drop 8 (drop (i * 8) t)) ≡ drop (i + 1) (entriesOf count t) =
-    ap (entriesOf (count - (i + 1))) (drop-drop 8 (i * 8) t ∙ ap (λ (k : ℕ). drop k t) at)
+    let at : i * width + width ≡ (i + 1) * width = omega arith in
+    let behind : entriesOf (count - (i + 1)) (drop width (drop (i * width) t)) ≡ drop (i + 1) (entriesOf count t) =
+    ap (entriesOf (count - (i + 1))) (drop-drop width (i * width) t ∙ ap (λ (k : ℕ). drop k t) at)
     ∙ sym (drop-entries (i + 1) count t) in
-    drop-entries i count t ∙ ap (λ (n : ℕ). entriesOf n (drop (i * 8) t)) left
-    ∙ ap (λ (l : List Entry). firstOf (drop (i * 8) t) ∷ l) behind
+    drop-entries i count t ∙ ap (λ (n : ℕ). entriesOf n (drop (i * width) t)) left
+    ∙ ap (λ (l : List Entry). firstOf (drop (i * width) t) ∷ l) behind
 
 pub entries-done : (i count : ℕ) (t : List ℕ) → count ≤ i → drop i (entriesOf count t) ≡ []
 entries-done i count t h = drop-of-length-le (entriesOf count t) {i = i} (omega (arith, entries-length count t))
 
 -- The first entries are unchanged where the front of the table is; behind them come the others.
 
-pub entries-split : (m n : ℕ) (t : List ℕ) → entriesOf (m + n) t ≡ entriesOf m t ++ entriesOf n (drop (m * 8) t)
+pub entries-split : (m n : ℕ) (t : List ℕ) → entriesOf (m + n) t ≡ entriesOf m t ++ entriesOf n (drop (m * width) t)
 unfolding entriesOf
 entries-split zero n t = let e : 0 + n ≡ n = omega arith in ap (λ (k : ℕ). entriesOf k t) e
 entries-split (suc m) n t =
     let e : suc m + n ≡ suc (m + n) = omega arith in
-    let at : 8 + m * 8 ≡ suc m * 8 = omega arith in
+    let at : width + m * width ≡ suc m * width = omega arith in
     ap (λ (k : ℕ). entriesOf k t) e
     ∙ ap (λ (l : List Entry). firstOf t ∷ l)
-    (entries-split m n (drop 8 t)
-    ∙ ap (λ (l : List ℕ). entriesOf m (drop 8 t) ++ entriesOf n l)
-    (drop-drop (m * 8) 8 t ∙ ap (λ (k : ℕ). drop k t) at))
+    (entries-split m n (drop width t)
+    ∙ ap (λ (l : List ℕ). entriesOf m (drop width t) ++ entriesOf n l)
+    (drop-drop (m * width) width t ∙ ap (λ (k : ℕ). drop k t) at))
 
-pub entries-front : (count : ℕ) (t rest : List ℕ) → count * 8 ≤ length t →
-    entriesOf count (take (count * 8) t ++ rest) ≡ entriesOf count t
+pub entries-front : (count : ℕ) (t rest : List ℕ) → count * width ≤ length t →
+    entriesOf count (take (count * width) t ++ rest) ≡ entriesOf count t
 entries-front count t rest h =
     ap (λ (l : List ℕ). entriesOf count (l ++ rest)) (sym (flat-of count t h))
     ∙ ap (λ (n : ℕ). entriesOf n (flat (entriesOf count t) ++ rest)) (sym (entries-length count t))
@@ -120,18 +120,18 @@ unfolding written
 entries-written es table = entries-flat es (drop (0 + length (flat es)) table)
 
 -- From the entry `from` on.
-module _ (from : ℕ) (es : List Entry) (table : List ℕ) (h : from * 8 ≤ length table) where
-  drop-written : drop (from * 8) (written (from * 8) (flat es) table)
-      ≡ flat es ++ drop (from * 8 + length (flat es)) table
+module _ (from : ℕ) (es : List Entry) (table : List ℕ) (h : from * width ≤ length table) where
+  drop-written : drop (from * width) (written (from * width) (flat es) table)
+      ≡ flat es ++ drop (from * width + length (flat es)) table
   unfolding written
-  drop-written = drop-at (take (from * 8) table) _ (from * 8) (length-take-le (from * 8) table h)
+  drop-written = drop-at (take (from * width) table) _ (from * width) (length-take-le (from * width) table h)
 
-  pub entries-written-from : entriesOf (length es) (drop (from * 8) (written (from * 8) (flat es) table)) ≡ es
+  pub entries-written-from : entriesOf (length es) (drop (from * width) (written (from * width) (flat es) table)) ≡ es
   entries-written-from = ap (entriesOf (length es)) drop-written ∙ entries-flat es _
 
   -- Those before it, and these.
-  pub entries-more : entriesOf (from + length es) (written (from * 8) (flat es) table) ≡ entriesOf from table ++ es
+  pub entries-more : entriesOf (from + length es) (written (from * width) (flat es) table) ≡ entriesOf from table ++ es
   unfolding written
   entries-more =
-      entries-split from (length es) (written (from * 8) (flat es) table)
+      entries-split from (length es) (written (from * width) (flat es) table)
       ∙ ap₂ _++_ (entries-front from table _ h) entries-written-from

@@ -10,39 +10,39 @@ use Rattle.prelude.specs.Buffer.{written}
 use Rattle.prelude.proofs.Lists.{drop-next}
 use Rattle.prelude.proofs.Writing.{Writing, begin, put, put-part, done}
 use Rattle.rows.specs.Rows.{Entry}
-use Rattle.rows.specs.Tables.{six, flat, listed, firstOf, entriesOf}
+use Rattle.rows.specs.Tables.{listRow, flat, listed, firstOf, entriesOf, width, listWidth}
 use Rattle.rows.proofs.Entries.{listed-length, entries-length, flat-of, entry-at, entries-done}
 
 -- The part of a table that is an entry's first six numbers.
-pub six-part : (t : List ℕ) (start : ℕ) → start + 8 ≤ length t
-    → take (start + 6 - start) (drop start t) ≡ six (firstOf (drop start t))
+pub six-part : (t : List ℕ) (start : ℕ) → start + width ≤ length t
+    → take (start + 6 - start) (drop start t) ≡ listRow (firstOf (drop start t))
 unfolding flat entriesOf
 six-part t start h =
     let six-long : start + 6 - start ≡ 6 = omega arith in
     let entry = drop start t in
-    ap (λ (n : ℕ). take n entry) six-long ∙ sym (take-take 6 8 entry (omega arith))
+    ap (λ (n : ℕ). take n entry) six-long ∙ sym (take-take listWidth width entry (omega arith))
     ∙ ap (take 6) (sym (flat-of 1 entry (omega (arith, h, length-drop start t))))
 
 -- Entries of a table laid out into a list.
 module _ (t : List ℕ) (count : ℕ) (before : List ℕ) where
   -- The list has those before the i-th.
   abbrev pub Laid : ℕ → List ℕ → Type 0
-  Laid i now = Writing 0 (listed (entriesOf count t)) before (listed (drop i (entriesOf count t))) (i * 6) now
+  Laid i now = Writing 0 (listed (entriesOf count t)) before (listed (drop i (entriesOf count t))) (i * listWidth) now
 
-  pub lay-begins : count * 6 ≤ length before → Laid 0 before
+  pub lay-begins : count * listWidth ≤ length before → Laid 0 before
   lay-begins h =
       begin 0 (listed (entriesOf count t)) before
       (omega (arith, h, listed-length (entriesOf count t), entries-length count t))
 
   pub lay-turn : (i : ℕ) (now next : List ℕ) → i < count → Laid i now
-      → next ≡ written (i * 6) (six (firstOf (drop (i * 8) t))) now → Laid (i + 1) next
+      → next ≡ written (i * listWidth) (listRow (firstOf (drop (i * width) t))) now → Laid (i + 1) next
   unfolding listed
   lay-turn i now next h w e =
-      put-part (six (firstOf (drop (i * 8) t))) (listed (drop (i + 1) (entriesOf count t)))
+      put-part (listRow (firstOf (drop (i * width) t))) (listed (drop (i + 1) (entriesOf count t)))
       (ap listed (entry-at i count t h)) w (omega arith) e
 
   pub laid : (i : ℕ) (now : List ℕ) → count ≤ i → Laid i now → now ≡ written 0 (listed (entriesOf count t)) before
   unfolding listed
   laid i now h w =
-      done (subst (λ (l : List Entry). Writing 0 (listed (entriesOf count t)) before (listed l) (i * 6) now)
+      done (subst (λ (l : List Entry). Writing 0 (listed (entriesOf count t)) before (listed l) (i * listWidth) now)
       (entries-done i count t h) w)

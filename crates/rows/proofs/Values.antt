@@ -8,7 +8,7 @@ use lib.ListN.{drop}
 use Rattle.parts.specs.Parts.{part}
 use Rattle.grammar.specs.Places.{Place}
 use Rattle.rows.specs.Rows.{Entry, Texts, textOf, spelledName, spelledValue, nameIn, valueIn, numbered, valueOf}
-use Rattle.rows.specs.Tables.{firstOf, entriesOf}
+use Rattle.rows.specs.Tables.{firstOf, entriesOf, width}
 use Rattle.rows.proofs.Entries.{entry-at, entries-done}
 
 -- The text by its origin, which is 0, 1 or another.
@@ -44,7 +44,7 @@ part-is e f g p = cc
 -- The i-th entry of a table, and the place of its value.
 
 abbrev pub entry : List ℕ → ℕ → Entry
-entry t i = firstOf (drop (i * 8) t)
+entry t i = firstOf (drop (i * width) t)
 
 abbrev pub valuePlace : Entry → Place
 valuePlace e = record { start = e .member .valueStart; size = e .member .valueSize }

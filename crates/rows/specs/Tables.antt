@@ -24,8 +24,8 @@ abbrev pub recipientTable : ℕ
 recipientTable = 3 * headerTable
 
 -- The numbers of the list that is handed out: origin, name start and length, value start and length, kind.
-abbrev pub six : Entry → List ℕ
-six e =
+abbrev pub listRow : Entry → List ℕ
+listRow e =
     e .origin
     ∷ e .member .nameStart
     ∷ e .member .nameSize
@@ -35,16 +35,16 @@ six e =
     ∷ []
 
 -- Those of a table: which of the names it has and the fingerprint besides.
-abbrev pub eight : Entry → List ℕ
-eight e = six e ++ (e .number ∷ e .print ∷ [])
+abbrev pub tableRow : Entry → List ℕ
+tableRow e = listRow e ++ (e .number ∷ e .print ∷ [])
 
 unfoldable pub flat : List Entry → List ℕ
 flat [] = []
-flat (e ∷ es) = eight e ++ flat es
+flat (e ∷ es) = tableRow e ++ flat es
 
 unfoldable pub listed : List Entry → List ℕ
 listed [] = []
-listed (e ∷ es) = six e ++ listed es
+listed (e ∷ es) = listRow e ++ listed es
 
 -- The first entry of a table.
 abbrev pub firstOf : List ℕ → Entry

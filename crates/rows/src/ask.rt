@@ -2,8 +2,10 @@
 ghost use mathlib.Core.Path.{_≡_};
 ghost use Prim.Native.Nat.{_+_, _-_, _*_, _≤_, _<_};
 ghost use lib.ListN.{length, drop, getD};
+ghost use Rattle.prelude.specs.Limits.{numberLimit};
 ghost use Rattle.rows.specs.Rows.{spelledName, spelledValue, present, valueOf};
 ghost use Rattle.rows.specs.Tables.{firstOf, entriesOf, width};
+use crate::layout;
 use prelude::Place;
 
 // The k-th of an entry's eight numbers.
@@ -11,9 +13,9 @@ pub fn field(table: &[u32], i: usize, k: usize) -> usize
     requires { ⌜ i * width + width ≤ length (now table) ⌝ }
     requires { ⌜ k < width ⌝ }
     ensures { λ r. ⌜ r ≡ getD (drop (i * width) (now (table .entry))) k 0 ⌝ }
-    ensures { λ r. ⌜ r < 4294967296 ⌝ }
+    ensures { λ r. ⌜ r < numberLimit ⌝ }
 {
-    table[i * 8 + k] as usize
+    table[i * layout::WIDTH + k] as usize
 }
 
 // The name of an entry as it is spelled: a part of the text that it stands in.
@@ -21,8 +23,8 @@ pub fn name<'a>(text: &'a [u8], table: &[u32], i: usize) -> &'a [u8]
     requires { ⌜ i * width + width ≤ length (now table) ⌝ }
     ensures { λ r. ⌜ now r ≡ spelledName (now (text .entry)) (firstOf (drop (i * width) (now (table .entry))) .member) ⌝ }
 {
-    let start = field(table, i, 1);
-    let len = field(table, i, 2);
+    let start = field(table, i, layout::NAME_START);
+    let len = field(table, i, layout::NAME_SIZE);
     parts::part(text, start, len)
 }
 
@@ -31,8 +33,8 @@ pub fn value<'a>(text: &'a [u8], table: &[u32], i: usize) -> &'a [u8]
     requires { ⌜ i * width + width ≤ length (now table) ⌝ }
     ensures { λ r. ⌜ now r ≡ spelledValue (now (text .entry)) (firstOf (drop (i * width) (now (table .entry))) .member) ⌝ }
 {
-    let begin = field(table, i, 3) + 1;
-    let size = prelude::minus(field(table, i, 4), 2);
+    let begin = field(table, i, layout::VALUE_START) + 1;
+    let size = prelude::minus(field(table, i, layout::VALUE_SIZE), 2);
     parts::part(text, begin, size)
 }
 
@@ -43,7 +45,7 @@ pub fn present(table: &[u32], count: usize, n: u32) -> bool
 {
     let mut i: usize = 0;
     while i < count {
-        if field(table, i, 6) == n as usize {
+        if field(table, i, layout::NUMBER) == n as usize {
             return true;
         }
         i += 1;
@@ -56,14 +58,14 @@ pub fn value_of(table: &[u32], count: usize, n: u32) -> Place
     requires { ⌜ count * width ≤ length (now table) ⌝ }
     ensures { λ r. ⌜ r .start ≡ valueOf n (entriesOf count (now (table .entry))) .start ⌝ }
     ensures { λ r. ⌜ r .len ≡ valueOf n (entriesOf count (now (table .entry))) .size ⌝ }
-    ensures { λ r. ⌜ r .start < 4294967296 ⌝ }
+    ensures { λ r. ⌜ r .start < numberLimit ⌝ }
 {
     let mut j: usize = 0;
     while j < count {
-        if field(table, j, 6) == n as usize {
+        if field(table, j, layout::NUMBER) == n as usize {
             return Place {
-                start: field(table, j, 3),
-                len: field(table, j, 4),
+                start: field(table, j, layout::VALUE_START),
+                len: field(table, j, layout::VALUE_SIZE),
             };
         }
         j += 1;

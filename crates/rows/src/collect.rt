@@ -4,25 +4,27 @@ ghost use mathlib.Core.Bool.{true};
 ghost use Prim.Native.Nat.{_+_, _*_, _≤_};
 ghost use lib.ListN.{length, take};
 ghost use Rattle.prelude.specs.Buffer.{AllBelow, written};
-ghost use Rattle.prelude.specs.Limits.{levels, longest};
+ghost use Rattle.prelude.specs.Limits.{levels, longest, numberLimit};
 ghost use Rattle.names.specs.Names.{names, filled};
 ghost use Rattle.grammar.specs.Grammar.{curly};
 ghost use Rattle.grammar.specs.Reader.{membersAt};
 ghost use Rattle.json.specs.Members.{collectedOf, memberWidth};
 ghost use Rattle.json.specs.Inner.Known.{Given, KnownIn};
 ghost use Rattle.rows.specs.Rows.{entryOf, entriesIn};
-ghost use Rattle.rows.specs.Tables.{eight, flat, collectedTable, headerTable, width};
+ghost use Rattle.rows.specs.Tables.{tableRow, flat, collectedTable, headerTable, width};
 ghost use Rattle.rows.specs.Inner.Members.{firstMember, membersOf};
+use crate::layout;
 use json::Position;
 use json::member::Collected;
+use prelude::limits::LEVELS;
 
 // The entry of a member, of which `row` has the five numbers, written from a position of the table on.
 fn put(text: &[u8], origin: u32, list: &[u8], row: &[usize], table: &mut [u32], at: usize)
     requires { ⌜ filled (now list) ≡ true ⌝ }
     requires { ⌜ length (now row) ≡ memberWidth ⌝ }
-    requires { ⌜ AllBelow 4294967296 (now row) ⌝ }
+    requires { ⌜ AllBelow numberLimit (now row) ⌝ }
     requires { ⌜ at + width ≤ length (now table) ⌝ }
-    ensures { λ _. ⌜ now (table .exit) ≡ written at (eight (entryOf (names (now (list .entry))) (now (text .entry)) origin (firstMember (now (row .entry))))) (now (table .entry)) ⌝ }
+    ensures { λ _. ⌜ now (table .exit) ≡ written at (tableRow (entryOf (names (now (list .entry))) (now (text .entry)) origin (firstMember (now (row .entry))))) (now (table .entry)) ⌝ }
 {
     let start = row[0];
     let len = row[1];
@@ -30,13 +32,13 @@ fn put(text: &[u8], origin: u32, list: &[u8], row: &[usize], table: &mut [u32], 
     let number = names::find(list, name);
     let print = spelling::fingerprint(name);
     table[at] = origin;
-    table[at + 1] = start as u32;
-    table[at + 2] = len as u32;
-    table[at + 3] = row[2] as u32;
-    table[at + 4] = row[3] as u32;
-    table[at + 5] = row[4] as u32;
-    table[at + 6] = number;
-    table[at + 7] = print;
+    table[at + layout::NAME_START] = start as u32;
+    table[at + layout::NAME_SIZE] = len as u32;
+    table[at + layout::VALUE_START] = row[2] as u32;
+    table[at + layout::VALUE_SIZE] = row[3] as u32;
+    table[at + layout::KIND] = row[4] as u32;
+    table[at + layout::NUMBER] = number;
+    table[at + layout::PRINT] = print;
 }
 
 // The entries of the first members of some rows, written from the entry `from` of the table on.
@@ -51,15 +53,15 @@ fn fill(
 )
     requires { ⌜ filled (now list) ≡ true ⌝ }
     requires { ⌜ count * memberWidth ≤ length (now rows) ⌝ }
-    requires { ⌜ AllBelow 4294967296 (take (count * memberWidth) (now rows)) ⌝ }
+    requires { ⌜ AllBelow numberLimit (take (count * memberWidth) (now rows)) ⌝ }
     requires { ⌜ from * width + count * width ≤ length (now table) ⌝ }
     ensures { λ _. ⌜ now (table .exit) ≡ written (from * width) (flat (entriesIn (names (now (list .entry))) (now (text .entry)) origin (membersOf count (now (rows .entry))))) (now (table .entry)) ⌝ }
 {
     let mut i: usize = 0;
     while i < count {
-        let start = i * 5;
-        let end = start + 5;
-        put(text, origin, list, &rows[start..end], table, (from + i) * 8);
+        let start = i * json::member::WIDTH;
+        let end = start + json::member::WIDTH;
+        put(text, origin, list, &rows[start..end], table, (from + i) * layout::WIDTH);
         i += 1;
     }
 }
@@ -83,8 +85,8 @@ pub fn collect(
     ensures { λ r. ⌜ r ≡ collectedOf (membersAt levels (now (text .entry)) at) ⌝ }
     ensures { λ _. ⌜ now (table .exit) ≡ collectedTable from (entriesIn (names (now (list .entry))) (now (text .entry)) origin (membersAt levels (now (text .entry)) at)) (now (table .entry)) ⌝ }
 {
-    let mut rows = [0usize; 160];
-    let answer = Position { at }.collect(text, 12, judged, &mut rows);
+    let mut rows = [0usize; json::member::ROOM];
+    let answer = Position { at }.collect(text, LEVELS, judged, &mut rows);
     let Collected::Rows(count) = answer else {
         return answer;
     };

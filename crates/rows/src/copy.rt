@@ -3,7 +3,8 @@ ghost use mathlib.Core.Path.{_≡_};
 ghost use Prim.Native.Nat.{_+_, _*_, _≤_};
 ghost use lib.ListN.{length, drop};
 ghost use Rattle.prelude.specs.Buffer.{written};
-ghost use Rattle.rows.specs.Tables.{six, listed, firstOf, entriesOf, listWidth, width};
+ghost use Rattle.rows.specs.Tables.{listRow, listed, firstOf, entriesOf, listWidth, width};
+use crate::layout;
 
 // Numbers copied into a table from a position on.
 pub fn copy(from: &[u32], into: &mut [u32], at: usize)
@@ -21,11 +22,11 @@ pub fn copy(from: &[u32], into: &mut [u32], at: usize)
 fn lay_one(table: &[u32], i: usize, list: &mut [u32])
     requires { ⌜ i * width + width ≤ length (now table) ⌝ }
     requires { ⌜ i * listWidth + listWidth ≤ length (now list) ⌝ }
-    ensures { λ _. ⌜ now (list .exit) ≡ written (i * listWidth) (six (firstOf (drop (i * width) (now (table .entry))))) (now (list .entry)) ⌝ }
+    ensures { λ _. ⌜ now (list .exit) ≡ written (i * listWidth) (listRow (firstOf (drop (i * width) (now (table .entry))))) (now (list .entry)) ⌝ }
 {
-    let start = i * 8;
-    let end = start + 6;
-    copy(&table[start..end], list, i * 6);
+    let start = i * layout::WIDTH;
+    let end = start + layout::LIST_WIDTH;
+    copy(&table[start..end], list, i * layout::LIST_WIDTH);
 }
 
 // The first entries laid out as document 01's list: six numbers each, at the start of the list.

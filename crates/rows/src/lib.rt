@@ -3,4 +3,5 @@
 pub mod ask;
 pub mod collect;
 pub mod copy;
+pub mod layout;
 pub mod repeat;

@@ -8,6 +8,7 @@ ghost use Rattle.rows.specs.Rows.{texts, nameIn, nameSays, apart, clash,
 ghost use Rattle.rows.specs.Tables.{firstOf, entriesOf, width};
 use crate::ask::field;
 use crate::ask::name;
+use crate::layout;
 
 // Whether two origins differ, or are the same.
 fn apart(across: bool, o: usize, p: usize) -> bool
@@ -21,7 +22,7 @@ pub fn says(header: &[u8], shared: &[u8], own: &[u8], table: &[u32], i: usize, w
     requires { ⌜ i * width + width ≤ length (now table) ⌝ }
     ensures { λ r. ⌜ r ≡ nameSays (texts (now (header .entry)) (now (shared .entry)) (now (own .entry))) (now (w .entry)) (firstOf (drop (i * width) (now (table .entry)))) ⌝ }
 {
-    let origin = field(table, i, 0);
+    let origin = field(table, i, layout::ORIGIN);
     if origin == 0 {
         return spelling::alike(name(header, table, i), w);
     }
@@ -37,7 +38,7 @@ fn same(header: &[u8], shared: &[u8], own: &[u8], table: &[u32], i: usize, j: us
     requires { ⌜ j * width + width ≤ length (now table) ⌝ }
     ensures { λ r. ⌜ r ≡ alike (nameIn (texts (now (header .entry)) (now (shared .entry)) (now (own .entry))) (firstOf (drop (i * width) (now (table .entry))))) (nameIn (texts (now (header .entry)) (now (shared .entry)) (now (own .entry))) (firstOf (drop (j * width) (now (table .entry))))) ⌝ }
 {
-    let origin = field(table, j, 0);
+    let origin = field(table, j, layout::ORIGIN);
     if origin == 0 {
         return says(header, shared, own, table, i, name(header, table, j));
     }
@@ -61,10 +62,10 @@ fn clash(
     requires { ⌜ j * width + width ≤ length (now table) ⌝ }
     ensures { λ r. ⌜ r ≡ clash across (texts (now (header .entry)) (now (shared .entry)) (now (own .entry))) (firstOf (drop (i * width) (now (table .entry)))) (firstOf (drop (j * width) (now (table .entry)))) ⌝ }
 {
-    if field(table, i, 7) != field(table, j, 7) {
+    if field(table, i, layout::PRINT) != field(table, j, layout::PRINT) {
         return false;
     }
-    if apart(across, field(table, i, 0), field(table, j, 0)) {
+    if apart(across, field(table, i, layout::ORIGIN), field(table, j, layout::ORIGIN)) {
         return same(header, shared, own, table, i, j);
     }
     false

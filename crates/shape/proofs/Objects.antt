@@ -15,7 +15,7 @@ use Rattle.grammar.specs.Reader.{Answer, nothing, found, skipSpace, membersAt, 
 use Rattle.json.specs.Inner.Ends.{foundOf}
 use Rattle.json.specs.declared.Found.{Found}
 use Rattle.rows.specs.Rows.{Entry, oneText, entryOf, entriesIn, repeated}
-use Rattle.rows.specs.Tables.{flat, entriesOf, collectedTable}
+use Rattle.rows.specs.Tables.{flat, entriesOf, collectedTable, width}
 use Rattle.rows.proofs.Entries.{flat-length, entries-written}
 use Rattle.prelude.specs.Refusals.{Test, _if_, first, stageOf}
 use Rattle.prelude.proofs.Refusals.{first-fails, first-passes}
@@ -53,7 +53,7 @@ object-table es fs before last e l = l ∙ ap (λ (gs : List Entry). collectedTa
 pub record Entered (es : List Entry) (last : List ℕ) (count : ℕ) : Type 0 where
   pub counted : count ≡ length es
   pub entries : entriesOf count last ≡ es
-  pub fits : count * 8 ≤ length last
+  pub fits : count * width ≤ length last
 
 few : (s : List ℕ) (es : List Entry) → first (objectOrder s es) ≡ 0 → length es ≤ 32
 unfolding first objectOrder

@@ -19,7 +19,7 @@ use Rattle.prelude.specs.declared.Stage.the-variants.{Passed, Refused}
 use Rattle.headers.proofs.Stages.{passed-is, refused-is}
 use Rattle.shape.specs.Shape.{recipientOf}
 use Rattle.shape.specs.Recipients.{elementEntries, elementOrder}
-use Rattle.shape.specs.Inner.Answers.{three, flatRecipients, startsOrder, passedAt, LeavesAt}
+use Rattle.shape.specs.Inner.Answers.{three, flatRecipients, startsOrder, passedAt, LeavesAt, recipientWidth}
 use Rattle.shape.proofs.Orders.{handed-up}
 
 -- The numbers of the recipients that are written.
@@ -30,14 +30,14 @@ numbersAt message starts = flatRecipients (passedAt message starts)
 abbrev pub numbersOf : List ℕ → ℕ → List ℕ
 numbersOf message start = three (recipientOf (elementEntries message start))
 
-numbers-length : (message starts : List ℕ) → length (numbersAt message starts) ≤ length starts * 3
+numbers-length : (message starts : List ℕ) → length (numbersAt message starts) ≤ length starts * recipientWidth
 unfolding flatRecipients passedAt
 numbers-length message [] = omega arith
 numbers-length message (x ∷ starts) = cases (eqb (first (elementOrder message x)) 0) (numbers-length message starts)
   where
-    cases : (b : Bool) → length (numbersAt message starts) ≤ length starts * 3 →
+    cases : (b : Bool) → length (numbersAt message starts) ≤ length starts * recipientWidth →
         length (flatRecipients (cond b (recipientOf (elementEntries message x) ∷ passedAt message starts) []))
-        ≤ length (x ∷ starts) * 3
+        ≤ length (x ∷ starts) * recipientWidth
     cases true h = omega arith
     cases false h = omega arith
 
@@ -63,10 +63,10 @@ module _ (message : List ℕ) (start : ℕ) (rest : List ℕ) where
 -- What is known before the i-th element is read.
 pub record Reading (message starts : List ℕ) (i : ℕ) (before now : List ℕ) : Type 0 where
   pub order : first (startsOrder message (drop i starts)) ≡ first (startsOrder message starts)
-  pub space : length starts * 3 ≤ length before
-  pub wrote : Writing 0 (numbersAt message starts) before (numbersAt message (drop i starts)) (i * 3) now
+  pub space : length starts * recipientWidth ≤ length before
+  pub wrote : Writing 0 (numbersAt message starts) before (numbersAt message (drop i starts)) (i * recipientWidth) now
 
-pub reading : (message starts before : List ℕ) → length starts * 3 ≤ length before →
+pub reading : (message starts before : List ℕ) → length starts * recipientWidth ≤ length before →
     Reading message starts 0 before before
 reading message starts before h = record {
   order = refl;
@@ -85,17 +85,17 @@ module _ {message starts before now : List ℕ} {i : ℕ} (r : Reading message s
     here = sym (ap (λ (l : List ℕ). first (startsOrder message l)) next) ∙ r .order
 
     -- There is room for one more.
-    pub room : i * 3 + 3 ≤ length now
+    pub room : i * recipientWidth + 3 ≤ length now
     room = omega (arith, r .space, r .wrote .same)
 
     module _ (answer : Stage) (n : ℕ) (a : answer ≡ stageOf (first (elementOrder message (getD starts i 0))) n)
-        (after : List ℕ) (l : LeavesAt (i * 3) (numbersOf message (getD starts i 0)) now after answer) where
+        (after : List ℕ) (l : LeavesAt (i * recipientWidth) (numbersOf message (getD starts i 0)) now after answer) where
       -- It passes.
       pub read-on : (k : ℕ) → answer ≡ Passed k → Reading message starts (i + 1) before after
       read-on k e =
           let told = passed-is k (first (elementOrder message (getD starts i 0))) n (sym e ∙ a) in
-          let w : after ≡ written (i * 3) (numbersOf message (getD starts i 0)) now =
-          subst (λ (x : Stage). LeavesAt (i * 3) (numbersOf message (getD starts i 0)) now after x) e l in
+          let w : after ≡ written (i * recipientWidth) (numbersOf message (getD starts i 0)) now =
+          subst (λ (x : Stage). LeavesAt (i * recipientWidth) (numbersOf message (getD starts i 0)) now after x) e l in
           let parts : numbersAt message (drop i starts)
           ≡ numbersOf message (getD starts i 0) ++ numbersAt message (drop (i + 1) starts) =
           ap (λ (l : List ℕ). numbersAt message l) next
@@ -114,7 +114,7 @@ module _ {message starts before now : List ℕ} {i : ℕ} (r : Reading message s
       -- It does not.
       module _ (m : ℕ) (e : answer ≡ Refused m) where
         same : after ≡ now
-        same = subst (λ (y : Stage). LeavesAt (i * 3) (numbersOf message (getD starts i 0)) now after y) e l
+        same = subst (λ (y : Stage). LeavesAt (i * recipientWidth) (numbersOf message (getD starts i 0)) now after y) e l
 
         pub read-length : length after ≡ length before
         read-length = ap length same ∙ r .wrote .same
@@ -132,7 +132,7 @@ module _ {message starts before now : List ℕ} {i : ℕ} (r : Reading message s
               e ∙ handed-up (elementOrder message x) (startsOrder message (drop (i + 1) starts))
                   (element-nonzero message x) m n k (sym e ∙ a)
                   ∙ ap (λ (j : ℕ). stageOf j k) here,
-              same ∙ done (subst (λ (l : List ℕ). Writing 0 (numbersAt message starts) before l (i * 3) now) none (r .wrote)),
+              same ∙ done (subst (λ (l : List ℕ). Writing 0 (numbersAt message starts) before l (i * recipientWidth) now) none (r .wrote)),
             )
 
   -- All are read.
@@ -142,6 +142,6 @@ module _ {message starts before now : List ℕ} {i : ℕ} (r : Reading message s
   read-out h n =
       let none : drop i starts ≡ [] = drop-of-length-le starts {i = i} h in (
         ap (λ (j : ℕ). stageOf j n) (sym (ap (λ (l : List ℕ). first (startsOrder message l)) none) ∙ r .order),
-        done (subst (λ (l : List ℕ). Writing 0 (numbersAt message starts) before (numbersAt message l) (i * 3) now)
+        done (subst (λ (l : List ℕ). Writing 0 (numbersAt message starts) before (numbersAt message l) (i * recipientWidth) now)
             none (r .wrote)),
       )

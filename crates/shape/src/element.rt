@@ -18,14 +18,12 @@ ghost use Rattle.shape.specs.Inner.Answers.{three, flatRecipients, start
 ghost use Rattle.shape.specs.Inner.Answers.{startsOrder, passedAt, Leaves, LeavesAt, recipientWidth};
 use crate::held::component;
 use crate::member;
+use crate::number;
 use json::Position;
 use json::member::Member;
 use prelude::Stage;
-
-// The numbers of the members of a recipient (specs/Shape).
-const HEADER: u32 = 3;
-
-const ENCRYPTED_KEY: u32 = 4;
+use prelude::limits::LEVELS;
+use prelude::limits::MOST_RECIPIENTS;
 
 // The recipient of the first entries, written from a position on.
 pub(crate) fn put(table: &[u32], count: usize, into: &mut [usize], at: usize)
@@ -33,8 +31,8 @@ pub(crate) fn put(table: &[u32], count: usize, into: &mut [usize], at: usize)
     requires { ⌜ at + recipientWidth ≤ length (now into) ⌝ }
     ensures { λ _. ⌜ now (into .exit) ≡ written at (three (recipientOf (entriesOf count (now (table .entry))))) (now (into .entry)) ⌝ }
 {
-    let header = rows::ask::value_of(table, count, HEADER);
-    let key = component(table, count, ENCRYPTED_KEY);
+    let header = rows::ask::value_of(table, count, number::HEADER);
+    let key = component(table, count, number::ENCRYPTED_KEY);
     into[at] = header.start;
     into[at + 1] = key.start;
     into[at + 2] = key.len;
@@ -48,7 +46,7 @@ fn some_no_object(message: &[u8], from: Position, turns: usize) -> bool
     let mut p = from;
     let mut left = turns;
     while 0 < left {
-        let found = p.element(message, 12, true);
+        let found = p.element(message, LEVELS, true);
         let Member::Here(row, next) = found else {
             return false;
         };
@@ -82,14 +80,14 @@ pub(crate) fn walk(message: &[u8], at: usize, starts: &mut [usize]) -> Stage
     let mut count: usize = 0;
     let mut left = message.len();
     while 0 < left {
-        let found = p.element(message, 12, true);
+        let found = p.element(message, LEVELS, true);
         let Member::Here(row, next) = found else {
             return counted(count);
         };
         if row.kind != 0 {
             return Stage::Refused(10);
         }
-        if count == 8 {
+        if count == MOST_RECIPIENTS {
             if some_no_object(message, next, left - 1) {
                 return Stage::Refused(10);
             }
@@ -112,7 +110,7 @@ fn element(message: &[u8], at: usize, into: &mut [usize], to: usize) -> Stage
     ensures { λ r. ⌜ LeavesAt to (three (recipientOf (elementEntries (now (message .entry)) at))) (now (into .entry)) (now (into .exit)) r ⌝ }
 {
     let list = crate::MEMBERS;
-    let mut table = [0u32; 256];
+    let mut table = [0u32; rows::layout::HEADER_TABLE];
     let object = headers::object(message, at, 1, &list, &mut table, 0, true);
     let Stage::Passed(count) = object else {
         return object;
@@ -135,7 +133,7 @@ pub(crate) fn elements(message: &[u8], starts: &[usize], into: &mut [usize]) -> 
 {
     let mut i: usize = 0;
     while i < starts.len() {
-        let answer = element(message, starts[i], into, i * 3);
+        let answer = element(message, starts[i], into, i * crate::RECIPIENT_WIDTH);
         let Stage::Passed(_) = answer else {
             return answer;
         };

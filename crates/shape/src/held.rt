@@ -12,22 +12,8 @@ ghost use Rattle.shape.specs.Recipients.{topOf};
 ghost use Rattle.shape.specs.Inner.Answers.{topIn};
 use headers::Components;
 use prelude::Place;
+use crate::number;
 use rows::ask::present;
-
-// The numbers of the members that are asked for (specs/Shape).
-const PROTECTED: u32 = 1;
-
-const UNPROTECTED: u32 = 2;
-
-const RECIPIENTS: u32 = 5;
-
-const IV: u32 = 6;
-
-const AAD: u32 = 7;
-
-const CIPHERTEXT: u32 = 8;
-
-const TAG: u32 = 9;
 
 // The forms.
 const FLATTENED: u32 = 1;
@@ -63,7 +49,7 @@ fn form(table: &[u32], count: usize) -> u32
     requires { ⌜ count * width ≤ length (now table) ⌝ }
     ensures { λ r. ⌜ r ≡ cond (present recipients (entriesOf count (now (table .entry)))) generalForm flattenedForm ⌝ }
 {
-    if present(table, count, RECIPIENTS) {
+    if present(table, count, number::RECIPIENTS) {
         GENERAL
     } else {
         FLATTENED
@@ -77,15 +63,15 @@ pub fn held(table: &[u32], count: usize) -> Top
 {
     Top {
         form: form(table, count),
-        protected: present(table, count, PROTECTED),
-        shared: rows::ask::value_of(table, count, UNPROTECTED).start,
+        protected: present(table, count, number::PROTECTED),
+        shared: rows::ask::value_of(table, count, number::UNPROTECTED).start,
         components: Components {
-            protected: component(table, count, PROTECTED),
+            protected: component(table, count, number::PROTECTED),
             key: Place { start: 0, len: 0 },
-            iv: component(table, count, IV),
-            aad: component(table, count, AAD),
-            ciphertext: component(table, count, CIPHERTEXT),
-            tag: component(table, count, TAG),
+            iv: component(table, count, number::IV),
+            aad: component(table, count, number::AAD),
+            ciphertext: component(table, count, number::CIPHERTEXT),
+            tag: component(table, count, number::TAG),
         },
     }
 }

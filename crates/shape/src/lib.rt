@@ -11,6 +11,8 @@ ghost use Rattle.shape.specs.Inner.Answers.{flatRecipients, writtenIn, r
 use json::Found;
 use json::Position;
 use prelude::Stage;
+use prelude::limits::LEVELS;
+use prelude::limits::MOST_RECIPIENTS;
 
 // The known members of a message, contents first.
 pub const MEMBERS: [u8; 77] = *b"\x09\
@@ -25,9 +27,15 @@ pub const MEMBERS: [u8; 77] = *b"\x09\
     ciphertext\
     tag";
 
+// How many numbers a recipient has in a table (own header, key's start and length), and the room for all.
+pub const RECIPIENT_WIDTH: usize = 3;
+
+pub const RECIPIENTS_ROOM: usize = MOST_RECIPIENTS * RECIPIENT_WIDTH;
+
 mod element;
 pub mod held;
 mod member;
+mod number;
 
 // 7, and 8 to 10 on the top level: its members as entries of the table, and how many they are. What a refusal leaves in the
 // table is `topTable` too.
@@ -37,7 +45,7 @@ pub fn top(message: &[u8], table: &mut [u32]) -> Stage
     ensures { λ r. ⌜ r ≡ stageOf (first (topOrder (now (message .entry)))) (length (topEntries (now (message .entry)))) ⌝ }
     ensures { λ _. ⌜ now (table .exit) ≡ topTable (now (message .entry)) (now (table .entry)) ⌝ }
 {
-    let judged = json::judge(message, 12);
+    let judged = json::judge(message, LEVELS);
     let Found::Value(_, _) = judged else {
         return Stage::Refused(7);
     };
@@ -64,12 +72,12 @@ pub fn recipients(message: &[u8], table: &[u32], count: usize, into: &mut [usize
     ensures { λ r. ⌜ r ≡ stageOf (first (elementsOrder (now (message .entry)) (entriesOf count (now (table .entry))))) (length (recipientsIn (now (message .entry)) (entriesOf count (now (table .entry))))) ⌝ }
     ensures { λ _. ⌜ now (into .exit) ≡ written 0 (flatRecipients (writtenIn (now (message .entry)) (entriesOf count (now (table .entry))))) (now (into .entry)) ⌝ }
 {
-    if !rows::ask::present(table, count, 5) {
+    if !rows::ask::present(table, count, number::RECIPIENTS) {
         element::put(table, count, into, 0);
         return Stage::Passed(1);
     }
-    let mut starts = [0usize; 8];
-    let at = rows::ask::value_of(table, count, 5).start;
+    let mut starts = [0usize; MOST_RECIPIENTS];
+    let at = rows::ask::value_of(table, count, number::RECIPIENTS).start;
     let walked = element::walk(message, at, &mut starts);
     let Stage::Passed(n) = walked else {
         return walked;

@@ -1,6 +1,6 @@
-// 10 on the members of an object of the message, by their entries. What each function answers stands in specs/Shape. Of
-// an entry's numbers, 3 and 4 are the value's place, 5 its kind (0 object, 1 array, 2 string), and 6 which of the known
-// members it is (2 `unprotected`, 3 `header`, 4 `encrypted_key`, 5 `recipients`, 8 `ciphertext`).
+// 10 on the members of an object of the message, by their entries. What each function answers stands in specs/Shape. A kind is 0
+// for an object, 1 for an array and 2 for a string; a number is one of `number`: 2 `unprotected`, 3 `header`, 4 `encrypted_key`,
+// 5 `recipients`, 8 `ciphertext`.
 ghost use mathlib.Core.Path.{_≡_};
 ghost use Prim.Native.Nat.{_+_, _*_, _≤_};
 ghost use lib.ListN.{length, drop};
@@ -9,25 +9,27 @@ ghost use Rattle.prelude.specs.Any.{any};
 ghost use Rattle.rows.specs.Tables.{firstOf, entriesOf, width};
 ghost use Rattle.shape.specs.Shape.{wrongComponent, hollow, wrongHeader, wrongMember, wrongTop};
 ghost use Rattle.shape.specs.Shape.{wrongInElement, wrongElement};
+use crate::number;
 use json::Position;
 use rows::ask::field;
 use rows::ask::present;
+use rows::layout;
 
 // Whether an entry is no component: a string without a backslash, and not empty unless it is the ciphertext.
 fn wrong_component(message: &[u8], table: &[u32], i: usize) -> bool
     requires { ⌜ i * width + width ≤ length (now table) ⌝ }
     ensures { λ r. ⌜ r ≡ wrongComponent (now (message .entry)) (firstOf (drop (i * width) (now (table .entry)))) ⌝ }
 {
-    if field(table, i, 5) != 2 {
+    if field(table, i, layout::KIND) != 2 {
         return true;
     }
     if parts::holds(rows::ask::value(message, table, i), 92) {
         return true;
     }
-    if field(table, i, 6) == 8 {
+    if field(table, i, layout::NUMBER) == 8 {
         return false;
     }
-    field(table, i, 4) == 2
+    field(table, i, layout::VALUE_SIZE) == 2
 }
 
 // Whether nothing stands in the object that begins at a position.
@@ -46,10 +48,10 @@ fn wrong_header(message: &[u8], table: &[u32], i: usize) -> bool
     requires { ⌜ i * width + width ≤ length (now table) ⌝ }
     ensures { λ r. ⌜ r ≡ wrongHeader (now (message .entry)) (firstOf (drop (i * width) (now (table .entry)))) ⌝ }
 {
-    if field(table, i, 5) != 0 {
+    if field(table, i, layout::KIND) != 0 {
         return true;
     }
-    hollow(message, field(table, i, 3))
+    hollow(message, field(table, i, layout::VALUE_START))
 }
 
 // Whether an entry is a known member that is wrong.
@@ -57,7 +59,7 @@ fn wrong_member(message: &[u8], table: &[u32], i: usize) -> bool
     requires { ⌜ i * width + width ≤ length (now table) ⌝ }
     ensures { λ r. ⌜ r ≡ wrongMember (now (message .entry)) (firstOf (drop (i * width) (now (table .entry)))) ⌝ }
 {
-    let number = field(table, i, 6);
+    let number = field(table, i, layout::NUMBER);
     if number == 0 {
         return false;
     }
@@ -68,7 +70,7 @@ fn wrong_member(message: &[u8], table: &[u32], i: usize) -> bool
         return wrong_header(message, table, i);
     }
     if number == 5 {
-        return field(table, i, 5) != 1;
+        return field(table, i, layout::KIND) != 1;
     }
     wrong_component(message, table, i)
 }
@@ -96,16 +98,16 @@ pub(crate) fn wrong_top(message: &[u8], table: &[u32], count: usize) -> bool
     if some_wrong(message, table, count) {
         return true;
     }
-    if !present(table, count, 8) {
+    if !present(table, count, number::CIPHERTEXT) {
         return true;
     }
-    if !present(table, count, 5) {
+    if !present(table, count, number::RECIPIENTS) {
         return false;
     }
-    if present(table, count, 3) {
+    if present(table, count, number::HEADER) {
         return true;
     }
-    present(table, count, 4)
+    present(table, count, number::ENCRYPTED_KEY)
 }
 
 // Whether an entry is `header` or `encrypted_key`, the members that an element knows, and wrong.
@@ -113,7 +115,7 @@ fn wrong_in_element(message: &[u8], table: &[u32], i: usize) -> bool
     requires { ⌜ i * width + width ≤ length (now table) ⌝ }
     ensures { λ r. ⌜ r ≡ wrongInElement (now (message .entry)) (firstOf (drop (i * width) (now (table .entry)))) ⌝ }
 {
-    let number = field(table, i, 6);
+    let number = field(table, i, layout::NUMBER);
     if number == 3 {
         return wrong_member(message, table, i);
     }

@@ -7,7 +7,7 @@ use Rattle.prelude.specs.Ascii.{ascii}
 use Rattle.names.specs.Names.{listOf, numberIn}
 use Rattle.names.proofs.Contents.{names-of, filled-list}
 use Rattle.rows.specs.Rows.{texts, valueIn}
-use Rattle.rows.specs.Tables.{firstOf}
+use Rattle.rows.specs.Tables.{firstOf, width}
 use Rattle.algorithms.specs.Algorithms.{algs, algName, algNames, nth, namedAlg}
 use Rattle.algorithms.proofs.Numbered.{unlisted-mode, listed-mode}
 use borrow.Author.Needs.{needs}
@@ -34,7 +34,7 @@ returns : tie.Need-returns
 unfolding listOf flatten ascii algs algName algNames
 returns c =
     let args = c .before .before .before .before .before .before .before .before .before .args in
-    let value = valueIn (texts (args .header .now) (args .shared .now) (args .own .now)) (firstOf (drop (args .i * 8) (args .table .now))) in
+    let value = valueIn (texts (args .header .now) (args .shared .now) (args .own .now)) (firstOf (drop (args .i * width) (args .table .now))) in
     unlisted-mode (nth algs (numberIn algNames value))
     (sym (c .enum-told .given .1) ∙ c .before .before .numbered .ensures
     ∙ ap (λ (n : ℕ). namedAlg (nth algs n))
@@ -49,7 +49,7 @@ unfolding listOf flatten ascii algs algName algNames
 returns-2 c =
     let numbered = c .before .before .before .before in
     let args = numbered .before .before .before .before .before .before .before .args in
-    let value = valueIn (texts (args .header .now) (args .shared .now) (args .own .now)) (firstOf (drop (args .i * 8) (args .table .now))) in
+    let value = valueIn (texts (args .header .now) (args .shared .now) (args .own .now)) (firstOf (drop (args .i * width) (args .table .now))) in
     c .mode .ensures
     ∙ listed-mode (nth algs (numberIn algNames value)) _
     (sym (c .before .before .alg .given .1) ∙ numbered .numbered .ensures

@@ -8,7 +8,7 @@ use Rattle.prelude.specs.Ascii.{ascii}
 use Rattle.names.specs.Names.{listOf, numberIn}
 use Rattle.names.proofs.Contents.{names-of, filled-list}
 use Rattle.rows.specs.Rows.{texts, valueIn}
-use Rattle.rows.specs.Tables.{firstOf}
+use Rattle.rows.specs.Tables.{firstOf, width}
 use Rattle.algorithms.specs.Algorithms.{algs, algName, algNames, encs, encName, encNames, zipNames}
 use Rattle.jose.proofs.Asked.{number-at, alg-value, enc-value, zip-value, no-value}
 use borrow.Author.Needs.{needs}
@@ -39,7 +39,7 @@ unfolding listOf flatten ascii algs algName algNames
 returns c =
     let args = c .before .before .before .before .before .before .before .before .args in
     let ts = texts (args .header .now) (args .shared .now) (args .own .now) in
-    let e = firstOf (drop (args .i * 8) (args .table .now)) in
+    let e = firstOf (drop (args .i * width) (args .table .now)) in
     ap (λ (n : ℕ). eqb n 0)
     (c .number-in .ensures ∙ ap (λ (ns : List (List ℕ)). numberIn ns (valueIn ts e)) (names-of algNames))
     ∙ alg-value ts e (number-at (args .table .now) (args .i) 6 ∙ c .before .before .if1 .taken)
@@ -56,7 +56,7 @@ unfolding listOf flatten ascii encs encName encNames
 returns-2 c =
     let args = c .before .before .before .before .before .before .before .before .before .args in
     let ts = texts (args .header .now) (args .shared .now) (args .own .now) in
-    let e = firstOf (drop (args .i * 8) (args .table .now)) in
+    let e = firstOf (drop (args .i * width) (args .table .now)) in
     ap (λ (n : ℕ). eqb n 0)
     (c .number-in2 .ensures ∙ ap (λ (ns : List (List ℕ)). numberIn ns (valueIn ts e)) (names-of encNames))
     ∙ enc-value ts e (number-at (args .table .now) (args .i) 6 ∙ c .before .before .if2 .taken)
@@ -73,7 +73,7 @@ unfolding listOf flatten ascii zipNames
 returns-3 c =
     let args = c .before .before .before .before .before .before .before .before .before .before .args in
     let ts = texts (args .header .now) (args .shared .now) (args .own .now) in
-    let e = firstOf (drop (args .i * 8) (args .table .now)) in
+    let e = firstOf (drop (args .i * width) (args .table .now)) in
     ap (λ (n : ℕ). eqb n 0)
     (c .number-in3 .ensures ∙ ap (λ (ns : List (List ℕ)). numberIn ns (valueIn ts e)) (names-of zipNames))
     ∙ zip-value ts e (number-at (args .table .now) (args .i) 6 ∙ c .before .before .if3 .taken)
@@ -82,7 +82,7 @@ returns-4 : tie.Need-returns-4
 returns-4 c =
     let args = c .before .before .before .before .before .before .before .before .args in
     let number = number-at (args .table .now) (args .i) 6 in
-    no-value (texts (args .header .now) (args .shared .now) (args .own .now)) (firstOf (drop (args .i * 8) (args .table .now)))
+    no-value (texts (args .header .now) (args .shared .now) (args .own .now)) (firstOf (drop (args .i * width) (args .table .now)))
     (λ e. c .before .before .if1 .left (sym number ∙ e)) (λ e. c .before .if2 .left (sym number ∙ e))
     (λ e. c .if3 .left (sym number ∙ e))
 

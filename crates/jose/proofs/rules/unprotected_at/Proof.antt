@@ -4,7 +4,7 @@ use mathlib.Core.Bool.{not}
 use Prim.Native.Nat.{ℕ, _*_}
 use lib.ListN.{drop}
 use lib.Dec.{eqb}
-use Rattle.rows.specs.Tables.{firstOf}
+use Rattle.rows.specs.Tables.{firstOf, width}
 use Rattle.jose.proofs.Asked.{number-at, origin-at, zip-outside, crit-outside, no-outside}
 use borrow.Author.Needs.{needs}
 use Rattle.jose.proofs.rules.unprotected_at.Statement.{statement}
@@ -36,21 +36,21 @@ returns c =
     let args = c .before .before .before .args in
     let t = args .table .now in
     ap (λ (o : ℕ). not (eqb o 0)) (sym (origin-at t (args .i)))
-    ∙ zip-outside (firstOf (drop (args .i * 8) t)) (number-at t (args .i) 6 ∙ c .if1 .taken)
+    ∙ zip-outside (firstOf (drop (args .i * width) t)) (number-at t (args .i) 6 ∙ c .if1 .taken)
 
 returns-2 : tie.Need-returns-2
 returns-2 c =
     let args = c .before .before .before .before .args in
     let t = args .table .now in
     ap (λ (o : ℕ). not (eqb o 0)) (sym (origin-at t (args .i)))
-    ∙ crit-outside (firstOf (drop (args .i * 8) t)) (number-at t (args .i) 6 ∙ c .if2 .taken)
+    ∙ crit-outside (firstOf (drop (args .i * width) t)) (number-at t (args .i) 6 ∙ c .if2 .taken)
 
 returns-3 : tie.Need-returns-3
 returns-3 c =
     let args = c .before .before .before .before .args in
     let t = args .table .now in
     let number = number-at t (args .i) 6 in
-    no-outside (firstOf (drop (args .i * 8) t))
+    no-outside (firstOf (drop (args .i * width) t))
     (λ e. c .before .if1 .left (sym number ∙ e)) (λ e. c .if2 .left (sym number ∙ e))
 
 pub unprotected-at-spec : {M : Type 1} → statement M

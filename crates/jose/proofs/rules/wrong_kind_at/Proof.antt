@@ -4,7 +4,7 @@ use mathlib.Core.Bool.{not}
 use Prim.Native.Nat.{ℕ, _*_}
 use lib.ListN.{drop}
 use lib.Dec.{eqb}
-use Rattle.rows.specs.Tables.{firstOf}
+use Rattle.rows.specs.Tables.{firstOf, width}
 use Rattle.jose.specs.Registered.{kindAsked}
 use Rattle.jose.proofs.Asked.{number-at, free, bound}
 use borrow.Author.Needs.{needs}
@@ -30,7 +30,7 @@ returns : tie.Need-returns
 returns c =
     let args = c .before .before .before .before .args in
     let t = args .table .now in
-    free (firstOf (drop (args .i * 8) t)) (c .before .kind-asked .result)
+    free (firstOf (drop (args .i * width) t)) (c .before .kind-asked .result)
     (c .before .kind-asked .ensures ∙ ap kindAsked (sym (number-at t (args .i) 6))) (c .if1 .taken)
 
 add-result : tie.Need-add-result
@@ -48,7 +48,7 @@ returns-2 c =
     let t = args .table .now in
     let asked = c .before .before .kind-asked .result in
     ap (λ (k : ℕ). not (eqb asked k)) (sym (number-at t (args .i) 5))
-    ∙ bound (firstOf (drop (args .i * 8) t)) asked
+    ∙ bound (firstOf (drop (args .i * width) t)) asked
     (c .before .before .kind-asked .ensures ∙ ap kindAsked (sym (number-at t (args .i) 6))) (c .before .if1 .left)
 
 pub wrong-kind-at-spec : {M : Type 1} → statement M

@@ -9,6 +9,7 @@ use Rattle.jwe.proofs.OwnHeaders.{own-part}
 use borrow.Author.Needs.{needs}
 use Rattle.jwe.proofs.general.gather.Statement.{statement}
 use Rattle.jwe.proofs.general.gather.Tie as tie
+use Rattle.rows.specs.Tables.{width, headerTable}
 
 mul-count : tie.Need-mul-count
 mul-count c = search needs
@@ -56,8 +57,8 @@ returns c =
     let count = getD (args .counts .now) (args .i) 0 in (
       refl,
       c .before .before .copy .ensures
-          ∙ ap (λ (l : List ℕ). written (args .front * 8) l (args .table .now))
-          (own-part (args .own .now) (args .i * 256) count (omega (arith, start .pre))),
+          ∙ ap (λ (l : List ℕ). written (args .front * width) l (args .table .now))
+          (own-part (args .own .now) (args .i * headerTable) count (omega (arith, start .pre))),
     )
 
 pub gather-spec : {M : Type 1} → statement M

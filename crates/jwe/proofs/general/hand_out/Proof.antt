@@ -6,7 +6,7 @@ use native.Mathlib.Omega.{arith}
 use lib.ListN.{length, drop}
 use Rattle.grammar.specs.Places.{Place}
 use Rattle.rows.specs.Rows.{Entry, readTexts}
-use Rattle.rows.specs.Tables.{entriesOf}
+use Rattle.rows.specs.Tables.{entriesOf, width}
 use Rattle.rows.proofs.Entries.{entries-length}
 use Rattle.jose.specs.HeaderRules.{modeIn}
 use Rattle.headers.specs.Components.{withKey}
@@ -37,7 +37,7 @@ gathers : (c : tie.After-gather) →
     let last = c .gather .last .1 .1 .1 .0 in
     (entriesOf (c .gather .result) last
     ≡ entriesOf (args .front) (args .table .now) ++ ownEntries (args .message .now) (this (start c)))
-    × ((c .gather .result * 8 ≤ length last) × (length last ≡ length (args .table .now)))
+    × ((c .gather .result * width ≤ length last) × (length last ≡ length (args .table .now)))
 gathers c =
     let args = start c .args in
     let pre = start c .pre in

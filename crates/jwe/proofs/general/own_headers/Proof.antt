@@ -8,9 +8,11 @@ use lib.ListN.{length, drop, length-set}
 use Rattle.rows.specs.Rows.{Entry}
 use Rattle.rows.specs.Tables.{collectedTable}
 use Rattle.prelude.specs.Refusals.{Test, first, stageOf}
+use Rattle.prelude.specs.Limits.{mostMembers}
 use Rattle.headers.specs.Headers.{objectOrder}
 use Rattle.headers.proofs.Stages.{passed-is, refused-is, refuses, passes}
 use Rattle.shape.specs.Shape.{Recipient}
+use Rattle.shape.specs.Inner.Answers.{recipientWidth}
 use Rattle.jwe.specs.General.{ownEntries}
 use Rattle.jwe.specs.Inner.Stages.{HeaderKnown, recipientAt, recipientsOf, Owned, LeavesOwn, ownTests}
 use Rattle.jwe.proofs.JsonOrder.{object-nonzero}
@@ -40,9 +42,9 @@ abbrev μ-loop : tie.MeasureT-loop
 answered : (c : tie.After-unprotected Inv-loop μ-loop) →
     let args = c .before .before .before .before .before .before .before .before .before .args in
     let es = ownEntries (args .message .now) (recipientAt (drop (c .before .before .before
-    .before .loop .i * 3) (args .of .now))) in
+    .before .loop .i * recipientWidth) (args .of .now))) in
     (c .unprotected .result ≡ stageOf (first (objectOrder (args .message .now) es)) (length es))
-    × (c .unprotected .last .1 .1 .1 .0 ≡ collectedTable (c .before .before .before .before .loop .i * 32) es (c
+    × (c .unprotected .last .1 .1 .1 .0 ≡ collectedTable (c .before .before .before .before .loop .i * mostMembers) es (c
     .before .before .before .before .loop .own))
 answered c =
     let args = c .before .before .before .before .before .before .before .before .before .args in
@@ -51,7 +53,7 @@ answered c =
       c .unprotected .ensures .0
           ∙ ap (λ (es : List Entry). stageOf (first (objectOrder message es)) (length es)) same,
       c .unprotected .ensures .1
-          ∙ ap (λ (es : List Entry). collectedTable (c .before .before .before .before .loop .i * 32) es (c .before
+          ∙ ap (λ (es : List Entry). collectedTable (c .before .before .before .before .loop .i * mostMembers) es (c .before
           .before .before .before .loop .own)) same,
     )
 
@@ -115,7 +117,7 @@ returns c =
     let message = args .message .now in
     let loop = c .before .before .before .before .before .before .before .before .loop in
     let said = answered (c .before .before .before .before) in
-    let r = recipientAt (drop (loop .i * 3) (args .of .now)) in
+    let r = recipientAt (drop (loop .i * recipientWidth) (args .of .now)) in
     let told = refused-is _ (first (tests message r)) (length (ownEntries message r)) (sym (c .enum-told .given .1) ∙ said .0) in
     let all = one-refuses (tests message) (λ r. object-nonzero message (ownEntries message r)) _ (args .number) (loop .i)
     (args .of .now) (loop .inv .1 .1 .1 .1) (c .before .before .before .before .before .before
@@ -144,7 +146,7 @@ loop-again c =
     let message = args .message .now in
     let loop = c .before .before .before .before .before .before .before .before .before .loop in
     let said = answered (c .before .before .before .before .before) in
-    let r = recipientAt (drop (loop .i * 3) (args .of .now)) in
+    let r = recipientAt (drop (loop .i * recipientWidth) (args .of .now)) in
     let told = passed-is _ (first (tests message r)) (length (ownEntries message r)) (sym (c
     .before .object .given .1) ∙ said .0) in
     let short = few message (ownEntries message r) (told .0) in

@@ -10,7 +10,7 @@ use Rattle.names.specs.Names.{names}
 use Rattle.grammar.specs.Places.{Place}
 use Rattle.rows.specs.Rows.{Entry, readTexts}
 use Rattle.rows.specs.Inner.Prints.{Printed}
-use Rattle.rows.specs.Tables.{entriesOf}
+use Rattle.rows.specs.Tables.{entriesOf, width}
 use Rattle.rows.proofs.Printing.{printed-append}
 use Rattle.prelude.specs.Refusals.{Test, first, stageOf}
 use Rattle.jose.specs.declared.Sizes.{Sizes}
@@ -20,6 +20,7 @@ use Rattle.headers.proofs.Stages.{passed-is, refused-is, refuses, passes}
 use Rattle.headers.specs.Components.{Components, withKey, sizesOf}
 use Rattle.headers.specs.Answers.{componentsOf}
 use Rattle.shape.specs.Shape.{Recipient}
+use Rattle.shape.specs.Inner.Answers.{recipientWidth}
 use Rattle.jwe.specs.General.{ownEntries}
 use Rattle.jwe.specs.Inner.Stages.{recipientAt, recipientsOf, ruleTests}
 use Rattle.jwe.proofs.CompactOrder.{rules-nonzero}
@@ -67,7 +68,7 @@ abbrev front : tie.Start Inv-loop μ-loop → List Entry
 front s = entriesOf (s .args .front) (s .args .table .now)
 
 abbrev this : tie.At-loop Inv-loop μ-loop → Recipient
-this at = recipientAt (drop (at .loop .i * 3) (start at .args .of .now))
+this at = recipientAt (drop (at .loop .i * recipientWidth) (start at .args .of .now))
 
 abbrev asked : tie.Start Inv-loop μ-loop → Recipient → List Test
 asked s =
@@ -86,7 +87,7 @@ copied : (c : tie.After-gather Inv-loop μ-loop) →
     let args = start at .args in
     let last = c .gather .last .1 .1 .1 .0 in
     (entriesOf (c .gather .result) last ≡ front (start at) ++ ownEntries (args .message .now) (this at))
-    × ((c .gather .result * 8 ≤ length last)
+    × ((c .gather .result * width ≤ length last)
     × ((length last ≡ length (args .table .now)) × (entriesOf (args .front) last ≡ front (start at))))
 copied c =
     let at = loop-of c in
@@ -96,7 +97,7 @@ copied c =
     let loop = at .loop in
     let call = c .gather .ensures in
     let o = start at .pre .1 .1 .1 .1 .1 .0 (loop .i) (c .before .before .loop-test .taken) in
-    let fits : args .front * 8 + 256 ≤ length (loop .table) =
+    let fits : args .front * width + 256 ≤ length (loop .table) =
     omega (arith, loop .inv .1 .0, start at .pre .1 .1 .1 .1 .1 .1 .0) in
     let own = args .own .now in
     let counts = args .counts .now in

@@ -18,22 +18,22 @@ use Rattle.report.proofs.lines.put_parameter.Tie as tie
 -- The parts, and the text from each on.
 
 abbrev origin : tie.Start → List ℕ
-origin s = ended (word (getD (s .args .six .now) 0 0 + 1) origins) space
+origin s = ended (word (getD (s .args .row .now) 0 0 + 1) origins) space
 
 abbrev name-start : tie.Start → List ℕ
-name-start s = ended (decimal (getD (s .args .six .now) 1 0)) space
+name-start s = ended (decimal (getD (s .args .row .now) 1 0)) space
 
 abbrev name-size : tie.Start → List ℕ
-name-size s = ended (decimal (getD (s .args .six .now) 2 0)) space
+name-size s = ended (decimal (getD (s .args .row .now) 2 0)) space
 
 abbrev value-start : tie.Start → List ℕ
-value-start s = ended (decimal (getD (s .args .six .now) 3 0)) space
+value-start s = ended (decimal (getD (s .args .row .now) 3 0)) space
 
 abbrev value-size : tie.Start → List ℕ
-value-size s = ended (decimal (getD (s .args .six .now) 4 0)) space
+value-size s = ended (decimal (getD (s .args .row .now) 4 0)) space
 
 abbrev kind : tie.Start → List ℕ
-kind s = ended (word (getD (s .args .six .now) 5 0 + 1) kinds) lineFeed
+kind s = ended (word (getD (s .args .row .now) 5 0 + 1) kinds) lineFeed
 
 abbrev from-value-size : tie.Start → List ℕ
 from-value-size s = value-size s ++ kind s
@@ -49,7 +49,7 @@ from-name-start s = name-start s ++ from-name-size s
 
 -- The output at a position, with what is still to come.
 abbrev Wrote : tie.Start → List ℕ → ℕ → List ℕ → Type 0
-Wrote s rest at out = Writing (s .args .at) (parameterLine (firstOf (s .args .six .now))) (s .args .out .now) rest at out
+Wrote s rest at out = Writing (s .args .at) (parameterLine (firstOf (s .args .row .now))) (s .args .out .now) rest at out
 
 -- Back to the start, from behind each part.
 

@@ -5,7 +5,7 @@ use Prim.Native.Nat.{ℕ, _+_, _-_, _*_, _≤_}
 use native.Mathlib.Omega.{arith}
 use lib.ListN.{length, take, drop, length-take, length-drop}
 use Rattle.prelude.proofs.Writing.{Writing, begin-as, put-part, room-part, ended}
-use Rattle.rows.specs.Tables.{firstOf}
+use Rattle.rows.specs.Tables.{firstOf, listWidth}
 use Rattle.report.specs.Report.{parameterLine}
 use Rattle.report.specs.Answers.{listLines}
 use Rattle.report.proofs.Listing.{linesFrom, lines-all, lines-next, lines-none}
@@ -49,9 +49,9 @@ put-parameter-requires c κs =
     let start = c .before .before .before .before .before .before in
     let list = start .args .list .now in
     let loop = c .before .before .before .loop in
-    let from = drop (loop .i * 6) list in (
-      length-take (loop .i * 6 + 6 - loop .i * 6) from ∙ omega (arith, length-drop (loop .i * 6) list),
-      room-part (parameterLine (firstOf (take (loop .i * 6 + 6 - loop .i * 6) from))) _
+    let from = drop (loop .i * listWidth) list in (
+      length-take (loop .i * listWidth + listWidth - loop .i * listWidth) from ∙ omega (arith, length-drop (loop .i * listWidth) list),
+      room-part (parameterLine (firstOf (take (loop .i * listWidth + listWidth - loop .i * listWidth) from))) _
           (lines-next (start .args .count) list (loop .i) (c .before .before .loop-test .taken)) (loop .inv .1),
     )
 
@@ -68,7 +68,7 @@ loop-again c =
     let loop = c .before .before .before .before .before .before .loop in
     let call = c .before .before .put-parameter in (
       omega arith,
-      put-part (parameterLine (firstOf (take (loop .i * 6 + 6 - loop .i * 6) (drop (loop .i * 6) list)))) _
+      put-part (parameterLine (firstOf (take (loop .i * listWidth + listWidth - loop .i * listWidth) (drop (loop .i * listWidth) list)))) _
           (lines-next (start .args .count) list (loop .i) (c .before .before .before .before .before .loop-test .taken)) (loop .inv .1) (call .ensures .0)
           (call .ensures .1),
     )

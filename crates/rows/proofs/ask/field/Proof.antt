@@ -6,6 +6,7 @@ use lib.Seq.{getD-drop}
 use borrow.Author.Needs.{needs}
 use Rattle.rows.proofs.ask.field.Statement.{statement}
 use Rattle.rows.proofs.ask.field.Tie as tie
+use Rattle.rows.specs.Tables.{width}
 
 mul-result : tie.Need-mul-result
 mul-result c = search needs
@@ -22,13 +23,13 @@ shared-slice-read-result c = search needs
 cast-result : tie.Need-cast-result
 cast-result c =
     let args = c .before .args in
-    omega (arith, c .shared-slice-known .given (args .i * 8 + args .k))
+    omega (arith, c .shared-slice-known .given (args .i * width + args .k))
 
 returns : tie.Need-returns
 returns c =
     let args = c .before .args in (
-      sym (getD-drop (args .i * 8) (args .table .now) (args .k) 0),
-      omega (arith, c .shared-slice-known .given (args .i * 8 + args .k)),
+      sym (getD-drop (args .i * width) (args .table .now) (args .k) 0),
+      omega (arith, c .shared-slice-known .given (args .i * width + args .k)),
     )
 
 pub field-spec : {M : Type 1} → statement M

@@ -6,6 +6,7 @@ use native.Mathlib.Omega.{arith}
 use lib.ListN.{length}
 use borrow.Author.Needs.{needs}
 use Rattle.prelude.specs.Buffer.{AllBelow}
+use Rattle.prelude.specs.Limits.{numberLimit}
 use Rattle.names.specs.Names.{names}
 use Rattle.grammar.specs.Reader.{membersAt}
 use Rattle.json.proofs.Within.{members-below}
@@ -46,13 +47,13 @@ fill-requires c κs =
     let got = c .before .before .before .answer .given in
     let ms = membersAt 12 (args .text .now) (args .at) in
     let told = sym (got .1) ∙ rows .ensures .0 in
-    let short : length (args .text .now) < 4294967296 = omega (arith, start .pre .0) in
-    let below = members-below 12 (args .text .now) (args .at) 4294967296 short (omega arith) in (
+    let short : length (args .text .now) < numberLimit = omega (arith, start .pre .0) in
+    let below = members-below 12 (args .text .now) (args .at) numberLimit short (omega arith) in (
       start .pre .1 .0,
       (
         omega (arith, few ms (got .0 .0) told),
         (
-          subst (AllBelow 4294967296) (sym (rows-laid ms (got .0 .0) told _ _ (rows .ensures .1))) below,
+          subst (AllBelow numberLimit) (sym (rows-laid ms (got .0 .0) told _ _ (rows .ensures .1))) below,
           omega (arith, few ms (got .0 .0) told, start .pre .1 .1 .0),
         ),
       ),

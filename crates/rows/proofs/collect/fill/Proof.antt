@@ -7,18 +7,20 @@ use lib.ListN.{take, drop, length-take, length-drop}
 use borrow.Author.Needs.{needs}
 use Rattle.names.specs.Names.{names}
 use Rattle.prelude.proofs.Writing.{Writing, put-part, done}
+use Rattle.prelude.specs.Limits.{numberLimit}
 use Rattle.rows.specs.Rows.{entryOf, entriesIn}
-use Rattle.rows.specs.Tables.{eight, flat}
+use Rattle.rows.specs.Tables.{tableRow, flat, width}
 use Rattle.rows.specs.Inner.Members.{firstMember, membersOf}
 use Rattle.rows.proofs.Collecting.{below-inside, entries-next, entries-none, entries-begin}
 use Rattle.rows.proofs.collect.fill.Statement.{statement}
 use Rattle.rows.proofs.collect.fill.Tie as tie
+use Rattle.json.specs.Members.{memberWidth}
 
 abbrev Inv-loop : tie.InvT-loop
 Inv-loop text origin list rows count table₀ from i₀ table i =
     (i ≤ count)
-    × Writing (from * 8) (flat (entriesIn (names list) text origin (membersOf count rows))) table₀
-    (flat (entriesIn (names list) text origin (membersOf (count - i) (drop (i * 5) rows)))) ((from + i) * 8) table
+    × Writing (from * width) (flat (entriesIn (names list) text origin (membersOf count rows))) table₀
+    (flat (entriesIn (names list) text origin (membersOf (count - i) (drop (i * memberWidth) rows)))) ((from + i) * width) table
 
 abbrev μ-loop : tie.MeasureT-loop
 μ-loop text origin list rows count table₀ from i₀ table i = count - i
@@ -63,12 +65,12 @@ put-requires c κs =
     let start = c .before .before .before .before .before .before .before .before in
     let loop = c .before .before .before .loop in
     let rows = start .args .rows .now in
-    let at = loop .i * 5 in (
+    let at = loop .i * memberWidth in (
       start .pre .0,
       (
-        length-take (at + 5 - at) (drop at rows) ∙ omega (arith, length-drop at rows, start .pre .1 .0),
+        length-take (at + memberWidth - at) (drop at rows) ∙ omega (arith, length-drop at rows, start .pre .1 .0),
         (
-          below-inside 4294967296 (at + 5 - at) at (start .args .count * 5) rows (start .pre .1 .1 .0) (omega arith)
+          below-inside numberLimit (at + memberWidth - at) at (start .args .count * memberWidth) rows (start .pre .1 .1 .0) (omega arith)
               (start .pre .1 .0),
           omega (arith, loop .inv .1 .same, start .pre .1 .1 .1),
         ),
@@ -90,14 +92,14 @@ loop-again c =
     let origin = start .args .origin in
     let count = start .args .count in
     let rows = start .args .rows .now in
-    let at = loop .i * 5 in
-    let row = take (at + 5 - at) (drop at rows) in
+    let at = loop .i * memberWidth in
+    let row = take (at + memberWidth - at) (drop at rows) in
     let more = c .before .before .before .before .before .loop-test .taken in
-    let next = entries-next list text origin count (loop .i) rows (at + 5 - at) (omega arith) more in
-    let behind = membersOf (count - (loop .i + 1)) (drop ((loop .i + 1) * 5) rows) in
+    let next = entries-next list text origin count (loop .i) rows (at + memberWidth - at) (omega arith) more in
+    let behind = membersOf (count - (loop .i + 1)) (drop ((loop .i + 1) * memberWidth) rows) in
     let later = flat (entriesIn list text origin behind) in (
       omega arith,
-      put-part (eight (entryOf list text origin (firstMember row))) later next (loop .inv .1) (omega arith)
+      put-part (tableRow (entryOf list text origin (firstMember row))) later next (loop .inv .1) (omega arith)
           (c .before .before .put .ensures),
     )
 
@@ -114,7 +116,7 @@ returns c =
     let all = flat (entriesIn list text (args .origin) (membersOf (args .count) rows)) in
     let none = entries-none list text (args .origin) (args .count) (loop .i) rows (c .loop-test .left) in
     done (subst
-    (λ (l : List ℕ). Writing (args .from * 8) all (args .table .now) l ((args .from + loop .i) * 8) (loop .table))
+    (λ (l : List ℕ). Writing (args .from * width) all (args .table .now) l ((args .from + loop .i) * width) (loop .table))
     none (loop .inv .1))
 
 pub fill-spec : {M : Type 1} → statement M

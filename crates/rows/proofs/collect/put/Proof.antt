@@ -6,9 +6,10 @@ use lib.ListN.{length-set}
 use borrow.Author.Needs.{needs}
 use Rattle.prelude.proofs.Lists.{below-at}
 use Rattle.prelude.proofs.Writing.{begin-as, put, done}
+use Rattle.prelude.specs.Limits.{numberLimit}
 use Rattle.names.specs.Names.{names}
 use Rattle.rows.specs.Rows.{entryOf}
-use Rattle.rows.specs.Tables.{eight}
+use Rattle.rows.specs.Tables.{tableRow}
 use Rattle.rows.specs.Inner.Members.{firstMember}
 use Rattle.rows.proofs.Collecting.{entry-numbers}
 use Rattle.rows.proofs.collect.put.Statement.{statement}
@@ -39,7 +40,7 @@ cast-table : tie.Need-cast-table
 cast-table c =
     let start = c .before .before .before .before .before .before .before .before .before in
     let row = start .args .row .now in
-    record { fits = below-at 4294967296 row (start .pre .1 .1 .0) 0 (omega (arith, start .pre .1 .0)) }
+    record { fits = below-at numberLimit row (start .pre .1 .1 .0) 0 (omega (arith, start .pre .1 .0)) }
 
 add-table : tie.Need-add-table
 add-table c = search needs
@@ -54,7 +55,7 @@ cast-table-2 : tie.Need-cast-table-2
 cast-table-2 c =
     let start = c .before .before .before .before .before .before .before .before .before in
     let row = start .args .row .now in
-    record { fits = below-at 4294967296 row (start .pre .1 .1 .0) 1 (omega (arith, start .pre .1 .0)) }
+    record { fits = below-at numberLimit row (start .pre .1 .1 .0) 1 (omega (arith, start .pre .1 .0)) }
 
 add-table-2 : tie.Need-add-table-2
 add-table-2 c = search needs
@@ -72,7 +73,7 @@ cast-table-3 : tie.Need-cast-table-3
 cast-table-3 c =
     let start = c .before .before .before .before .before .before .before .before .before .before in
     let row = start .args .row .now in
-    record { fits = below-at 4294967296 row (start .pre .1 .1 .0) 2 (omega (arith, start .pre .1 .0)) }
+    record { fits = below-at numberLimit row (start .pre .1 .1 .0) 2 (omega (arith, start .pre .1 .0)) }
 
 add-table-3 : tie.Need-add-table-3
 add-table-3 c = search needs
@@ -90,7 +91,7 @@ cast-table-4 : tie.Need-cast-table-4
 cast-table-4 c =
     let start = c .before .before .before .before .before .before .before .before .before .before .before in
     let row = start .args .row .now in
-    record { fits = below-at 4294967296 row (start .pre .1 .1 .0) 3 (omega (arith, start .pre .1 .0)) }
+    record { fits = below-at numberLimit row (start .pre .1 .1 .0) 3 (omega (arith, start .pre .1 .0)) }
 
 add-table-4 : tie.Need-add-table-4
 add-table-4 c = search needs
@@ -108,7 +109,7 @@ cast-table-5 : tie.Need-cast-table-5
 cast-table-5 c =
     let start = c .before .before .before .before .before .before .before .before .before .before .before .before in
     let row = start .args .row .now in
-    record { fits = below-at 4294967296 row (start .pre .1 .1 .0) 4 (omega (arith, start .pre .1 .0)) }
+    record { fits = below-at numberLimit row (start .pre .1 .1 .0) 4 (omega (arith, start .pre .1 .0)) }
 
 add-table-5 : tie.Need-add-table-5
 add-table-5 c = search needs
@@ -151,7 +152,7 @@ returns c =
     let found = c .before .before .before .before .find in
     let print = c .before .before .before .fingerprint in
     let name = c .before .before .before .before .before .part in
-    let entry = eight (entryOf list text origin (firstMember row)) in
+    let entry = tableRow (entryOf list text origin (firstMember row)) in
     let is = entry-numbers list text origin row (name .result .now) (found .result) (print .result)
     (name .ensures .0) (found .ensures) (print .ensures) in
     let opened = begin-as at entry _ (start .args .table .now) is (start .pre .1 .1 .1) in
@@ -160,8 +161,8 @@ returns c =
     let three = put _ (at + 3) (omega arith) two in
     let four = put _ (at + 4) (omega arith) three in
     let five = put _ (at + 5) (omega arith) four in
-    let six = put _ (at + 6) (omega arith) five in
-    let seven = put _ (at + 7) (omega arith) six in
+    let listRow = put _ (at + 6) (omega arith) five in
+    let seven = put _ (at + 7) (omega arith) listRow in
     done (put _ (at + 8) (omega arith) seven)
 
 pub put-spec : {M : Type 1} → statement M

@@ -7,6 +7,7 @@ use Rattle.rows.proofs.Laying.{six-part}
 use borrow.Author.Needs.{needs}
 use Rattle.rows.proofs.copy.lay_one.Statement.{statement}
 use Rattle.rows.proofs.copy.lay_one.Tie as tie
+use Rattle.rows.specs.Tables.{width, listWidth}
 
 mul-start : tie.Need-mul-start
 mul-start c = search needs
@@ -40,7 +41,7 @@ returns c =
     let start = c .before .before .before .before .before .before .before in
     let i = start .args .i in
     c .before .before .copy .ensures
-    ∙ ap (λ (l : List ℕ). written (i * 6) l (start .args .list .now)) (six-part (start .args .table .now) (i * 8) (start .pre .0))
+    ∙ ap (λ (l : List ℕ). written (i * listWidth) l (start .args .list .now)) (six-part (start .args .table .now) (i * width) (start .pre .0))
 
 pub lay-one-spec : {M : Type 1} → statement M
 lay-one-spec =
