@@ -65,10 +65,13 @@ pub fn sizes(q: Components) -> Sizes
     }
 }
 
-// Whether a component is not base64url.
+// Whether a component is not base64url. An empty one is; many are, and absent ones too.
 pub fn misspelled(message: &[u8], place: Place) -> bool
     ensures { λ r. ⌜ r ≡ misspelled (now (message .entry)) (placeOf place) ⌝ }
 {
+    if place.len == 0 {
+        return false;
+    }
     let checked = base64url::check(parts::part(message, place.start, place.len));
     let Checked::Sound = checked else {
         return true;

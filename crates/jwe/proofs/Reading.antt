@@ -22,6 +22,7 @@ use Rattle.jwe.specs.Judge.{Call, Outcome, order, refusal, outcome, acce
 use Rattle.jwe.specs.Inner.Outcomes.{compactOutcome, jsonOutcome}
 use Rattle.jwe.specs.Judge.{result, headerAfter, listAfter}
 use Rattle.jwe.specs.Answers.{numbers, Judges}
+use Rattle.jwe.specs.Inner.Stages.{tableRoom}
 use Rattle.jwe.specs.declared.Result.{Result}
 use Rattle.jwe.proofs.Outcomes.{by-form}
 
@@ -122,13 +123,18 @@ module _ (c : Call) (header list : List ℕ) where
         ),
       )
 
+-- The largest room for entries.
+pub room-most : (json : Bool) → tableRoom json ≤ 768
+room-most true = omega arith
+room-most false = omega arith
+
 -- What is known of an accepted message: what is written fits, and stands where it is read.
 pub record Holds (x : Outcome) (text table : List ℕ) (n count : ℕ) : Type 0 where
   pub size : n ≡ length (x .header)
   pub front : take n text ≡ x .header
   pub within : length (x .header) ≤ 4096
   pub entries : entriesOf count table ≡ x .entries
-  pub few : count * width ≤ 768
+  pub few : count * width ≤ length table
 
 written-most : (xs before : List ℕ) → length xs ≤ length (written 0 xs before)
 unfolding written
@@ -137,9 +143,9 @@ written-most xs before = omega (arith, length-append xs (drop (0 + length xs) be
 pub holds : (message : List ℕ) (x : Outcome) (r : Result) (text₀ text table : List ℕ) →
     numbers r ≡ accepted message x → text ≡ written 0 (x .header) text₀ →
     (length (x .entries) * width ≤ length table) × (entriesOf (length (x .entries)) table ≡ x .entries) →
-    length text ≡ 4096 → length table ≡ 768 → Holds x text table (r .header) (r .parameters)
+    length text ≡ 4096 → Holds x text table (r .header) (r .parameters)
 unfolding accepted
-holds message x r text₀ text table e f g room space =
+holds message x r text₀ text table e f g room =
     let size : r .header ≡ length (x .header) = ap (λ (l : List ℕ). getD l 16 0) e in
     let count : r .parameters ≡ length (x .entries) = ap (λ (l : List ℕ). getD l 17 0) e in
     record {
@@ -147,5 +153,5 @@ holds message x r text₀ text table e f g room space =
       front = begins (r .header) (x .header) text text₀ (sym size) f;
       within = omega (arith, written-most (x .header) text₀, ap length f, room);
       entries = ap (λ (n : ℕ). entriesOf n table) count ∙ g .1;
-      few = omega (arith, count, g .0, space);
+      few = omega (arith, count, g .0);
     }

@@ -6,7 +6,7 @@ ghost use lib.ListN.{length};
 ghost use Rattle.names.specs.Names.{names, filled};
 ghost use Rattle.prelude.specs.Limits.{headerRoom, longest};
 ghost use Rattle.prelude.specs.Any.{any};
-ghost use Rattle.rows.specs.Tables.{recipientTable};
+ghost use Rattle.rows.specs.Tables.{headerTable};
 ghost use Rattle.headers.specs.Components.{misspelled, places};
 ghost use Rattle.jwe.specs.Compact.{between, fourStops, compactComponents, compactOrder};
 ghost use Rattle.jwe.specs.Inner.Outcomes.{compactOutcome};
@@ -102,7 +102,7 @@ fn judge_header(
     requires { ⌜ any (misspelled (now message)) (places (componentsOf q)) ≡ false ⌝ }
     requires { ⌜ filled (now known) ≡ true ⌝ }
     requires { ⌜ length (now text) ≡ headerRoom ⌝ }
-    requires { ⌜ length (now table) ≡ recipientTable ⌝ }
+    requires { ⌜ length (now table) ≡ headerTable ⌝ }
     ensures { λ r. ⌜ Judges (now (message .entry)) (compactOrder (now (message .entry)) (names (now (known .entry))) recipient) (compactOutcome (now (message .entry))) r (now (text .entry)) (now (text .exit)) (now (table .entry)) (now (table .exit)) ⌝ }
 {
     let decoded = headers::header(message, q.protected, text);
@@ -151,7 +151,7 @@ pub(crate) fn judge(
     requires { ⌜ length (now message) ≤ longest ⌝ }
     requires { ⌜ filled (now known) ≡ true ⌝ }
     requires { ⌜ length (now text) ≡ headerRoom ⌝ }
-    requires { ⌜ length (now table) ≡ recipientTable ⌝ }
+    requires { ⌜ length (now table) ≡ headerTable ⌝ }
     ensures { λ r. ⌜ Judges (now (message .entry)) (compactOrder (now (message .entry)) (names (now (known .entry))) recipient) (compactOutcome (now (message .entry))) r (now (text .entry)) (now (text .exit)) (now (table .entry)) (now (table .exit)) ⌝ }
 {
     let found = split(message);

@@ -3,14 +3,14 @@ ghost use mathlib.Core.Path.{_≡_};
 ghost use mathlib.Core.Bool.{true, cond};
 ghost use Prim.Native.Nat.{_≤_};
 ghost use lib.ListN.{length};
-ghost use Rattle.prelude.specs.Limits.{headerRoom, longest};
-ghost use Rattle.names.specs.Names.{names, filled};
+ghost use Rattle.prelude.specs.Limits.{headerRoom, listRoom, longest};
+ghost use Rattle.names.specs.Names.{names, filled, sound};
 ghost use Rattle.grammar.specs.Reader.{opensObject};
-ghost use Rattle.rows.specs.Tables.{recipientTable};
 ghost use Rattle.jwe.specs.Compact.{compactOrder};
 ghost use Rattle.jwe.specs.General.{jsonOrder};
 ghost use Rattle.jwe.specs.Judge.{call, outcome, result, refused, headerAfter, listAfter};
 ghost use Rattle.jwe.specs.Answers.{numbers, refusedBy, Judges};
+ghost use Rattle.jwe.specs.Inner.Stages.{tableRoom};
 use headers::Components;
 use prelude::Place;
 use prelude::Stage;
@@ -70,13 +70,48 @@ fn judge(message: &[u8], known: &[u8], recipient: u32, text: &mut [u8], table: &
     requires { ⌜ length (now message) ≤ longest ⌝ }
     requires { ⌜ filled (now known) ≡ true ⌝ }
     requires { ⌜ length (now text) ≡ headerRoom ⌝ }
-    requires { ⌜ length (now table) ≡ recipientTable ⌝ }
+    requires { ⌜ length (now table) ≡ tableRoom (opensObject (now message)) ⌝ }
     ensures { λ r. ⌜ Judges (now (message .entry)) (cond (opensObject (now (message .entry))) (jsonOrder (now (message .entry)) (names (now (known .entry))) recipient) (compactOrder (now (message .entry)) (names (now (known .entry))) recipient)) (outcome (now (message .entry)) recipient) r (now (text .entry)) (now (text .exit)) (now (table .entry)) (now (table .exit)) ⌝ }
 {
     if json::opens_object(message) {
         return general::judge(message, known, recipient, text, table);
     }
     compact::judge(message, known, recipient, text, table)
+}
+
+// A message that has passed 1 to 3, judged and handed out: what judging wrote to memory of its own is copied to what was lent. The
+// table's contents are free afterwards; it is the caller's own.
+fn hand_over(
+    message: &[u8],
+    known: &[u8],
+    recipient: u32,
+    table: &mut [u32],
+    header: &mut [u8],
+    list: &mut [u32],
+) -> Result
+    requires { ⌜ length (now message) ≤ longest ⌝ }
+    requires { ⌜ sound (now known) ≡ true ⌝ }
+    requires { ⌜ length (now table) ≡ tableRoom (opensObject (now message)) ⌝ }
+    requires { ⌜ headerRoom ≤ length (now header) ⌝ }
+    requires { ⌜ listRoom ≤ length (now list) ⌝ }
+    ensures { λ r. ⌜ numbers r
+        ≡ result (call (now (message .entry)) (now (known .entry)) recipient
+        (length (now (header .entry))) (length (now (list .entry)))) ⌝ }
+    ensures { λ _. ⌜ now (header .exit)
+        ≡ headerAfter (call (now (message .entry)) (now (known .entry)) recipient
+        (length (now (header .entry))) (length (now (list .entry)))) (now (header .entry)) ⌝ }
+    ensures { λ _. ⌜ now (list .exit)
+        ≡ listAfter (call (now (message .entry)) (now (known .entry)) recipient
+        (length (now (header .entry))) (length (now (list .entry)))) (now (list .entry)) ⌝ }
+{
+    let mut text = [0u8; HEADER_ROOM];
+    let result = judge(message, known, recipient, &mut text, table);
+    if result.number != 0 {
+        return result;
+    }
+    prelude::copy_octets(&text[..result.header], header, 0);
+    rows::copy::lay(table, result.parameters, list);
+    result
 }
 
 // Reads a message for a recipient. `known` lists the extension names that the caller knows. Accepted, the header buffer
@@ -111,13 +146,10 @@ pub fn read(
     if !names::sound(known) {
         return refused(3);
     }
-    let mut text = [0u8; HEADER_ROOM];
-    let mut table = [0u32; rows::layout::RECIPIENT_TABLE];
-    let result = judge(message, known, recipient, &mut text, &mut table);
-    if result.number != 0 {
-        return result;
+    if json::opens_object(message) {
+        let mut three = [0u32; rows::layout::RECIPIENT_TABLE];
+        return hand_over(message, known, recipient, &mut three, header, list);
     }
-    prelude::copy_octets(&text[..result.header], header, 0);
-    rows::copy::lay(&table, result.parameters, list);
-    result
+    let mut one = [0u32; rows::layout::HEADER_TABLE];
+    hand_over(message, known, recipient, &mut one, header, list)
 }

@@ -1,7 +1,8 @@
 -- `judge` hands up what the path answers that the message opens.
-use mathlib.Core.Path.{sym, _∙_}
+use mathlib.Core.Path.{ap, sym, _∙_}
 use mathlib.Core.Bool.{true, false}
 use Rattle.names.specs.Names.{names}
+use Rattle.jwe.specs.Inner.Stages.{tableRoom}
 use Rattle.jwe.proofs.Reading.{judges-as}
 use borrow.Author.Needs.{needs}
 use Rattle.jwe.proofs.judge.Statement.{statement}
@@ -11,7 +12,11 @@ opens-object-requires : tie.Need-opens-object-requires
 opens-object-requires c κs = search needs
 
 judge-requires : tie.Need-judge-requires
-judge-requires c κs = search needs
+judge-requires c κs =
+    let asked = c .before .before .before in
+    let pre = asked .before .before .before .before .before .pre in
+    let opens = sym (asked .opens-object .ensures) ∙ c .before .before .if1 .taken in
+    (pre .0, (pre .1 .0, (pre .1 .1 .0, pre .1 .1 .1 ∙ ap tableRoom opens)))
 
 same-length : tie.Need-same-length
 same-length c = search needs
@@ -29,7 +34,11 @@ returns c =
     (call .judge .last .1 .1 .1 .0) (given .table .now) (call .judge .last .1 .1 .1 .1 .0) (call .judge .ensures)
 
 judge-requires-2 : tie.Need-judge-requires-2
-judge-requires-2 c κs = search needs
+judge-requires-2 c κs =
+    let asked = c .before .before .before in
+    let pre = asked .before .before .before .before .before .pre in
+    let opens = sym (asked .opens-object .ensures) ∙ c .before .before .if1 .left in
+    (pre .0, (pre .1 .0, (pre .1 .1 .0, pre .1 .1 .1 ∙ ap tableRoom opens)))
 
 same-length-3 : tie.Need-same-length-3
 same-length-3 c = search needs

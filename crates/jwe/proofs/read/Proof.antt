@@ -1,23 +1,12 @@
--- `read` asks 1 to 3 and hands out what judging answers; what judging wrote to its own memory is copied out.
-use mathlib.Core.Path.{_≡_, refl, ap, sym, _∙_}
-use mathlib.Core.Bool.{true}
-use mathlib.Core.List.{List}
-use Prim.Native.Nat.{ℕ, _<_}
+-- `read` asks 1 to 3 and hands over the rest, with as large a table as the form needs.
+use mathlib.Core.Path.{ap, sym, _∙_}
 use native.Mathlib.Omega.{arith}
 use lib.ListN.{length}
 use borrow.Author.Tests.{not-true, not-false}
-use Rattle.prelude.specs.Buffer.{written}
-use Rattle.names.specs.Names.{names, sound}
-use Rattle.names.proofs.Laws.{sound-filled}
-use Rattle.rows.specs.Rows.{Entry}
-use Rattle.rows.specs.Tables.{listed}
-use Rattle.prelude.specs.Refusals.{first}
-use Rattle.jwe.specs.Judge.{Call, call, refusal, outcome, accepted}
-use Rattle.jwe.specs.Answers.{numbers}
-use Rattle.jwe.proofs.Answering.{number-is, answered-refused, answered-accepted}
-use Rattle.jwe.proofs.Reading.{judging, Holds, holds}
-use Rattle.jwe.proofs.Reading.{answers-refused, answers-accepted}
-use Rattle.jwe.proofs.Reading.{refusal-header, refusal-list, refusal-long, refusal-names, refusal-judged}
+use Rattle.jwe.specs.Judge.{Call, call}
+use Rattle.jwe.specs.Inner.Stages.{tableRoom}
+use Rattle.jwe.proofs.Reading.{answers-refused}
+use Rattle.jwe.proofs.Reading.{refusal-header, refusal-list, refusal-long, refusal-names}
 use borrow.Author.Needs.{needs}
 use Rattle.jwe.proofs.read.Statement.{statement}
 use Rattle.jwe.proofs.read.Tie as tie
@@ -27,64 +16,6 @@ abbrev called : tie.Start → Call
 called s =
     let given = s .args in
     call (given .message .now) (given .known .now) (given .recipient) (length (given .header .now)) (length (given .list .now))
-
--- Back from behind `judge` to the start.
-abbrev start-of : tie.After-judge → tie.Start
-start-of c =
-    let asked = c .before .before .before .before .before .before .before in
-    asked .before .before .before .before .before
-
--- the list of names is sound
-names-sound : (c : tie.After-judge) → sound (start-of c .args .known .now) ≡ true
-names-sound c = sym (c .before .before .before .before .sound .ensures) ∙ not-false _ (c .before .before .before .if4 .left)
-
--- what is refused is what judging refuses
-judged-first : (c : tie.After-judge) →
-    let given = start-of c .args in
-    refusal (called (start-of c)) ≡ first (judging (given .message .now) (names (given .known .now)) (given .recipient))
-judged-first c =
-    refusal-judged (called (start-of c))
-    (c .before .before .before .before .before .before .before .if1 .left) (c .before .before .before .before .before .before .if2 .left) (c .before .before .before .before .before .if3 .left) (names-sound c)
-
--- the result's first number is that refusal
-number-first : (c : tie.After-judge) →
-    let given = start-of c .args in
-    c .judge .result .number ≡ first (judging (given .message .now) (names (given .known .now)) (given .recipient))
-number-first c =
-    let given = start-of c .args in
-    number-is (given .message .now) (outcome (given .message .now) (given .recipient)) _ (c .judge .result)
-    (c .judge .ensures .answers)
-
--- where it accepts: that nothing is refused, and what is answered
-abbrev judged-of : tie.Else5 → tie.After-judge
-judged-of c = c .before .before .before .before
-
-passes : (c : tie.Else5) →
-    let given = start-of (judged-of c) .args in
-    first (judging (given .message .now) (names (given .known .now)) (given .recipient)) ≡ 0
-passes c = sym (number-first (judged-of c)) ∙ c .if5 .left
-
-accepts : (c : tie.Else5) →
-    let given = start-of (judged-of c) .args in
-    numbers (judged-of c .judge .result)
-    ≡ accepted (given .message .now) (outcome (given .message .now) (given .recipient))
-accepts c =
-    let given = start-of (judged-of c) .args in
-    judged-of c .judge .ensures .answers
-    ∙ sym (answered-accepted (given .message .now) (outcome (given .message .now) (given .recipient)) (passes c))
-
--- what its own memory holds then
-held : (c : tie.Else5) →
-    let call = judged-of c in
-    let given = start-of call .args in
-    Holds (outcome (given .message .now) (given .recipient)) (call .judge .last .1 .1 .1 .0)
-    (call .judge .last .1 .1 .1 .1 .0) (call .judge .result .header) (call .judge .result .parameters)
-held c =
-    let call = judged-of c in
-    let given = start-of call .args in
-    let k = call .judge .ensures in
-    holds (given .message .now) _ _ _ _ _ (accepts c) (k .header (passes c)) (k .entries (passes c) .1) (search needs)
-    (search needs)
 
 refused-requires : tie.Need-refused-requires
 refused-requires c κs = search needs
@@ -133,54 +64,25 @@ returns-4 c =
     (sym (c .before .before .sound .ensures) ∙ not-true _ (c .before .if4 .taken))) (omega arith)
     (c .refused4 .result) (c .refused4 .ensures)
 
-slice-aggregate-judge : tie.Need-slice-aggregate-judge
-slice-aggregate-judge c = search needs
+opens-object-requires : tie.Need-opens-object-requires
+opens-object-requires c κs = search needs
 
-slice-aggregate-judge-2 : tie.Need-slice-aggregate-judge-2
-slice-aggregate-judge-2 c = search needs
+slice-aggregate-hand-over : tie.Need-slice-aggregate-hand-over
+slice-aggregate-hand-over c = search needs
 
-judge-requires : tie.Need-judge-requires
-judge-requires c κs = (
-  c .before .before .before .before .if3 .left,
-  (
-    sound-filled _ (sym (c .before .before .before .sound .ensures) ∙ not-false _ (c .before .before .if4 .left)),
-    (search needs, search needs),
-  ),
-)
-
-returns-5 : tie.Need-returns-5
-returns-5 c =
-    let call = c .before .before .before .before in
-    let given = start-of call .args in
-    let message = given .message .now in
-    let n = first (judging message (names (given .known .now)) (given .recipient)) in
-    let some : 0 < n = omega (arith, number-first call, c .if5 .taken) in
-    answers-refused (called (start-of call)) (given .header .now) (given .list .now) n (judged-first call) some
-    (call .judge .result)
-    (call .judge .ensures .answers
-    ∙ sym (answered-refused message (outcome message (given .recipient)) refl some))
-
-array-share-prefix-text : tie.Need-array-share-prefix-text
-array-share-prefix-text c = omega (arith, held c .size, held c .within)
-
-slice-aggregate-copy-octets : tie.Need-slice-aggregate-copy-octets
-slice-aggregate-copy-octets c = let h = held (c .before) in h .size ∙ sym (ap length (h .front))
-
-copy-octets-requires : tie.Need-copy-octets-requires
-copy-octets-requires c κs =
-    let h = held (c .before .before) in
-    let call = judged-of (c .before .before) in
-    omega (arith, ap length (h .front), h .within, call .before .before .before .before .before .before .before .if1 .left)
-
-slice-aggregate-lay : tie.Need-slice-aggregate-lay
-slice-aggregate-lay c = search needs
-
-lay-requires : tie.Need-lay-requires
-lay-requires c κs =
-    let told = c .before .before .before .before .before .before .before in
-    let h = held told in
-    let call = judged-of told in
-    (omega (arith, h .few), omega (arith, h .few, call .before .before .before .before .before .before .if2 .left))
+hand-over-requires : tie.Need-hand-over-requires
+hand-over-requires c κs =
+    let asked = c .before .before .before .before .before .before in
+    let opens = sym (c .before .before .before .before .opens-object .ensures) ∙ c .before .before .before .if5 .taken in (
+      asked .before .if3 .left,
+      (
+        sym (asked .sound .ensures) ∙ not-false _ (c .before .before .before .before .before .if4 .left),
+        (
+          ap tableRoom (sym opens),
+          (asked .before .before .before .if1 .left, asked .before .before .if2 .left),
+        ),
+      ),
+    )
 
 same-length : tie.Need-same-length
 same-length c = search needs
@@ -188,16 +90,34 @@ same-length c = search needs
 same-length-2 : tie.Need-same-length-2
 same-length-2 c = search needs
 
+returns-5 : tie.Need-returns-5
+returns-5 c = c .before .before .before .before .before .hand-over .ensures
+
+slice-aggregate-hand-over-2 : tie.Need-slice-aggregate-hand-over-2
+slice-aggregate-hand-over-2 c = search needs
+
+hand-over-requires-2 : tie.Need-hand-over-requires-2
+hand-over-requires-2 c κs =
+    let asked = c .before .before .before .before .before .before in
+    let opens = sym (c .before .before .before .before .opens-object .ensures) ∙ c .before .before .before .if5 .left in (
+      asked .before .if3 .left,
+      (
+        sym (asked .sound .ensures) ∙ not-false _ (c .before .before .before .before .before .if4 .left),
+        (
+          ap tableRoom (sym opens),
+          (asked .before .before .before .if1 .left, asked .before .before .if2 .left),
+        ),
+      ),
+    )
+
+same-length-3 : tie.Need-same-length-3
+same-length-3 c = search needs
+
+same-length-4 : tie.Need-same-length-4
+same-length-4 c = search needs
+
 returns-6 : tie.Need-returns-6
-returns-6 c =
-    let told = c .before .before .before .before .before .before .before .before .before .before in
-    let call = judged-of told in
-    let given = start-of call .args in
-    let h = held told in
-    answers-accepted (called (start-of call)) (given .header .now) (given .list .now)
-    (judged-first call ∙ passes told) (call .judge .result) (accepts told) _ _
-    (c .before .before .before .before .before .before .before .copy-octets .ensures ∙ ap (λ (x : List ℕ). written 0 x (given .header .now)) (h .front))
-    (c .before .before .lay .ensures ∙ ap (λ (es : List Entry). written 0 (listed es) (given .list .now)) (h .entries))
+returns-6 c = c .before .before .before .before .before .hand-over2 .ensures
 
 pub read-spec : {M : Type 1} → statement M
 read-spec =
@@ -212,15 +132,14 @@ read-spec =
     sound-requires
     refused-requires-4
     returns-4
-    slice-aggregate-judge
-    slice-aggregate-judge-2
-    judge-requires
-    returns-5
-    array-share-prefix-text
-    slice-aggregate-copy-octets
-    copy-octets-requires
-    slice-aggregate-lay
-    lay-requires
+    opens-object-requires
+    slice-aggregate-hand-over
+    hand-over-requires
     same-length
     same-length-2
+    returns-5
+    slice-aggregate-hand-over-2
+    hand-over-requires-2
+    same-length-3
+    same-length-4
     returns-6)

@@ -10,7 +10,7 @@ use Rattle.grammar.specs.Grammar.{curly}
 use Rattle.grammar.specs.Bounds.{Every}
 use Rattle.json.specs.Inner.Known.{KnownIn}
 use Rattle.rows.specs.Rows.{Entry, readTexts}
-use Rattle.rows.specs.Tables.{entriesOf, headerTable}
+use Rattle.rows.specs.Tables.{entriesOf, headerTable, recipientTable}
 use Rattle.prelude.specs.Refusals.{Test, _if_, first}
 use Rattle.jose.specs.HeaderRules.{recipientOrder}
 use Rattle.headers.specs.Headers.{textOrder, outermost, protectedEntries, objectOrder}
@@ -24,6 +24,11 @@ use Rattle.jwe.specs.General.{ownEntries, isHollow}
 use Rattle.jwe.specs.Judge.{Outcome, answered, asked}
 use Rattle.jwe.specs.Answers.{numbers, BeginsWith}
 use Rattle.jwe.specs.declared.Result.{Result}
+
+-- The room for the entries that are handed out: those of a recipient's three headers where the message is JSON, else of the
+-- protected one.
+abbrev pub tableRoom : Bool → ℕ
+tableRoom json = cond json recipientTable headerTable
 
 -- The recipients of a table
 
