@@ -1,8 +1,10 @@
 //! Makes what the program `conformance` reads and what it has to print: `expected FOLDER` writes `stdin` and `stdout`
-//! there. A case is a message written by hand with the number that document 01 gives it, 0 where it is accepted. What the
-//! program reads is made from the cases; what it has to print is made from that, field by field, by the second reader of
-//! the host tests. Where the second reader's number is not the one set down, the case is named and nothing is written.
+//! there. A case is a message written by hand with the number that document 01 gives it, 0 where it is accepted. What
+//! the program reads is made from the cases; what it has to print is made from that, field by field, by the second
+//! reader of the host tests. Where the second reader's number is not the one set down, the case is named and nothing is
+//! written.
 
+mod escapes;
 mod headers;
 mod list;
 mod orders;
@@ -94,19 +96,20 @@ fn fault(case: &Case, answer: &Answer) -> Option<String> {
     if answer.refusal == 0 && answer.form != case.form as u32 {
         return Some(format!("read as {}, not {form}", FORMS[answer.form as usize]));
     }
-    match &case.numbers {
-        Some(expected) if *expected != numbers(answer) => {
-            Some(format!("expected {expected:?}, the second reader hands out {:?}", numbers(answer)))
-        }
-        _ => None,
+    let handed = numbers(answer);
+    if case.numbers.as_ref().is_some_and(|expected| *expected != handed) {
+        return Some(format!("expected {:?}, the second reader hands out {handed:?}", case.numbers));
     }
+    let mode = (answer.recipients, answer.mode);
+    let other = case.mode.filter(|expected| *expected != mode);
+    other.map(|expected| format!("recipients and mode are {expected:?}, the second reader has {mode:?}"))
 }
 
 /// The numbers that no message of a form gets. 2 needs a message of over 16 MiB, more than the program has room for.
 ///
 /// Compact: there is no JSON message whose shape could be wrong (10; a header without members is 13), one recipient
-/// (11), and one header, the protected one (12, 16). Flattened: a full stop is an octet of the JSON text (4), and there is
-/// one recipient (11). General: 4 as in flattened.
+/// (11), and one header, the protected one (12, 16). Flattened: a full stop is an octet of the JSON text (4), and there
+/// is one recipient (11). General: 4 as in flattened.
 fn never(form: usize) -> &'static [u32] {
     [&[2, 10, 11, 12, 16][..], &[2, 4, 11], &[2, 4]][form]
 }
@@ -154,5 +157,6 @@ fn main() {
     std::fs::write(folder.join("stdin"), &stdin).expect("stdin is written");
     std::fs::write(folder.join("stdout"), &stdout).expect("stdout is written");
     let groups: Vec<String> = cases.groups().iter().map(|(group, count)| format!("{group} {count}")).collect();
-    println!("conformance: {} cases ({}), {} and {} octets", cases.list.len(), groups.join(", "), stdin.len(), stdout.len());
+    let (count, groups) = (cases.list.len(), groups.join(", "));
+    println!("conformance: {count} cases ({groups}), {} and {} octets", stdin.len(), stdout.len());
 }

@@ -17,6 +17,8 @@ pub struct Case {
     pub message: Vec<u8>,
     /// Where they were counted by hand: the 18 numbers and the list.
     pub numbers: Option<Vec<u32>>,
+    /// Where it is known by a table of the papers: the recipient count and the mode.
+    pub mode: Option<(u32, u32)>,
 }
 
 impl Case {
@@ -43,8 +45,14 @@ impl Case {
         self
     }
 
-    pub fn handing(&mut self, numbers: &[u32]) {
+    pub fn handing(&mut self, numbers: &[u32]) -> &mut Self {
         self.numbers = Some(numbers.to_vec());
+        self
+    }
+
+    pub fn in_mode(&mut self, recipients: u32, mode: u32) -> &mut Self {
+        self.mode = Some((recipients, mode)).filter(|_| self.number == 0);
+        self
     }
 }
 
@@ -64,6 +72,7 @@ impl Cases {
         cases.group("lent", Cases::lent);
         cases.group("orders", Cases::orders);
         cases.group("spelling", Cases::spelling);
+        cases.group("escapes", Cases::escapes);
         cases.group("shapes", Cases::shapes);
         cases.group("headers", Cases::headers);
         cases
@@ -82,7 +91,8 @@ impl Cases {
 
     fn add(&mut self, number: u32, form: usize, what: impl Into<String>, message: impl Into<Vec<u8>>) -> &mut Case {
         let (what, message) = (what.into(), message.into());
-        self.list.push(Case { number, form, what, recipient: '0', room: '-', known: vec![0], message, numbers: None });
+        let (recipient, room, known) = ('0', '-', vec![0]);
+        self.list.push(Case { number, form, what, recipient, room, known, message, numbers: None, mode: None });
         self.list.last_mut().expect("a case")
     }
 
@@ -166,6 +176,22 @@ pub fn general(elements: &str) -> String {
 pub fn members(prefix: &str, count: usize) -> String {
     (0..count).map(|i| format!(r#""{prefix}{i}":0"#)).collect::<Vec<_>>().join(",")
 }
+
+/// A text for a case's name: what is not printable ASCII by its code point.
+pub fn shown(text: &str) -> String {
+    let character = |c: char| match c {
+        ' '..='~' => c.to_string(),
+        _ => format!("<U+{:04X}>", c as u32),
+    };
+    text.chars().map(character).collect()
+}
+
+/// Document 01's table of modes.
+pub const ALGS: [(u32, &str); 17] = [
+    (1, "RSA1_5"), (1, "RSA-OAEP"), (1, "RSA-OAEP-256"), (2, "A128KW"), (2, "A192KW"), (2, "A256KW"), (2, "A128GCMKW"),
+    (2, "A192GCMKW"), (2, "A256GCMKW"), (2, "PBES2-HS256+A128KW"), (2, "PBES2-HS384+A192KW"), (2, "PBES2-HS512+A256KW"),
+    (3, "ECDH-ES"), (4, "ECDH-ES+A128KW"), (4, "ECDH-ES+A192KW"), (4, "ECDH-ES+A256KW"), (5, "dir"),
+];
 
 /// A list of known names.
 pub fn known(names: &[&str]) -> Vec<u8> {

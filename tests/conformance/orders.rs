@@ -1,5 +1,5 @@
-//! The orders of document 01, 'Numbers of refusal, in order': a sound message of each form, each fault in it alone, and two
-//! faults at once, of which the one that comes first in the order gives the number.
+//! The orders of document 01, 'Numbers of refusal, in order': a sound message of each form, each fault in it alone, and
+//! two faults at once, of which the one that comes first in the order gives the number.
 
 use crate::list::{encoded, known, members, Cases};
 
@@ -202,10 +202,10 @@ fn exclude(first: &Fault, second: &Fault) -> bool {
 impl Cases {
     pub fn orders(&mut self) {
         for form in 0..3 {
-            self.placed("no fault", 0, Parts::sound(form), &[]);
+            self.placed("the message of the orders without a fault", 0, Parts::sound(form), &[]);
             let faults = faults(form);
             for (i, first) in faults.iter().enumerate() {
-                let name = format!("only {}{}", first.number, first.place);
+                let name = format!("{}{} and no other fault", first.number, first.place);
                 self.placed(&name, first.number, Parts::sound(form), &[first]);
                 for (j, second) in faults.iter().enumerate().skip(i + 1) {
                     // Neighbours; a smaller number that comes later, once in each kind of place; 19 after every rule.
@@ -216,8 +216,7 @@ impl Cases {
                     if first.number == second.number || exclude(first, second) || !(near || smaller || last) {
                         continue;
                     }
-                    let name =
-                        format!("{}{} before {}{}", first.number, first.place, second.number, second.place);
+                    let name = format!("{}{} before {}{}", first.number, first.place, second.number, second.place);
                     self.placed(&name, first.number, Parts::sound(form), &[first, second]);
                 }
             }

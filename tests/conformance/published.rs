@@ -1,6 +1,6 @@
 //! The messages that RFC 7516 and RFC 7520 print: each recipient, and in general messages one past the last.
 
-use crate::list::Cases;
+use crate::list::{Cases, ALGS};
 use crate::FORMS;
 use std::path::Path;
 
@@ -15,11 +15,12 @@ impl Cases {
             let message = std::fs::read(vectors.join(file)).expect(file);
             let form = FORMS.iter().position(|name| *name == form).expect("a form");
             let recipients: u32 = recipients.parse().expect("a number");
-            // RFC 7520 prints one message in two forms under one section; two are named general and are flattened.
+            // RFC 7520 prints a message in up to three forms under one section; two printed as general are flattened.
             let printed = file.rsplit('-').next().and_then(|end| end.strip_suffix(".jwe")).expect("a form");
             for (recipient, alg) in algs.split(", ").enumerate() {
                 let what = format!("{section}, printed as {printed}, recipient {recipient}, {alg}");
-                self.of_form(form, 0, what, message.clone()).asking(digit(recipient));
+                let (mode, _) = ALGS.into_iter().find(|(_, listed)| *listed == alg).expect("a listed alg");
+                self.of_form(form, 0, what, message.clone()).asking(digit(recipient)).in_mode(recipients, mode);
             }
             if form == 2 {
                 let what = format!("{section}, recipient {recipients} of {recipients}");

@@ -1,5 +1,5 @@
-//! Document 01's belt samples and messages whose answers were counted by hand; then what is lent: the room (1), the known
-//! names (3), and the recipient that is asked for (19).
+//! Document 01's belt samples and messages whose answers were counted by hand; then what is lent: the room (1), the
+//! known names (3), and the recipient that is asked for (19).
 
 use crate::list::{compact, flat, general, json, keyed, known, protected, with, Cases, DIR, H, M, T10};
 
@@ -31,8 +31,8 @@ impl Cases {
         ];
         self.general(0, "places, the first of two", text).handing(&first);
         let second = [
-            0, 2, 2, 2, 0, 0, 62, 4, 192, 3, 0, 0, 173, 0, 182, 2, 0, 3, 1, 143, 3, 148, 9, 2, 2, 84, 3, 91, 8, 2, 2, 103,
-            8, 115, 5, 1,
+            0, 2, 2, 2, 0, 0, 62, 4, 192, 3, 0, 0, 173, 0, 182, 2, 0, 3, 1, 143, 3, 148, 9, 2, 2, 84, 3, 91, 8, 2, 2,
+            103, 8, 115, 5, 1,
         ];
         self.general(0, "places, the second of two", text).asking('1').handing(&second);
 
@@ -41,16 +41,17 @@ impl Cases {
             r#""protected":"eyJhbGciOiJBMTI4S1cifQ","ciphertext":"AA"}"#,
         );
         let flattened = [
-            0, 1, 1, 2, 90, 22, 72, 3, 0, 0, 0, 0, 128, 2, 0, 0, 16, 5, 0, 2, 3, 7, 8, 2, 2, 12, 3, 17, 9, 2, 2, 28, 0, 30,
-            4, 6, 2, 36, 1, 39, 6, 3, 2, 47, 1, 50, 3, 0,
+            0, 1, 1, 2, 90, 22, 72, 3, 0, 0, 0, 0, 128, 2, 0, 0, 16, 5, 0, 2, 3, 7, 8, 2, 2, 12, 3, 17, 9, 2, 2, 28, 0,
+            30, 4, 6, 2, 36, 1, 39, 6, 3, 2, 47, 1, 50, 3, 0,
         ];
         self.flattened(0, "places, a protected and an own header", text).handing(&flattened);
 
         // Kinds 0 to 6, and a value's place without the space around it.
         let header = r#" { "alg" : "dir" ,"enc":"A128GCM","o": {} ,"a":[ ],"n":0 ,"t":true,"f": false,"z":null } "#;
         let seven = [
-            0, 0, 1, 5, 0, 119, 120, 0, 121, 2, 0, 0, 124, 4, 129, 2, 89, 8, 0, 4, 3, 11, 5, 2, 0, 19, 3, 24, 9, 2, 0, 35,
-            1, 39, 2, 0, 0, 44, 1, 47, 3, 1, 0, 52, 1, 55, 1, 3, 0, 59, 1, 62, 4, 4, 0, 68, 1, 72, 5, 5, 0, 79, 1, 82, 4, 6,
+            0, 0, 1, 5, 0, 119, 120, 0, 121, 2, 0, 0, 124, 4, 129, 2, 89, 8, 0, 4, 3, 11, 5, 2, 0, 19, 3, 24, 9, 2, 0,
+            35, 1, 39, 2, 0, 0, 44, 1, 47, 3, 1, 0, 52, 1, 55, 1, 3, 0, 59, 1, 62, 4, 4, 0, 68, 1, 72, 5, 5, 0, 79, 1,
+            82, 4, 6,
         ];
         self.compact(0, "places, each kind", compact(header)).handing(&seven);
         let absent = json(&format!(r#""unprotected":{{{DIR}}}"#));
@@ -58,15 +59,16 @@ impl Cases {
         self.compact(0, "all components empty but the header", format!("{H}...."));
         let all = format!(r#""protected":"{H}","iv":"AA","aad":"AA","tag":"AA""#);
         self.flattened(0, "all components but the key", json(&all));
-        let all = json(&all.replace(H, "eyJhbGciOiJkaXIifQ").replace(r#""tag""#, r#""header":{"enc":"A128GCM"},"tag""#));
-        self.flattened(0, "alg protected, enc in the own header", all);
+        let apart = json(r#""protected":"eyJhbGciOiJkaXIifQ","header":{"enc":"A128GCM"}"#);
+        self.flattened(0, "alg protected, enc in the own header", apart).in_mode(1, 5);
         let owns = json(concat!(
             r#""unprotected":{"enc":"A256GCM"},"recipients":[{"header":{"alg":"ECDH-ES"}},"#,
-            r#"{"header":{"alg":"RSA-OAEP"},"encrypted_key":"AAAA"},{"encrypted_key":"BBBB","header":{"alg":"A256KW"}}]"#,
+            r#"{"header":{"alg":"RSA-OAEP"},"encrypted_key":"AAAA"},"#,
+            r#"{"encrypted_key":"BBBB","header":{"alg":"A256KW"}}]"#,
         ));
         for (recipient, mode) in [('0', 3), ('1', 1), ('2', 2)] {
             let what = format!("recipient {recipient} of 3 has mode {mode}, with its own key and header");
-            self.general(0, what, &*owns).asking(recipient);
+            self.general(0, what, &*owns).asking(recipient).in_mode(3, mode);
         }
     }
 
@@ -81,7 +83,7 @@ impl Cases {
             self.of_form(form, 0, "16 known names", &**message).knowing(&["n"; 16]);
             self.of_form(form, 19, "the largest recipient number", &**message).asking('m');
             let beyond = if form == 2 { '2' } else { '1' };
-            self.of_form(form, 19, format!("recipient {beyond} of as many"), &**message).asking(beyond);
+            self.of_form(form, 19, format!("recipient {beyond} of {beyond}"), &**message).asking(beyond);
         }
         self.compact(1, "the header buffer is short, the message refused too", "").room('h');
         self.compact(1, "the list is short, the recipient absent too", M).room('l').asking('m');
@@ -126,8 +128,8 @@ impl Cases {
         let seventeen: Vec<String> = (0..17).map(|i| format!("k{i}")).collect();
         let seventeen: Vec<&str> = seventeen.iter().map(|name| &**name).collect();
         self.compact(17, "17 critical names, 16 known", critical(&seventeen)).knowing(&seventeen[..16]);
-        let long = name(65);
-        self.compact(17, "a critical name of 65 octets, known but for its last", critical(&[&long])).knowing(&[&long[..64]]);
+        let long = critical(&[&name(65)]);
+        self.compact(17, "a critical name of 65 octets, known but for its last", long).knowing(&[&name(64)]);
 
         let crit = protected(format!(r#"{{{DIR},"crit":["x"]}}"#));
         let two = json(&format!(r#"{crit},"recipients":[{{"header":{{"x":1}}}},{{"header":{{"x":2}}}}]"#));

@@ -1,7 +1,7 @@
-//! Document 01, 'Shape (10)': the members that a JSON message knows, on the top level and in elements, and those that it
-//! ignores.
+//! Document 01, 'Shape (10)': the members that a JSON message knows, on the top level and in elements, and those that
+//! it ignores.
 
-use crate::list::{flat, general, json, protected, Cases, DIR, H, T10};
+use crate::list::{compact, flat, general, json, protected, shown, Cases, DIR, H, T10};
 
 const COMPONENTS: [&str; 6] = ["protected", "encrypted_key", "iv", "aad", "ciphertext", "tag"];
 
@@ -40,12 +40,13 @@ impl Cases {
         for value in [r#""A\/AA""#, r#""\\""#, r#""AA\n""#, r#""\"""#] {
             self.flattened(10, format!("a backslash in a component, {value}"), valued("iv", value));
         }
-        self.flattened(10, "the protected header itself with an escape", flat(r#""tag":"AA""#).replace(H, &format!("\\u0065{}", &H[1..])));
+        let escaped = flat(r#""tag":"AA""#).replace(H, &format!("\\u0065{}", &H[1..]));
+        self.flattened(10, "the protected header itself with an escape", escaped);
     }
 
     fn objects(&mut self) {
         for value in ["null", "true", r#""{}""#, "[]", r#"[{"q":1}]"#, "{}", "{ \n}"] {
-            let what = value.escape_default();
+            let what = shown(value);
             self.flattened(10, format!("{what} for unprotected"), flat(&format!(r#""unprotected":{value}"#)));
             self.flattened(10, format!("{what} for header"), flat(&format!(r#""header":{value}"#)));
         }
@@ -58,7 +59,7 @@ impl Cases {
             self.flattened(10, format!("{what} for the protected header"), json(&shared));
             self.general(10, format!("{what} for the protected header"), json(&(shared + r#","recipients":[{}]"#)));
             // The 10 for a protected header without members is in JSON's order alone.
-            self.compact(13, format!("{what} for the protected header"), crate::list::compact(header));
+            self.compact(13, format!("{what} for the protected header"), compact(header));
         }
     }
 
@@ -82,31 +83,32 @@ impl Cases {
 
     fn elements(&mut self) {
         for element in [
-            r#"{"header":{}}"#, r#"{"header":[]}"#, r#"{"header":null}"#, r#"{"encrypted_key":""}"#, r#"{"encrypted_key":null}"#,
-            r#"{"encrypted_key":"\u0041A"}"#, r#"{"h\u0065ader":{}}"#,
+            r#"{"header":{}}"#, r#"{"header":[]}"#, r#"{"header":null}"#, r#"{"encrypted_key":""}"#,
+            r#"{"encrypted_key":null}"#, r#"{"encrypted_key":"\u0041A"}"#, r#"{"h\u0065ader":{}}"#,
         ] {
-            self.general(10, format!("{element} for element 0"), general(element));
             self.general(10, format!("{element} for element 1"), general(&format!("{{}},{element}")));
         }
+        self.general(10, "an empty header in element 0, 1 asked for", general(r#"{"header":{}},{}"#)).asking('1');
         self.general(0, "{} for an element", general("{}"));
-        let others = r#"{"ciphertext":1,"iv":"","tag":{},"aad":"\n","protected":null,"unprotected":[],"recipients":[],"alg":1}"#;
-        self.general(0, "an element knows header and encrypted_key alone", general(others));
+        let others = r#""ciphertext":1,"iv":"","tag":{},"aad":"\n","protected":null,"unprotected":[],"recipients":[]"#;
+        self.general(0, "an element knows header and encrypted_key alone", general(&format!("{{{others}}}")));
     }
 
     /// Unknown members are ignored (RFC 7516, 7.2.1), whatever they hold.
     fn ignored(&mut self) {
         for member in [
-            r#""x":null"#, r#""alg":1"#, r#""zip":"x""#, r#""crit":[]"#, r#""Recipients":[]"#, r#""Header":1"#, r#""IV":"""#,
-            r#""":{}"#, r#""protected ":1"#, r#""key":"\"""#, r#""payload":"A""#, r#""signatures":[]"#, r#""kid":0"#,
+            r#""x":null"#, r#""alg":1"#, r#""zip":"x""#, r#""crit":[]"#, r#""Recipients":[]"#, r#""IV":"""#, r#""":{}"#,
+            r#""protected ":1"#, r#""key":"\"""#, r#""payload":"A""#, r#""signatures":[]"#,
         ] {
             self.flattened(0, format!("{member} is ignored"), flat(member));
         }
         self.general(0, "members of the top level that are ignored", flat(r#""x":{"x":[]},"recipients":[{}],"enc":0"#));
         self.flattened(13, "parameters on the top level are none", json(DIR));
-        self.flattened(13, "the parameters of recipients in an ignored member", json(&format!(r#""Header":{{{DIR}}}"#)));
+        self.flattened(13, "parameters in an ignored member", json(&format!(r#""Header":{{{DIR}}}"#)));
         self.general(13, "parameters in an element itself are none", json(&format!(r#""recipients":[{{{DIR}}}]"#)));
         let own = json(&format!(r#""recipients":[{{"unprotected":{{{DIR}}}}}]"#));
         self.general(13, "an element has no shared header", own);
-        self.flattened(0, "a member named as a parameter and as a component", flat(r#""unprotected":{"iv":1,"tag":[],"ciphertext":0}"#));
+        let named = flat(r#""iv":"AA","unprotected":{"iv":1,"tag":[],"ciphertext":0}"#);
+        self.flattened(0, "parameters that are named as components", named);
     }
 }

@@ -112,6 +112,9 @@ impl Cases {
                 self.flattened(number, what("an ignored member"), flat(&value(1)));
                 self.flattened(number, what("the shared header"), flat(&format!(r#""unprotected":{{{}}}"#, value(2))));
                 self.flattened(number, what("the own header"), flat(&format!(r#""header":{{{}}}"#, value(2))));
+                let shared = flat(&format!(r#""unprotected":{{{}}},"recipients":[{{}}]"#, value(2)));
+                self.general(number, what("the shared header"), shared);
+                self.general(number, what("an ignored member"), flat(&format!(r#"{},"recipients":[{{}}]"#, value(1))));
                 self.general(number, what("a member of an element"), general(&format!("{{}},{{{}}}", value(3))));
                 let own = general(&format!(r#"{{"header":{{{}}}}}"#, value(4)));
                 self.general(number, what("an own header"), own);
