@@ -79,6 +79,14 @@ impl Cases {
             self.general(10, format!("recipients before {name}"), message);
         }
         self.general(10, "recipients beside header, both empty", flat(r#""recipients":[],"header":{}"#));
+        // All faults of `recipients` itself come before 11.
+        let nine = ["{}"; 9].join(",");
+        for (name, value) in [("header", r#"{"q":1}"#), ("encrypted_key", r#""AA""#)] {
+            let message = flat(&format!(r#""recipients":[{nine}],"{name}":{value}"#));
+            self.general(10, format!("9 recipients beside {name}"), message);
+        }
+        self.general(10, "no object behind nine elements", general(&format!("{nine},null")));
+        self.general(10, "no object before nine elements", general(&format!("[],{nine}")));
     }
 
     fn elements(&mut self) {
