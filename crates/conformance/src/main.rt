@@ -261,7 +261,13 @@ fn print_case(
     io::write_all(STDOUT_FILENO, b": ");
     let mut names = [0u8; 2048];
     let n = expand(known, &mut names);
-    print_message(message, &names[..n], recipient_of(recipient), octet(room, 0), text);
+    print_message(
+        message,
+        &names[..n],
+        recipient_of(recipient),
+        octet(room, 0),
+        text,
+    );
 }
 
 // The part of a text between two positions; none where they stand the other way round.

@@ -158,7 +158,13 @@ fn own_headers(
 {
     let mut i: usize = 0;
     while i < number {
-        let object = unprotected(message, of[i * shape::RECIPIENT_WIDTH], 2, own, i * MOST_MEMBERS);
+        let object = unprotected(
+            message,
+            of[i * shape::RECIPIENT_WIDTH],
+            2,
+            own,
+            i * MOST_MEMBERS,
+        );
         let Stage::Passed(count) = object else {
             return object;
         };

@@ -61,7 +61,14 @@ fn fill(
     while i < count {
         let start = i * json::member::WIDTH;
         let end = start + json::member::WIDTH;
-        put(text, origin, list, &rows[start..end], table, (from + i) * layout::WIDTH);
+        put(
+            text,
+            origin,
+            list,
+            &rows[start..end],
+            table,
+            (from + i) * layout::WIDTH,
+        );
         i += 1;
     }
 }

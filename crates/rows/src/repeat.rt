@@ -65,7 +65,11 @@ fn clash(
     if field(table, i, layout::PRINT) != field(table, j, layout::PRINT) {
         return false;
     }
-    if apart(across, field(table, i, layout::ORIGIN), field(table, j, layout::ORIGIN)) {
+    if apart(
+        across,
+        field(table, i, layout::ORIGIN),
+        field(table, j, layout::ORIGIN),
+    ) {
         return same(header, shared, own, table, i, j);
     }
     false

@@ -10,9 +10,9 @@ ghost use Rattle.headers.specs.Answers.{placeOf};
 ghost use Rattle.shape.specs.Shape.{component, recipients};
 ghost use Rattle.shape.specs.Recipients.{topOf};
 ghost use Rattle.shape.specs.Inner.Answers.{topIn};
+use crate::number;
 use headers::Components;
 use prelude::Place;
-use crate::number;
 use rows::ask::present;
 
 // The forms.
