@@ -58,7 +58,7 @@ returns c =
       refl,
       c .before .before .copy .ensures
           ∙ ap (λ (l : List ℕ). written (args .front * width) l (args .table .now))
-          (own-part (args .own .now) (args .i * headerTable) count (omega (arith, start .pre))),
+          (own-part (args .own .now) (args .i * headerTable) count),
     )
 
 pub gather-spec : {M : Type 1} → statement M
