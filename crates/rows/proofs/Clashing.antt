@@ -3,7 +3,8 @@
 use mathlib.Core.Path.{_≡_, refl, ap, sym, _∙_}
 use mathlib.Core.Bool.{Bool, true, false, _&&_}
 use Prim.Native.Nat.{ℕ}
-use Rattle.grammar.specs.Spellings.{undo, alike, fingerprint}
+use Rattle.grammar.specs.Spellings.{undo, alike}
+use Rattle.spelling.specs.Inner.Fingerprints.{fingerprint}
 use Rattle.spelling.proofs.Fingerprints.{alike-not}
 use Rattle.rows.specs.Rows.{Entry, Texts, nameIn, apart, same}
 

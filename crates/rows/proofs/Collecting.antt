@@ -14,7 +14,8 @@ use Rattle.prelude.proofs.Writing.{Writing, begin-as, begins}
 use Rattle.parts.specs.Parts.{part}
 use Rattle.names.specs.Names.{numberIn}
 use Rattle.grammar.specs.Places.{Member}
-use Rattle.grammar.specs.Spellings.{undo, fingerprint}
+use Rattle.grammar.specs.Spellings.{undo}
+use Rattle.spelling.specs.Inner.Fingerprints.{fingerprint}
 use Rattle.json.specs.Members as rows
 use Rattle.json.specs.declared.member.Collected.the-variants.{Rows, More}
 use Rattle.json.proofs.MemberTable as table

@@ -7,7 +7,8 @@ use native.Mathlib.Omega.{arith}
 use lib.ListN.{length, take, drop, length-drop}
 use lib.Seq.{drop-drop}
 use Rattle.prelude.specs.Buffer.{written}
-use Rattle.grammar.specs.Spellings.{undo, fingerprint}
+use Rattle.grammar.specs.Spellings.{undo}
+use Rattle.spelling.specs.Inner.Fingerprints.{fingerprint}
 use Rattle.grammar.specs.Places.{Member}
 use Rattle.grammar.specs.Bounds.{Every}
 use Rattle.rows.specs.Rows.{Entry, Texts, textOf, oneText, spelledName, entriesIn}

@@ -8,7 +8,8 @@ use lib.ListN.{length, drop, getD}
 use lib.Dec.{leb}
 use Rattle.prelude.specs.Buffer.{written}
 use Rattle.prelude.specs.Limits.{mostMembers}
-use Rattle.grammar.specs.Spellings.{undo, fingerprint}
+use Rattle.grammar.specs.Spellings.{undo}
+use Rattle.spelling.specs.Inner.Fingerprints.{fingerprint}
 use Rattle.rows.specs.Rows.{Entry, Texts, spelledName, nameIn}
 use Rattle.rows.specs.Tables.{width, listRow, firstOf}
 
