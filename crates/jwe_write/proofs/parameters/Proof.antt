@@ -1,5 +1,5 @@
 -- `parameters` hands up the refusal of collecting the parameters; where they pass, the rules on them answer.
-use mathlib.Core.Path.{_≡_, refl, ap, sym, _∙_}
+use mathlib.Core.Path.{ap, sym, _∙_}
 use mathlib.Core.List.{List}
 use Prim.Native.Nat.{ℕ}
 use native.Mathlib.Omega.{arith}

@@ -1,6 +1,6 @@
 -- `breaks` asks the one rule that has the number.
-use mathlib.Core.Path.{_≡_, refl, ap, sym, _∙_}
-use mathlib.Core.Bool.{Bool, true}
+use mathlib.Core.Path.{ap, sym, _∙_}
+use mathlib.Core.Bool.{Bool}
 use Prim.Native.Nat.{ℕ}
 use Rattle.names.specs.Names.{names}
 use Rattle.rows.specs.Rows.{texts}

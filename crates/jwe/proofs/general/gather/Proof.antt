@@ -2,7 +2,6 @@
 use mathlib.Core.Path.{refl, ap, _∙_}
 use mathlib.Core.List.{List}
 use Prim.Native.Nat.{ℕ, _*_}
-use native.Mathlib.Omega.{arith}
 use lib.ListN.{getD}
 use Rattle.prelude.specs.Buffer.{written}
 use Rattle.jwe.proofs.OwnHeaders.{own-part}
