@@ -10,7 +10,7 @@ use Rattle.base64url.specs.Answers.{decodeOrder, decodeRefusal}
 use Rattle.names.specs.Names.{names, sound, limited, filled, total, cut, numberIn}
 use Rattle.parts.specs.Parts.{part, seek, seekIn, holds}
 use Rattle.grammar.specs.Utf8.{utf8, utf8After, follow, encode}
-use Rattle.grammar.specs.Spellings.{undo, undoFrom, adds, next, equal, has, alike, fingerprint}
+use Rattle.grammar.specs.Spellings.{undo, undoFrom, adds, next, equal, has, alike}
 use Rattle.grammar.specs.Reader.{passOver, skip, turn, scanString, stringAt, digitsAt, intAt, perhapsAt, fractionAt}
 use Rattle.grammar.specs.Reader.{exponentAt, numberAt, wordAt, beforeAt, entryAt, entriesAt, rowsAt, nestedAt, rowsIn}
 use Rattle.grammar.specs.Reader.{valueWith, valueAt, membersAt, elementsOf, elementsAt, readText, opensObject}
@@ -35,5 +35,5 @@ use Rattle.aad.specs.Aad.{aadText, aadOrder, aadRefusal}
 use Rattle.gateway.specs.Samples.{Sample, readAnswer, aadAnswer, answer, samples}
 
 pub samples-hold : map (λ (s : Sample). answer (s .input)) samples ≡ map (λ (s : Sample). s .expected) samples
-unfolding ascii alphabet character placeIn sixBits sextets octets encoded decoded firstOutside spareBits fault names sound limited filled total cut numberIn part seek seekIn holds utf8 utf8After follow encode undo undoFrom adds next equal has alike fingerprint passOver skip turn scanString stringAt digitsAt intAt perhapsAt fractionAt exponentAt numberAt wordAt beforeAt entryAt entriesAt rowsAt nestedAt rowsIn valueWith valueAt membersAt elementsOf elementsAt readText opensObject any anyPair entriesIn present valueOf repeated listed registered kindAsked algs algName encs encName algNames encNames zipNames nth first incomplete wrongCrit modeIn recipientOrder misspelled headerText unread textOrder outermost protectedEntries membersOf headerEntries objectOrder memberNames memberEntries wrongMember wrongTop wrongElements wrongElement topEntries topOrder elementsIn elementEntries elementOrder elementsOrder recipientsIn componentsIn stops fourStops compactComponents compactOrder sharedEntries ownEntries parameters allPlaces anyMisspelled protectedOrder headersOrder recipientsOrder jsonSpelled jsonLater jsonOrder order refusal asked held outcome accepted refused result written listAfter decodeOrder decodeRefusal aadText aadOrder aadRefusal readAnswer aadAnswer answer samples flatMap xor
+unfolding ascii alphabet character placeIn sixBits sextets octets encoded decoded firstOutside spareBits fault names sound limited filled total cut numberIn part seek seekIn holds utf8 utf8After follow encode undo undoFrom adds next equal has alike passOver skip turn scanString stringAt digitsAt intAt perhapsAt fractionAt exponentAt numberAt wordAt beforeAt entryAt entriesAt rowsAt nestedAt rowsIn valueWith valueAt membersAt elementsOf elementsAt readText opensObject any anyPair entriesIn present valueOf repeated listed registered kindAsked algs algName encs encName algNames encNames zipNames nth first incomplete wrongCrit modeIn recipientOrder misspelled headerText unread textOrder outermost protectedEntries membersOf headerEntries objectOrder memberNames memberEntries wrongMember wrongTop wrongElements wrongElement topEntries topOrder elementsIn elementEntries elementOrder elementsOrder recipientsIn componentsIn stops fourStops compactComponents compactOrder sharedEntries ownEntries parameters allPlaces anyMisspelled protectedOrder headersOrder recipientsOrder jsonSpelled jsonLater jsonOrder order refusal asked held outcome accepted refused result written listAfter decodeOrder decodeRefusal aadText aadOrder aadRefusal readAnswer aadAnswer answer samples flatMap xor
 samples-hold = refl

@@ -3,7 +3,7 @@
 use mathlib.Core.List.{List, [], _∷_, _++_}
 use mathlib.Core.Bool.{Bool, true, false, _&&_, cond}
 use mathlib.Core.Option.{Option, none, some}
-use Prim.Native.Nat.{ℕ, zero, suc, _+_, _*_, _%_}
+use Prim.Native.Nat.{ℕ, zero, suc}
 use lib.Dec.{eqb}
 use Rattle.grammar.specs.Grammar.{backslash, letterU, Str}
 use Rattle.grammar.specs.Strings.{escapePoint, hexMore, isHigh, combined, undone}
@@ -59,20 +59,6 @@ alike v w = equal (undo v) (undo w)
 -- Whether a spelling has the octets w.
 unfoldable pub has : List ℕ → List ℕ → Bool
 has v w = equal (undo v) w
-
--- A fingerprint of octets, in 32 bits. Any function would do: equal strings have equal fingerprints, so that a
--- difference tells two names apart. That they are equal says nothing.
-
--- One octet more.
-abbrev pub mixed : ℕ → ℕ → ℕ
-mixed h c = (h * 16777619 + c + 1) % 4294967296
-
-unfoldable pub fingerprintFrom : ℕ → List ℕ → ℕ
-fingerprintFrom h [] = h
-fingerprintFrom h (c ∷ w) = fingerprintFrom (mixed h c) w
-
-unfoldable pub fingerprint : List ℕ → ℕ
-fingerprint w = fingerprintFrom 2166136261 w
 
 -- Whether a string's octets after undoing its escapes are well-formed, so that it says code points.
 unfoldable pub sayable : Str → Bool

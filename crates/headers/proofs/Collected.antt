@@ -1,5 +1,5 @@
 -- For callers of a stage that collects entries at the start of a table: what the table then holds.
-use mathlib.Core.Path.{_≡_, refl, ap, ap₂, sym, _∙_}
+use mathlib.Core.Path.{_≡_, refl, ap, ap₂, sym, subst₂, _∙_}
 use mathlib.Core.Bool.{Bool, true, false, cond}
 use mathlib.Core.List.{List}
 use Prim.Native.Nat.{ℕ, _*_, _≤_}
@@ -11,9 +11,11 @@ use Rattle.prelude.specs.Buffer.{written}
 use Rattle.prelude.proofs.Writing.{written-length}
 use Rattle.names.specs.Names.{names}
 use Rattle.grammar.specs.Reader.{skipSpace, membersAt}
-use Rattle.rows.specs.Rows.{Entry, oneText, repeated, entryOf, entriesIn}
-use Rattle.rows.specs.Tables.{flat, entriesOf, collectedTable, width}
+use Rattle.rows.specs.Rows.{Entry, Texts, oneText, repeated, entryOf, entriesIn}
+use Rattle.rows.specs.Tables.{entriesOf, width}
+use Rattle.rows.specs.Inner.Prints.{flat, collectedTable, Printed}
 use Rattle.rows.proofs.Entries.{flat-length, entries-written}
+use Rattle.rows.proofs.Printing.{StandIn, printed-written}
 use Rattle.prelude.specs.Refusals.{first, stageOf}
 use Rattle.jose.specs.Registered.{registered}
 use Rattle.prelude.specs.Limits.{mostMembers}
@@ -34,40 +36,46 @@ not-many s es e = cases (ltb mostMembers (length es)) refl (repeated false (oneT
 pub record Kept (s : List ℕ) (es : List Entry) (before after : List ℕ) (count : ℕ) : Type 0 where
   pub passes : first (objectOrder s es) ≡ 0
   pub size : count ≡ length es
-  pub left : after ≡ written 0 (flat es) before
+  pub left : after ≡ written 0 (flat s es) before
   pub entries : entriesOf count after ≡ es
   pub same : length after ≡ length before
   pub fits : count * width ≤ length after
 
 -- Whatever the answer, the table is as long as it was.
-pub table-length : (es : List Entry) (before : List ℕ) → 256 ≤ length before →
-    length (collectedTable 0 es before) ≡ length before
+pub table-length : (s : List ℕ) (es : List Entry) (before : List ℕ) → 256 ≤ length before →
+    length (collectedTable 0 s es before) ≡ length before
 unfolding collectedTable
-table-length es before room = cases (leb (length es) 32) refl
+table-length s es before room = cases (leb (length es) 32) refl
   where
-    cases : (b : Bool) → leb (length es) 32 ≡ b → length (cond b (written 0 (flat es) before) before) ≡ length before
+    cases : (b : Bool) → leb (length es) 32 ≡ b → length (cond b (written 0 (flat s es) before) before) ≡ length before
     cases true t =
-        written-length 0 (flat es) before (omega (arith, flat-length es, leb-true (length es) 32 t))
+        written-length 0 (flat s es) before (omega (arith, flat-length s es, leb-true (length es) 32 t))
     cases false t = refl
 
 pub kept-passed : (s : List ℕ) (es : List Entry) (before after : List ℕ) (count : ℕ) → 256 ≤ length before →
-    stage.Passed count ≡ stageOf (first (objectOrder s es)) (length es) → after ≡ collectedTable 0 es before →
+    stage.Passed count ≡ stageOf (first (objectOrder s es)) (length es) → after ≡ collectedTable 0 s es before →
     Kept s es before after count
 unfolding collectedTable
 kept-passed s es before after count room e l =
     let p = passed-is count (first (objectOrder s es)) (length es) e in
     let few = not-many s es (p .0) in
-    let left : after ≡ written 0 (flat es) before =
-    l ∙ ap (λ (b : Bool). cond b (written 0 (flat es) before) before) (le-leb (length es) 32 few) in
-    let same = ap length left ∙ written-length 0 (flat es) before (omega (arith, flat-length es, few)) in
+    let left : after ≡ written 0 (flat s es) before =
+    l ∙ ap (λ (b : Bool). cond b (written 0 (flat s es) before) before) (le-leb (length es) 32 few) in
+    let same = ap length left ∙ written-length 0 (flat s es) before (omega (arith, flat-length s es, few)) in
     record {
       passes = p .0;
       size = p .1;
       left = left;
-      entries = ap₂ entriesOf (p .1) left ∙ entries-written es before;
+      entries = ap₂ entriesOf (p .1) left ∙ entries-written s es before;
       same = same;
       fits = omega (arith, same, few, p .1);
     }
+
+-- Its entries have the fingerprints of their names.
+pub kept-printed : (ts : Texts) {s : List ℕ} {es : List Entry} {before after : List ℕ} {count : ℕ} →
+    Kept s es before after count → StandIn ts s es → Printed ts count after
+kept-printed ts {s} {es} {before} k h =
+    subst₂ (Printed ts) (sym (k .size)) (sym (k .left)) (printed-written ts s es before h)
 
 -- The parameters of the protected header, by the list of the registered names in the source.
 module _ (header list : List ℕ) (at : ℕ) (l : names list ≡ registered) (a : at ≡ skipSpace header 0) where

@@ -1,8 +1,8 @@
 -- The members of an object collected as entries of a table: the table from the first of them on, and refusals 8 and 9.
-use mathlib.Core.Path.{_≡_, refl, ap, ap₂, sym, _∙_}
+use mathlib.Core.Path.{_≡_, refl, ap, ap₂, sym, subst₂, _∙_}
 use mathlib.Core.Bool.{Bool, true, false, cond}
 use mathlib.Core.List.{List}
-use Prim.Native.Nat.{ℕ, zero, suc, _+_, _-_, _*_, _≤_}
+use Prim.Native.Nat.{ℕ, _+_, _-_, _*_, _≤_}
 use native.Mathlib.Omega.{arith}
 use lib.ListN.{length, take, drop, length-drop, length-map}
 use lib.Seq.{take-all}
@@ -14,10 +14,11 @@ use Rattle.grammar.specs.Places.{Member}
 use Rattle.json.specs.Members.{collectedOf}
 use Rattle.json.specs.declared.member.Collected.{Collected}
 use Rattle.json.specs.declared.member.Collected.the-variants.{Rows, More}
-use Rattle.rows.specs.Rows.{Entry, oneText, entryOf, entriesIn, textOf, repeated, clashes}
-use Rattle.rows.specs.Tables.{flat, entriesOf, collectedTable, width}
+use Rattle.rows.specs.Rows.{Entry, oneText, entryOf, entriesIn, repeated}
+use Rattle.rows.specs.Tables.{entriesOf, width}
+use Rattle.rows.specs.Inner.Prints.{flat, collectedTable, Printed}
 use Rattle.rows.proofs.Entries.{flat-length, entries-written-from}
-use Rattle.rows.proofs.Printing.{clashes-repeated, entries-printed}
+use Rattle.rows.proofs.Printing.{stand-in-one, printed-written-from}
 use Rattle.prelude.specs.Refusals.{first, stageOf}
 use Rattle.headers.specs.Headers.{objectOrder}
 use Rattle.prelude.specs.declared.Stage.the-variants.{Passed, Refused}
@@ -34,21 +35,22 @@ rest from t = take (length t - from * width) (drop (from * width) t)
 rest-is : (from : ℕ) (t : List ℕ) → rest from t ≡ drop (from * width) t
 rest-is from t = take-all (length t - from * width) (drop (from * width) t) (omega (arith, length-drop (from * width) t))
 
--- What is known where the entries were collected.
-pub record Collects (es : List Entry) (from : ℕ) (last : List ℕ) (count : ℕ) : Type 0 where
+-- What is known where the entries were collected, of an object that stands in the text s.
+pub record Collects (s : List ℕ) (es : List Entry) (from : ℕ) (last : List ℕ) (count : ℕ) : Type 0 where
   pub few : ltb 32 (length es) ≡ false
   pub counted : count ≡ length es
   pub fits : count * width ≤ length (rest from last)
   pub entries : entriesOf count (rest from last) ≡ es
+  pub printed : Printed (oneText s) count (rest from last)
 
-module _ (es : List Entry) (from count : ℕ) (before last : List ℕ) (room : from * width + 256 ≤ length before)
-    (left : last ≡ collectedTable from es before) where
-  written-is : length es ≤ 32 → last ≡ written (from * width) (flat es) before
+module _ (s : List ℕ) (es : List Entry) (from count : ℕ) (before last : List ℕ)
+    (room : from * width + 256 ≤ length before) (left : last ≡ collectedTable from s es before) where
+  written-is : length es ≤ 32 → last ≡ written (from * width) (flat s es) before
   unfolding collectedTable
   written-is h =
-      left ∙ ap (λ (b : Bool). cond b (written (from * width) (flat es) before) before) (le-leb (length es) 32 h)
+      left ∙ ap (λ (b : Bool). cond b (written (from * width) (flat s es) before) before) (le-leb (length es) 32 h)
 
-  pub collects : Rows count ≡ collectedAs es → Collects es from last count
+  pub collects : Rows count ≡ collectedAs es → Collects s es from last count
   collects e = whole (cases (ltb 32 (length es)) refl e)
     where
       cases : (b : Bool) → ltb 32 (length es) ≡ b → Rows count ≡ cond b More (Rows (length es)) →
@@ -56,20 +58,23 @@ module _ (es : List Entry) (from count : ℕ) (before last : List ℕ) (room : f
       cases true t e = let z : _≡_ {A = ℕ} 0 1 = cc in absurd (omega arith)
       cases false t e = (t, cc)
 
-      whole : (ltb 32 (length es) ≡ false) × (count ≡ length es) → Collects es from last count
+      whole : (ltb 32 (length es) ≡ false) × (count ≡ length es) → Collects s es from last count
       whole p =
           let within : length es ≤ 32 = ltb-false 32 (length es) (p .0) in
-          let w : last ≡ written (from * width) (flat es) before = written-is within in
-          let size = flat-length es in
-          let same : length (written (from * width) (flat es) before) ≡ length before =
-          written-length (from * width) (flat es) before (omega arith) in
+          let w : last ≡ written (from * width) (flat s es) before = written-is within in
+          let size = flat-length s es in
+          let same : length (written (from * width) (flat s es) before) ≡ length before =
+          written-length (from * width) (flat s es) before (omega arith) in
+          let is : rest from last ≡ drop (from * width) (written (from * width) (flat s es) before) =
+          rest-is from last ∙ ap (drop (from * width)) w in
           record {
             few = p .0;
             counted = p .1;
             fits = omega (arith, ap length (rest-is from last), length-drop (from * width) last, ap length w, p .1);
-            entries =
-                ap₂ entriesOf (p .1) (rest-is from last ∙ ap (drop (from * width)) w)
-                ∙ entries-written-from from es before (omega arith);
+            entries = ap₂ entriesOf (p .1) is ∙ entries-written-from from s es before (omega arith);
+            printed =
+                subst₂ (Printed (oneText s)) (sym (p .1)) (sym is)
+                (printed-written-from (oneText s) from s es before (omega arith) (stand-in-one s es));
           }
 
 -- Refusals 8 and 9
@@ -79,12 +84,6 @@ stage-of : (s : List ℕ) (es : List Entry) (n : ℕ) (many twice : Bool) → lt
     stageOf (first (objectOrder s es)) n ≡ stageOf (cond many 8 (cond twice 9 0)) n
 unfolding first objectOrder
 stage-of s es n many twice m t = ap₂ (λ (x y : Bool). stageOf (cond x 8 (cond y 9 0)) n) m t
-
--- One text is the text of every origin.
-one-text : (s : List ℕ) (o : ℕ) → s ≡ textOf (oneText s) o
-one-text s zero = refl
-one-text s (suc zero) = refl
-one-text s (suc (suc o)) = refl
 
 module _ (names : List (List ℕ)) (s : List ℕ) (o : ℕ) (ms : List Member) where
   entries-count : length (entriesIn names s o ms) ≡ length ms
@@ -109,12 +108,10 @@ module _ (names : List (List ℕ)) (s : List ℕ) (o : ℕ) (ms : List Member) w
       cases true e = refl
       cases false e = let z : _≡_ {A = ℕ} 0 1 = cc in absurd (omega arith)
 
-  module _ {from count : ℕ} {last : List ℕ} (k : Collects (entriesIn names s o ms) from last count) {answer : Bool}
-      (a : answer ≡ clashes false (oneText s) (entriesOf count (rest from last))) where
+  module _ {from count : ℕ} {last : List ℕ} (k : Collects s (entriesIn names s o ms) from last count) {answer : Bool}
+      (a : answer ≡ repeated false (oneText s) (entriesOf count (rest from last))) where
     repeated-is : repeated false (oneText s) (entriesIn names s o ms) ≡ answer
-    repeated-is =
-        sym (a ∙ ap (clashes false (oneText s)) (k .entries)
-        ∙ clashes-repeated false (oneText s) (entriesIn names s o ms) (entries-printed names (oneText s) s o ms (one-text s o)))
+    repeated-is = sym (a ∙ ap (repeated false (oneText s)) (k .entries))
 
     pub refused-9 : answer ≡ true → Refused 9 ≡ stageOf (first (objectOrder s (entriesIn names s o ms))) (length ms)
     unfolding stageOf

@@ -8,7 +8,8 @@ ghost use Rattle.grammar.specs.Grammar.{curly};
 ghost use Rattle.grammar.specs.Reader.{membersAt};
 ghost use Rattle.json.specs.Inner.Known.{Given, KnownIn};
 ghost use Rattle.rows.specs.Rows.{entriesIn};
-ghost use Rattle.rows.specs.Tables.{collectedTable, headerTable, width};
+ghost use Rattle.rows.specs.Tables.{headerTable, width};
+ghost use Rattle.rows.specs.Inner.Prints.{collectedTable};
 ghost use Rattle.prelude.specs.Limits.{headerRoom, levels, longest};
 ghost use Rattle.prelude.specs.Refusals.{first, stageOf};
 ghost use Rattle.headers.specs.Components.{misspelled, withKey, sizesOf};
@@ -95,7 +96,7 @@ pub fn object(
     requires { ⌜ from * width + headerTable ≤ length (now table) ⌝ }
     requires { ⌜ Given judged (KnownIn curly levels (now s) at) ⌝ }
     ensures { λ r. ⌜ r ≡ stageOf (first (objectOrder (now (s .entry)) (entriesIn (names (now (list .entry))) (now (s .entry)) origin (membersAt levels (now (s .entry)) at)))) (length (membersAt levels (now (s .entry)) at)) ⌝ }
-    ensures { λ _. ⌜ now (table .exit) ≡ collectedTable from (entriesIn (names (now (list .entry))) (now (s .entry)) origin (membersAt levels (now (s .entry)) at)) (now (table .entry)) ⌝ }
+    ensures { λ _. ⌜ now (table .exit) ≡ collectedTable from (now (s .entry)) (entriesIn (names (now (list .entry))) (now (s .entry)) origin (membersAt levels (now (s .entry)) at)) (now (table .entry)) ⌝ }
 {
     let collected = rows::collect::collect(s, at, origin, list, table, from, judged);
     let Collected::Rows(count) = collected else {
@@ -113,7 +114,7 @@ pub fn protected_entries(header: &[u8], table: &mut [u32]) -> Stage
     requires { ⌜ length (now header) ≤ longest ⌝ }
     requires { ⌜ headerTable ≤ length (now table) ⌝ }
     ensures { λ r. ⌜ r ≡ stageOf (first (objectOrder (now (header .entry)) (protectedEntries (now (header .entry))))) (length (protectedEntries (now (header .entry)))) ⌝ }
-    ensures { λ _. ⌜ now (table .exit) ≡ collectedTable 0 (protectedEntries (now (header .entry))) (now (table .entry)) ⌝ }
+    ensures { λ _. ⌜ now (table .exit) ≡ collectedTable 0 (now (header .entry)) (protectedEntries (now (header .entry))) (now (table .entry)) ⌝ }
 {
     let list = jose::lists::REGISTERED;
     let start = Position { at: 0 }.skip_space(header);

@@ -4,9 +4,9 @@ ghost use mathlib.Core.Bool.{true};
 ghost use Prim.Native.Nat.{_*_, _≤_};
 ghost use lib.ListN.{length};
 ghost use Rattle.names.specs.Names.{names, filled};
-ghost use Rattle.rows.specs.Inner.Prints.{Printed};
 ghost use Rattle.rows.specs.Rows.{texts, oneText};
 ghost use Rattle.rows.specs.Tables.{entriesOf, width};
+ghost use Rattle.rows.specs.Inner.Prints.{Printed};
 ghost use Rattle.prelude.specs.Refusals.{first, stageOf};
 ghost use Rattle.jose.specs.HeaderRules.{wrongKey, modeIn, breaks, rulesOrder, protectedRules, recipientOrder};
 use crate::Sizes;
@@ -44,7 +44,7 @@ fn breaks(
 ) -> bool
     requires { ⌜ filled (now known) ≡ true ⌝ }
     requires { ⌜ count * width ≤ length (now table) ⌝ }
-    requires { ⌜ Printed (texts (now header) (now shared) (now own)) (entriesOf count (now table)) ⌝ }
+    requires { ⌜ Printed (texts (now header) (now shared) (now own)) count (now table) ⌝ }
     ensures { λ r. ⌜ r
         ≡ breaks (names (now (known .entry))) (texts (now (header .entry)) (now (shared .entry)) (now (own .entry)))
         (entriesOf count (now (table .entry))) «bad_key» rule ⌝ }
@@ -75,7 +75,7 @@ fn judge_by(
 ) -> Stage
     requires { ⌜ filled (now known) ≡ true ⌝ }
     requires { ⌜ count * width ≤ length (now table) ⌝ }
-    requires { ⌜ Printed (texts (now header) (now shared) (now own)) (entriesOf count (now table)) ⌝ }
+    requires { ⌜ Printed (texts (now header) (now shared) (now own)) count (now table) ⌝ }
     ensures { λ r. ⌜ r
         ≡ stageOf
         (first (rulesOrder (names (now (known .entry))) (texts (now (header .entry)) (now (shared .entry)) (now (own .entry)))
@@ -107,7 +107,7 @@ pub fn judge(
 ) -> Stage
     requires { ⌜ filled (now known) ≡ true ⌝ }
     requires { ⌜ count * width ≤ length (now table) ⌝ }
-    requires { ⌜ Printed (texts (now header) (now shared) (now own)) (entriesOf count (now table)) ⌝ }
+    requires { ⌜ Printed (texts (now header) (now shared) (now own)) count (now table) ⌝ }
     ensures { λ r. ⌜ r
         ≡ stageOf
         (first (recipientOrder (names (now (known .entry))) (texts (now (header .entry)) (now (shared .entry)) (now (own .entry)))
@@ -128,7 +128,7 @@ pub fn judge_protected(
 ) -> Stage
     requires { ⌜ filled (now known) ≡ true ⌝ }
     requires { ⌜ count * width ≤ length (now table) ⌝ }
-    requires { ⌜ Printed (oneText (now header)) (entriesOf count (now table)) ⌝ }
+    requires { ⌜ Printed (oneText (now header)) count (now table) ⌝ }
     ensures { λ r. ⌜ r
         ≡ stageOf
         (first (rulesOrder (names (now (known .entry))) (oneText (now (header .entry)))

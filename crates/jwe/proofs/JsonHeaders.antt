@@ -17,7 +17,8 @@ use Rattle.grammar.specs.Places.{Place, Member}
 use Rattle.grammar.specs.Reader.{skipSpace, membersAt}
 use Rattle.prelude.specs.Any.{any, anyPair}
 use Rattle.rows.specs.Rows.{Entry, oneText, entryOf, entriesIn, numbered, present, valueOf, repeated}
-use Rattle.rows.specs.Tables.{flat, collectedTable, width}
+use Rattle.rows.specs.Tables.{width}
+use Rattle.rows.specs.Inner.Prints.{flat, collectedTable}
 use Rattle.jose.specs.Registered.{registered}
 use Rattle.prelude.specs.Refusals.{first, stageOf}
 use Rattle.headers.specs.Components.{absent}
@@ -131,9 +132,9 @@ module _ (header : List ℕ) where
         e ∙ ap₂ (λ (es : List Entry) (k : ℕ). stageOf (first (objectOrder header es)) k) listed-is count-is
 
     pub protected-table : (last before : List ℕ) →
-        last ≡ collectedTable 0 (entriesIn names header 0 (membersAt 12 header at)) before →
-        last ≡ collectedTable 0 entries before
-    protected-table last before e = e ∙ ap (λ (es : List Entry). collectedTable 0 es before) listed-is
+        last ≡ collectedTable 0 header (entriesIn names header 0 (membersAt 12 header at)) before →
+        last ≡ collectedTable 0 header entries before
+    protected-table last before e = e ∙ ap (λ (es : List Entry). collectedTable 0 header es before) listed-is
 
   pub protected-refused : (there : Bool) {answer : Stage} (n : ℕ) → answer ≡ stageOf eight-nine (length entries) →
       answer ≡ Refused n → answer ≡ stageOf (first (protectedTests there header)) (length entries)
@@ -180,12 +181,12 @@ module _ (message : List ℕ) (origin start : ℕ) where
   absent-passes e =
       sym (ap (λ (es : List Entry). stageOf (first (objectOrder message es)) (length es)) (nowhere e))
 
-  pub absent-left : start ≡ 0 → (from : ℕ) (table : List ℕ) → table ≡ collectedTable from found table
+  pub absent-left : start ≡ 0 → (from : ℕ) (table : List ℕ) → table ≡ collectedTable from message found table
   unfolding collectedTable written flat
   absent-left e from table =
       let none : written (from * width) [] table ≡ table =
       ap (λ (n : ℕ). take (from * width) table ++ drop n table) (add-zero (from * width)) ∙ take-append-drop (from * width) table in
-      sym (ap (λ (es : List Entry). collectedTable from es table) (nowhere e) ∙ none)
+      sym (ap (λ (es : List Entry). collectedTable from message es table) (nowhere e) ∙ none)
 
   pub stands : (start ≡ 0 → ⊥) → entriesIn registered message origin (membersAt 12 message start) ≡ found
   unfolding headerEntries membersOf
@@ -210,9 +211,9 @@ module _ (message : List ℕ) (origin start : ℕ) where
         e ∙ ap₂ (λ (es : List Entry) (k : ℕ). stageOf (first (objectOrder message es)) k) listed-there (stands-count h)
 
     pub stands-table : (from : ℕ) (last before : List ℕ) →
-        last ≡ collectedTable from (entriesIn names message origin (membersAt 12 message start)) before →
-        last ≡ collectedTable from found before
-    stands-table from last before e = e ∙ ap (λ (es : List Entry). collectedTable from es before) listed-there
+        last ≡ collectedTable from message (entriesIn names message origin (membersAt 12 message start)) before →
+        last ≡ collectedTable from message found before
+    stands-table from last before e = e ∙ ap (λ (es : List Entry). collectedTable from message es before) listed-there
 
 -- What passes 8 has at most 32.
 pub few : (s : List ℕ) (es : List Entry) → first (objectOrder s es) ≡ 0 → length es ≤ 32

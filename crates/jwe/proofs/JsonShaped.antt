@@ -1,7 +1,7 @@
 -- From the protected header on: what each header's stage tells, the entries of the protected and the shared header one
 -- behind the
 -- other, and the first refusal.
-use mathlib.Core.Path.{_≡_, refl, ap, ap₂, sym, subst, _∙_}
+use mathlib.Core.Path.{_≡_, refl, ap, ap₂, sym, subst, subst₂, _∙_}
 use mathlib.Core.Bool.{Bool, true, false, cond}
 use mathlib.Core.List.{List, _++_}
 use Prim.Native.Nat.{ℕ, _+_, _*_, _≤_, _<_}
@@ -10,11 +10,11 @@ use lib.ListN.{length, take}
 use borrow.Author.Tests.{ltb-false}
 use Rattle.prelude.specs.Buffer.{written}
 use Rattle.prelude.proofs.Writing.{written-length, begins}
-use Rattle.rows.specs.Rows.{Entry, readTexts}
-use Rattle.rows.specs.Inner.Prints.{Printed}
-use Rattle.rows.specs.Tables.{flat, entriesOf, collectedTable, width}
+use Rattle.rows.specs.Rows.{Entry, Texts, readTexts}
+use Rattle.rows.specs.Tables.{entriesOf, width}
+use Rattle.rows.specs.Inner.Prints.{flat, collectedTable, Printed}
 use Rattle.rows.proofs.Entries.{entries-written, entries-more}
-use Rattle.rows.proofs.Printing.{entries-printed, printed-append}
+use Rattle.rows.proofs.Printing.{StandIn, entries-stand, printed-written, printed-more}
 use Rattle.jose.specs.Registered.{registered}
 use Rattle.prelude.specs.Refusals.{Test, first, stageOf}
 use Rattle.headers.specs.Headers.{headerText, tooLong, unread, textOrder, outermost, protectedEntries, membersOf}
@@ -85,18 +85,19 @@ module _ (message : List ℕ) (t : Top) (none : t .protected ≡ false → t .co
         front = begins n head last before (sym (told .1)) wrote;
       }
 
--- Entries that a header's stage collected
+-- Entries that a header's stage collected, of a header that stands in the text s
 
-pub record Collected (es : List Entry) (from : ℕ) (before last : List ℕ) (n : ℕ) : Type 0 where
+pub record Collected (s : List ℕ) (es : List Entry) (from : ℕ) (before last : List ℕ) (n : ℕ) : Type 0 where
   pub count : n ≡ length es
   pub short : n ≤ 32
-  pub wrote : last ≡ written (from * width) (flat es) before
+  pub wrote : last ≡ written (from * width) (flat s es) before
 
 collected : (s : List ℕ) (es : List Entry) (from : ℕ) (before last : List ℕ) (n : ℕ) →
-    first (objectOrder s es) ≡ 0 → n ≡ length es → last ≡ collectedTable from es before → Collected es from before last n
+    first (objectOrder s es) ≡ 0 → n ≡ length es → last ≡ collectedTable from s es before →
+    Collected s es from before last n
 collected s es from before last n e c l =
     let small = few s es e in
-    record { count = c; short = omega (arith, c, small); wrote = l ∙ few-collected from es before small }
+    record { count = c; short = omega (arith, c, small); wrote = l ∙ few-collected from s es before small }
 
 -- The protected header's, by the text and the answer as the code has them.
 module _ (header : List ℕ) (there : Bool) where
@@ -121,14 +122,14 @@ module _ (header : List ℕ) (there : Bool) where
 
     pub protected-collected : (before last : List ℕ) (n : ℕ) →
         Passed n ≡ stageOf (first (protectedTests b s)) (length (protectedEntries s)) →
-        last ≡ collectedTable 0 (protectedEntries s) before →
-        (first (protectedTests there header) ≡ 0) × Collected (protectedEntries header) 0 before last n
+        last ≡ collectedTable 0 s (protectedEntries s) before →
+        (first (protectedTests there header) ≡ 0) × Collected header (protectedEntries header) 0 before last n
     protected-collected before last n a l =
         let told = passed-is n (first (protectedTests there header)) (length (protectedEntries header))
         (a ∙ protected-as) in (
           told .0,
           collected header (protectedEntries header) 0 before last n (object-passes (told .0)) (told .1)
-              (l ∙ ap (λ (x : List ℕ). collectedTable 0 (protectedEntries x) before) t),
+              (l ∙ ap (λ (x : List ℕ). collectedTable 0 x (protectedEntries x) before) t),
         )
 
 -- The shared header's.
@@ -137,8 +138,9 @@ module _ (message : List ℕ) (t : Top) where
       Passed n
       ≡ stageOf (first (objectOrder message (headerEntries message 1 (t .shared))))
       (length (headerEntries message 1 (t .shared))) →
-      last ≡ collectedTable from (headerEntries message 1 (t .shared)) before →
-      (first (objectOrder message (sharedEntries message t)) ≡ 0) × Collected (sharedEntries message t) from before last n
+      last ≡ collectedTable from message (headerEntries message 1 (t .shared)) before →
+      (first (objectOrder message (sharedEntries message t)) ≡ 0)
+      × Collected message (sharedEntries message t) from before last n
   unfolding sharedEntries
   shared-collected from before last n a l =
       let told = passed-is n (first (objectOrder message (sharedEntries message t))) (length (sharedEntries message t)) a in (
@@ -147,20 +149,31 @@ module _ (message : List ℕ) (t : Top) where
       )
 
 -- Both, one behind the other.
-pub behind : {es fs : List Entry} {p s : ℕ} {before table last : List ℕ} → Collected es 0 before table p →
-    Collected fs p table last s → length table ≡ 768 → entriesOf (p + s) last ≡ es ++ fs
-behind {es} {fs} {p} {s} {before} {table} {last} a b long =
-    ap₂ entriesOf (ap (λ (k : ℕ). p + k) (b .count)) (b .wrote)
-    ∙ entries-more p fs table (omega (arith, a .short, long))
-    ∙ ap (λ (l : List Entry). l ++ fs) (ap₂ entriesOf (a .count) (a .wrote) ∙ entries-written es before)
+module _ {header message before table last : List ℕ} {es fs : List Entry} {p s : ℕ}
+    (a : Collected header es 0 before table p) (b : Collected message fs p table last s)
+    (long : length table ≡ 768) where
+  pub behind : entriesOf (p + s) last ≡ es ++ fs
+  behind =
+      ap₂ entriesOf (ap (λ (k : ℕ). p + k) (b .count)) (b .wrote)
+      ∙ entries-more p message fs table (omega (arith, a .short, long))
+      ∙ ap (λ (l : List Entry). l ++ fs) (ap₂ entriesOf (a .count) (a .wrote) ∙ entries-written header es before)
 
-pub front-printed : (header message : List ℕ) (t : Top) →
-    Printed (readTexts header message) (protectedEntries header ++ sharedEntries message t)
+  -- With the fingerprints of their names.
+  behind-printed : (ts : Texts) → StandIn ts header es → StandIn ts message fs → Printed ts (p + s) last
+  behind-printed ts h k =
+      let front = subst₂ (Printed ts) (sym (a .count)) (sym (a .wrote)) (printed-written ts header es before h) in
+      subst₂ (Printed ts) (ap (λ (n : ℕ). p + n) (sym (b .count))) (sym (b .wrote))
+      (printed-more ts p message fs table (omega (arith, a .short, long)) k front)
+
+pub front-printed : {header message before table last : List ℕ} (t : Top) {p s : ℕ} →
+    Collected header (protectedEntries header) 0 before table p →
+    Collected message (sharedEntries message t) p table last s → length table ≡ 768 →
+    Printed (readTexts header message) (p + s) last
 unfolding protectedEntries sharedEntries headerEntries
-front-printed header message t =
-    printed-append (readTexts header message) (protectedEntries header) (sharedEntries message t)
-    (entries-printed registered (readTexts header message) header 0 (outermost header) refl)
-    (entries-printed registered (readTexts header message) message 1 (membersOf message (t .shared)) refl)
+front-printed {header} {message} t a b long =
+    behind-printed a b long (readTexts header message)
+    (entries-stand registered (readTexts header message) header 0 (outermost header) refl)
+    (entries-stand registered (readTexts header message) message 1 (membersOf message (t .shared)) refl)
 
 -- The refusals in order
 

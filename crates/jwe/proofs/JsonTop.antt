@@ -12,7 +12,8 @@ use Rattle.prelude.specs.Buffer.{written}
 use Rattle.grammar.specs.Places.{Element}
 use Rattle.prelude.specs.Any.{any}
 use Rattle.rows.specs.Rows.{Entry, oneText, present, repeated}
-use Rattle.rows.specs.Tables.{flat, entriesOf}
+use Rattle.rows.specs.Tables.{entriesOf}
+use Rattle.rows.specs.Inner.Prints.{flat}
 use Rattle.rows.proofs.Entries.{entries-written}
 use Rattle.prelude.specs.Refusals.{_if_, first, stageOf}
 use Rattle.prelude.specs.Limits.{mostRecipients}
@@ -52,14 +53,14 @@ module _ (message : List ℕ) where
 
   pub top-is : (before last : List ℕ) (n : ℕ) →
       Passed n ≡ stageOf (first (topOrder message)) (length (topEntries message)) →
-      last ≡ written 0 (flat (topEntries message)) before →
+      last ≡ written 0 (flat message (topEntries message)) before →
       (first (topOrder message) ≡ 0) × ((n ≤ 32) × (entriesOf n last ≡ topEntries message))
   top-is before last n a l =
       let told = passed-is n (first (topOrder message)) (length (topEntries message)) a in (
         told .0,
         (
           omega (arith, told .1, top-few (told .0)),
-          ap₂ entriesOf (told .1) l ∙ entries-written (topEntries message) before,
+          ap₂ entriesOf (told .1) l ∙ entries-written message (topEntries message) before,
         ),
       )
 

@@ -1,5 +1,5 @@
 -- What is known where a stage of a compact message passed, or refused: the decoded protected header, what is handed out.
-use mathlib.Core.Path.{_≡_, refl, ap, ap₂, sym, subst, _∙_}
+use mathlib.Core.Path.{_≡_, refl, ap, ap₂, sym, _∙_}
 use mathlib.Core.Bool.{Bool, true, false, cond}
 use mathlib.Core.List.{List}
 use Prim.Native.Nat.{ℕ, _≤_, _<_}
@@ -8,8 +8,7 @@ use lib.ListN.{length, take}
 use borrow.Author.Tests.{ltb-false}
 use Rattle.prelude.specs.Buffer.{written}
 use Rattle.prelude.proofs.Writing.{written-length, begins}
-use Rattle.rows.specs.Rows.{Entry, readTexts}
-use Rattle.rows.specs.Inner.Prints.{Printed}
+use Rattle.rows.specs.Rows.{readTexts}
 use Rattle.prelude.specs.Refusals.{first, stageOf}
 use Rattle.jose.specs.HeaderRules.{modeIn}
 use Rattle.headers.specs.Headers.{tooLong, textOrder}
@@ -65,13 +64,6 @@ read-passed header before after n room e l =
       same = same;
       fits = omega (arith, same, size, p .1);
     }
-
--- Fingerprints that fit, of a text and entries known by other names.
-pub printed-as : (message h : List ℕ) (es : List Entry) (header : List ℕ) (entries : List Entry) → h ≡ header →
-    es ≡ entries → Printed (readTexts header message) entries → Printed (readTexts h message) es
-printed-as message h es header entries e f p =
-    subst (λ (x : List ℕ). Printed (readTexts x message) es) (sym e)
-    (subst (λ (l : List Entry). Printed (readTexts header message) l) (sym f) p)
 
 -- The numbers of an accepted compact message
 pub accepted-are : (message : List ℕ) (m n count : ℕ) (q : Components) →

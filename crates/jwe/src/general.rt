@@ -5,14 +5,14 @@ ghost use mathlib.Core.Path.{_≡_};
 ghost use mathlib.Core.Bool.{true, false};
 ghost use mathlib.Core.List.{_++_, map};
 ghost use Prim.Native.Nat.{_+_, _*_, _≤_, _<_};
-ghost use lib.ListN.{length, drop, getD};
+ghost use lib.ListN.{length, take, drop, getD};
 ghost use Rattle.prelude.specs.Buffer.{written};
 ghost use Rattle.prelude.specs.Limits.{headerRoom, longest, mostMembers, mostRecipients};
 ghost use Rattle.names.specs.Names.{names, filled};
 ghost use Rattle.prelude.specs.Any.{any};
 ghost use Rattle.rows.specs.Rows.{readTexts};
-ghost use Rattle.rows.specs.Inner.Prints.{Printed};
-ghost use Rattle.rows.specs.Tables.{flat, entriesOf, collectedTable, headerTable, recipientTable, width};
+ghost use Rattle.rows.specs.Tables.{entriesOf, headerTable, recipientTable, width};
+ghost use Rattle.rows.specs.Inner.Prints.{collectedTable, Printed};
 ghost use Rattle.prelude.specs.Refusals.{first, stageOf};
 ghost use Rattle.headers.specs.Components.{absent, misspelled};
 ghost use Rattle.headers.specs.Headers.{headerText, protectedEntries, headerEntries, objectOrder};
@@ -106,7 +106,7 @@ fn protected(header: &[u8], there: bool, table: &mut [u32]) -> Stage
     requires { ⌜ length (now header) ≤ longest ⌝ }
     requires { ⌜ headerTable ≤ length (now table) ⌝ }
     ensures { λ r. ⌜ r ≡ stageOf (first (protectedTests there (now (header .entry)))) (length (protectedEntries (now (header .entry)))) ⌝ }
-    ensures { λ _. ⌜ now (table .exit) ≡ collectedTable 0 (protectedEntries (now (header .entry))) (now (table .entry)) ⌝ }
+    ensures { λ _. ⌜ now (table .exit) ≡ collectedTable 0 (now (header .entry)) (protectedEntries (now (header .entry))) (now (table .entry)) ⌝ }
 {
     let list = jose::lists::REGISTERED;
     let at = Position { at: 0 }.skip_space(header).at;
@@ -129,7 +129,7 @@ fn unprotected(message: &[u8], start: usize, origin: u32, table: &mut [u32], fro
     requires { ⌜ from * width + headerTable ≤ length (now table) ⌝ }
     requires { ⌜ HeaderKnown (now message) start ⌝ }
     ensures { λ r. ⌜ r ≡ stageOf (first (objectOrder (now (message .entry)) (headerEntries (now (message .entry)) origin start))) (length (headerEntries (now (message .entry)) origin start)) ⌝ }
-    ensures { λ _. ⌜ now (table .exit) ≡ collectedTable from (headerEntries (now (message .entry)) origin start) (now (table .entry)) ⌝ }
+    ensures { λ _. ⌜ now (table .exit) ≡ collectedTable from (now (message .entry)) (headerEntries (now (message .entry)) origin start) (now (table .entry)) ⌝ }
 {
     if start == 0 {
         return Stage::Passed(0);
@@ -182,7 +182,7 @@ fn gather(own: &[u32], counts: &[usize], i: usize, table: &mut [u32], front: usi
     requires { ⌜ getD (now counts) i 0 ≤ mostMembers ⌝ }
     requires { ⌜ front * width + headerTable ≤ length (now table) ⌝ }
     ensures { λ r. ⌜ r ≡ front + getD (now (counts .entry)) i 0 ⌝ }
-    ensures { λ _. ⌜ now (table .exit) ≡ written (front * width) (flat (entriesOf (getD (now (counts .entry)) i 0) (drop (i * headerTable) (now (own .entry))))) (now (table .entry)) ⌝ }
+    ensures { λ _. ⌜ now (table .exit) ≡ written (front * width) (take (getD (now (counts .entry)) i 0 * width) (drop (i * headerTable) (now (own .entry)))) (now (table .entry)) ⌝ }
 {
     let count = counts[i];
     let start = i * layout::HEADER_TABLE;
@@ -211,7 +211,7 @@ fn rules(
     requires { ⌜ length (now counts) ≡ mostRecipients ⌝ }
     requires { ⌜ Owned number (now message) (now of) (now own) (now counts) ⌝ }
     requires { ⌜ front * width + headerTable ≤ length (now table) ⌝ }
-    requires { ⌜ Printed (readTexts (now header) (now message)) (entriesOf front (now table)) ⌝ }
+    requires { ⌜ Printed (readTexts (now header) (now message)) front (now table) ⌝ }
     ensures { λ r. ⌜ r ≡ stageOf (first (ruleTests (names (now (known .entry))) (now (header .entry)) (now (message .entry)) (entriesOf front (now (table .entry))) (componentsOf q) (recipientsOf number (now (of .entry))))) number ⌝ }
     ensures { λ _. ⌜ entriesOf front (now (table .exit)) ≡ entriesOf front (now (table .entry)) ⌝ }
 {
@@ -249,7 +249,7 @@ fn judged(
     requires { ⌜ length (now own) ≡ ownTable ⌝ }
     requires { ⌜ length (now counts) ≡ mostRecipients ⌝ }
     requires { ⌜ front * width + headerTable ≤ length (now table) ⌝ }
-    requires { ⌜ Printed (readTexts (now header) (now message)) (entriesOf front (now table)) ⌝ }
+    requires { ⌜ Printed (readTexts (now header) (now message)) front (now table) ⌝ }
     requires { ⌜ HeadersKnown (now message) (recipientsOf number (now of)) ⌝ }
     ensures { λ r. ⌜ r ≡ stageOf (first (allTests (names (now (known .entry))) (now (header .entry)) (now (message .entry)) (entriesOf front (now (table .entry))) (componentsOf q) (recipientsOf number (now (of .entry))))) number ⌝ }
     ensures { λ r. ⌜ LeavesOwn number (now (message .entry)) (now (of .entry)) (now (own .exit)) (now (counts .exit)) r ⌝ }
@@ -327,7 +327,7 @@ fn headed(
     requires { ⌜ number * recipientWidth ≤ length (now of) ⌝ }
     requires { ⌜ length (now table) ≡ recipientTable ⌝ }
     requires { ⌜ front ≤ 2 * mostMembers ⌝ }
-    requires { ⌜ Printed (readTexts (now header) (now message)) (entriesOf front (now table)) ⌝ }
+    requires { ⌜ Printed (readTexts (now header) (now message)) front (now table) ⌝ }
     requires { ⌜ HeadersKnown (now message) (recipientsOf number (now of)) ⌝ }
     ensures { λ r. ⌜ Heads (now (message .entry))
         (headedOrder (names (now (known .entry))) (now (header .entry)) (now (message .entry))

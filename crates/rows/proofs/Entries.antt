@@ -4,18 +4,19 @@ use mathlib.Core.Path.{_≡_, refl, ap, ap₂, sym, _∙_}
 use mathlib.Core.List.{List, [], _∷_, _++_}
 use Prim.Native.Nat.{ℕ, zero, suc, _+_, _-_, _*_, _≤_, _<_}
 use native.Mathlib.Omega.{arith}
-use lib.ListN.{length, take, drop, length-drop, drop-of-length-le}
+use lib.ListN.{length, take, drop, getD, length-drop, drop-of-length-le}
 use lib.Seq.{drop-drop, drop-at, take-add, length-take-le}
 use Rattle.prelude.specs.Buffer.{written}
 use Rattle.rows.specs.Rows.{Entry}
-use Rattle.rows.specs.Tables.{listRow, tableRow, flat, listed, firstOf, entriesOf, width, listWidth}
+use Rattle.rows.specs.Tables.{listRow, listed, firstOf, entriesOf, width, listWidth}
+use Rattle.rows.specs.Inner.Prints.{flat}
 
 -- Lengths, and one list after another
 
-pub flat-length : (es : List Entry) → length (flat es) ≡ length es * width
+pub flat-length : (s : List ℕ) (es : List Entry) → length (flat s es) ≡ length es * width
 unfolding flat
-flat-length [] = refl
-flat-length (e ∷ es) = omega (arith, flat-length es)
+flat-length s [] = refl
+flat-length s (e ∷ es) = omega (arith, flat-length s es)
 
 pub listed-length : (es : List Entry) → length (listed es) ≡ length es * listWidth
 unfolding listed
@@ -27,11 +28,6 @@ unfolding entriesOf
 entries-length zero t = refl
 entries-length (suc n) t = ap suc (entries-length n (drop width t))
 
-pub flat-append : (es fs : List Entry) → flat (es ++ fs) ≡ flat es ++ flat fs
-unfolding flat
-flat-append [] fs = refl
-flat-append (e ∷ es) fs = ap (λ (l : List ℕ). tableRow e ++ l) (flat-append es fs)
-
 pub listed-append : (es fs : List Entry) → listed (es ++ fs) ≡ listed es ++ listed fs
 unfolding listed
 listed-append [] fs = refl
@@ -39,12 +35,16 @@ listed-append (e ∷ es) fs = ap (λ (l : List ℕ). listRow e ++ l) (listed-app
 
 -- What was laid flat is read back
 
-pub entries-flat : (es : List Entry) (rest : List ℕ) → entriesOf (length es) (flat es ++ rest) ≡ es
+pub entries-flat : (s : List ℕ) (es : List Entry) (rest : List ℕ) → entriesOf (length es) (flat s es ++ rest) ≡ es
 unfolding entriesOf flat
-entries-flat [] rest = refl
-entries-flat (e ∷ es) rest = ap (λ (l : List Entry). e ∷ l) (entries-flat es rest)
+entries-flat s [] rest = refl
+entries-flat s (e ∷ es) rest = ap (λ (l : List Entry). e ∷ l) (entries-flat s es rest)
 
-eight-first : (t : List ℕ) → width ≤ length t → tableRow (firstOf t) ≡ take width t
+-- The numbers of the first entry: its own seven, and the fingerprint.
+abbrev pub eight : List ℕ → List ℕ
+eight t = listRow (firstOf t) ++ (firstOf t .number ∷ getD t 7 0 ∷ [])
+
+pub eight-first : (t : List ℕ) → width ≤ length t → take width t ≡ eight t
 eight-first [] h = absurd (omega arith)
 eight-first (a ∷ []) h = absurd (omega arith)
 eight-first (a ∷ b ∷ []) h = absurd (omega arith)
@@ -55,13 +55,13 @@ eight-first (a ∷ b ∷ c ∷ d ∷ e ∷ f ∷ []) h = absurd (omega arith)
 eight-first (a ∷ b ∷ c ∷ d ∷ e ∷ f ∷ g ∷ []) h = absurd (omega arith)
 eight-first (a ∷ b ∷ c ∷ d ∷ e ∷ f ∷ g ∷ i ∷ rest) h = refl
 
-pub flat-of : (count : ℕ) (t : List ℕ) → count * width ≤ length t → flat (entriesOf count t) ≡ take (count * width) t
-unfolding entriesOf flat
-flat-of zero t h = refl
-flat-of (suc n) t h =
-    let sum : width + n * width ≡ suc n * width = omega arith in
-    let rest = flat-of n (drop width t) (omega (arith, length-drop width t)) in
-    ap₂ _++_ (eight-first t (omega arith)) rest ∙ sym (take-add width (n * width) t) ∙ ap (λ (k : ℕ). take k t) sum
+-- The front of a table, by its first entry and the front behind that.
+pub front-next : (n : ℕ) (t rest : List ℕ) → suc n * width ≤ length t →
+    take (suc n * width) t ++ rest ≡ eight t ++ (take (n * width) (drop width t) ++ rest)
+front-next n t rest h =
+    let sum : suc n * width ≡ width + n * width = omega arith in
+    ap (λ (k : ℕ). take k t ++ rest) sum ∙ ap (λ (l : List ℕ). l ++ rest) (take-add width (n * width) t)
+    ∙ ap (λ (l : List ℕ). (l ++ take (n * width) (drop width t)) ++ rest) (eight-first t (omega arith))
 
 -- From an entry on
 
@@ -108,30 +108,34 @@ entries-split (suc m) n t =
 
 pub entries-front : (count : ℕ) (t rest : List ℕ) → count * width ≤ length t →
     entriesOf count (take (count * width) t ++ rest) ≡ entriesOf count t
-entries-front count t rest h =
-    ap (λ (l : List ℕ). entriesOf count (l ++ rest)) (sym (flat-of count t h))
-    ∙ ap (λ (n : ℕ). entriesOf n (flat (entriesOf count t) ++ rest)) (sym (entries-length count t))
-    ∙ entries-flat (entriesOf count t) rest
+unfolding entriesOf
+entries-front zero t rest h = refl
+entries-front (suc n) t rest h =
+    ap (entriesOf (suc n)) (front-next n t rest h)
+    ∙ ap (λ (l : List Entry). firstOf t ∷ l) (entries-front n (drop width t) rest (omega (arith, length-drop width t)))
 
 -- Entries that were written
 
-pub entries-written : (es : List Entry) (table : List ℕ) → entriesOf (length es) (written 0 (flat es) table) ≡ es
+pub entries-written : (s : List ℕ) (es : List Entry) (table : List ℕ) →
+    entriesOf (length es) (written 0 (flat s es) table) ≡ es
 unfolding written
-entries-written es table = entries-flat es (drop (0 + length (flat es)) table)
+entries-written s es table = entries-flat s es (drop (0 + length (flat s es)) table)
 
 -- From the entry `from` on.
-module _ (from : ℕ) (es : List Entry) (table : List ℕ) (h : from * width ≤ length table) where
-  drop-written : drop (from * width) (written (from * width) (flat es) table)
-      ≡ flat es ++ drop (from * width + length (flat es)) table
+module _ (from : ℕ) (s : List ℕ) (es : List Entry) (table : List ℕ) (h : from * width ≤ length table) where
+  pub drop-written : drop (from * width) (written (from * width) (flat s es) table)
+      ≡ flat s es ++ drop (from * width + length (flat s es)) table
   unfolding written
   drop-written = drop-at (take (from * width) table) _ (from * width) (length-take-le (from * width) table h)
 
-  pub entries-written-from : entriesOf (length es) (drop (from * width) (written (from * width) (flat es) table)) ≡ es
-  entries-written-from = ap (entriesOf (length es)) drop-written ∙ entries-flat es _
+  pub entries-written-from :
+      entriesOf (length es) (drop (from * width) (written (from * width) (flat s es) table)) ≡ es
+  entries-written-from = ap (entriesOf (length es)) drop-written ∙ entries-flat s es _
 
   -- Those before it, and these.
-  pub entries-more : entriesOf (from + length es) (written (from * width) (flat es) table) ≡ entriesOf from table ++ es
+  pub entries-more :
+      entriesOf (from + length es) (written (from * width) (flat s es) table) ≡ entriesOf from table ++ es
   unfolding written
   entries-more =
-      entries-split from (length es) (written (from * width) (flat es) table)
+      entries-split from (length es) (written (from * width) (flat s es) table)
       ∙ ap₂ _++_ (entries-front from table _ h) entries-written-from

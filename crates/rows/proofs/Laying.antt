@@ -1,5 +1,5 @@
 -- Entries laid out as the list's numbers, one after the other: what is still to come is the list from the next entry on.
-use mathlib.Core.Path.{_≡_, refl, ap, sym, subst, _∙_}
+use mathlib.Core.Path.{_≡_, ap, sym, subst, _∙_}
 use mathlib.Core.List.{List}
 use Prim.Native.Nat.{ℕ, _+_, _-_, _*_, _≤_, _<_}
 use native.Mathlib.Nat.{add-zero}
@@ -10,18 +10,17 @@ use Rattle.prelude.specs.Buffer.{written}
 use Rattle.prelude.proofs.Lists.{drop-next}
 use Rattle.prelude.proofs.Writing.{Writing, begin, put, put-part, done}
 use Rattle.rows.specs.Rows.{Entry}
-use Rattle.rows.specs.Tables.{listRow, flat, listed, firstOf, entriesOf, width, listWidth}
-use Rattle.rows.proofs.Entries.{listed-length, entries-length, flat-of, entry-at, entries-done}
+use Rattle.rows.specs.Tables.{listRow, listed, firstOf, entriesOf, width, listWidth}
+use Rattle.rows.proofs.Entries.{listed-length, entries-length, eight-first, entry-at, entries-done}
 
 -- The part of a table that is an entry's first six numbers.
 pub six-part : (t : List ℕ) (start : ℕ) → start + width ≤ length t
     → take (start + 6 - start) (drop start t) ≡ listRow (firstOf (drop start t))
-unfolding flat entriesOf
 six-part t start h =
     let six-long : start + 6 - start ≡ 6 = omega arith in
     let entry = drop start t in
     ap (λ (n : ℕ). take n entry) six-long ∙ sym (take-take listWidth width entry (omega arith))
-    ∙ ap (take 6) (sym (flat-of 1 entry (omega (arith, h, length-drop start t))))
+    ∙ ap (take 6) (eight-first entry (omega (arith, h, length-drop start t)))
 
 -- Entries of a table laid out into a list.
 module _ (t : List ℕ) (count : ℕ) (before : List ℕ) where

@@ -2,7 +2,7 @@
 pub mod Entries
 -- Loops that ask something of one entry after the other.
 pub mod Asking
--- Comparing fingerprints first changes no answer.
+-- Tables whose entries have the fingerprints of their names.
 pub mod Printing
 -- For `collect`: entries of rows.
 pub mod Collecting
@@ -10,5 +10,5 @@ pub mod Collecting
 pub mod Laying
 -- An entry's text, and the value of the first entry of a name.
 pub mod Values
--- Names compared where their fingerprints are one.
+-- Comparing fingerprints first changes no answer.
 pub mod Clashing

@@ -1,71 +1,101 @@
--- Comparing fingerprints first changes no answer, where each entry has the fingerprint of what its name says: names
--- that say the same have one fingerprint.
-use mathlib.Core.Path.{_≡_, refl, ap, ap₂, sym, _∙_}
-use mathlib.Core.Bool.{Bool, true, false, _&&_, _||_}
+-- Tables whose entries have the fingerprints of what their names say: what was laid flat has them, and whatever is
+-- written behind entries that have them leaves them there.
+use mathlib.Core.Path.{_≡_, refl, ap, sym, subst, _∙_}
 use mathlib.Core.List.{List, [], _∷_, _++_}
-use Prim.Native.Nat.{ℕ}
-use lib.Dec.{eqb}
-use borrow.Author.Tests.{eq-eqb}
-use Rattle.grammar.specs.Spellings.{undo, alike, fingerprint}
+use Prim.Native.Nat.{ℕ, zero, suc, _+_, _*_, _≤_, _<_}
+use native.Mathlib.Omega.{arith}
+use lib.ListN.{length, take, drop, length-drop}
+use lib.Seq.{drop-drop}
+use Rattle.prelude.specs.Buffer.{written}
+use Rattle.grammar.specs.Spellings.{undo}
+use Rattle.spelling.specs.Inner.Fingerprints.{fingerprint}
 use Rattle.grammar.specs.Places.{Member}
 use Rattle.grammar.specs.Bounds.{Every}
-use Rattle.spelling.proofs.Fingerprints.{alike-fingerprint}
-use Rattle.prelude.specs.Any.{any, anyPair}
-use Rattle.rows.specs.Rows.{Entry, Texts, textOf, spelledName, entriesIn, nameIn, apart, same, repeated, clash, clashes}
-use Rattle.rows.specs.Inner.Prints.{HasPrint, Printed}
+use Rattle.rows.specs.Rows.{Entry, Texts, textOf, oneText, spelledName, entriesIn}
+use Rattle.rows.specs.Tables.{width}
+use Rattle.rows.specs.Inner.Prints.{flat, HasPrint, Printed}
+use Rattle.rows.proofs.Entries.{front-next, drop-written}
 
--- What holds of all of two lists holds of all of both.
-every-append : {A : Type 0} (P : A → Type 0) (xs ys : List A) → Every P xs → Every P ys → Every P (xs ++ ys)
-every-append P [] ys h i = i
-every-append P (x ∷ xs) ys h i = (h .0, every-append P xs ys (h .1) i)
+-- Entries that stand in a text: it is the one that their origins say.
+abbrev pub StandIn : Texts → List ℕ → List Entry → Type 0
+StandIn ts s es = Every (λ e. textOf ts (e .origin) ≡ s) es
 
--- Two tests that agree on the entries answer the same.
-
-any-same : {A : Type 0} (P : A → Type 0) (f g : A → Bool) → ((x : A) → P x → f x ≡ g x) → (xs : List A) → Every P xs →
-    any f xs ≡ any g xs
-unfolding any
-any-same P f g agree [] h = refl
-any-same P f g agree (x ∷ xs) h = ap₂ _||_ (agree x (h .0)) (any-same P f g agree xs (h .1))
-
-any-pair-same : {A : Type 0} (P : A → Type 0) (f g : A → A → Bool) → ((x y : A) → P x → P y → f x y ≡ g x y) →
-    (xs : List A) → Every P xs → anyPair f xs ≡ anyPair g xs
-unfolding anyPair
-any-pair-same P f g agree [] h = refl
-any-pair-same P f g agree (x ∷ xs) h =
-    ap₂ _||_ (any-same P (f x) (g x) (λ y. agree x y (h .0)) xs (h .1)) (any-pair-same P f g agree xs (h .1))
-
-module _ (across : Bool) (ts : Texts) where
-  clash-same : (e f : Entry) → HasPrint ts e → HasPrint ts f →
-      clash across ts e f ≡ same across ts e f
-  clash-same e f p q =
-      ap (λ (b : Bool). apart across (e .origin) (f .origin) && b)
-      (cases (alike (nameIn ts e) (nameIn ts f)) refl (eqb (e .print) (f .print)) refl)
-    where
-      cases : (a : Bool) → alike (nameIn ts e) (nameIn ts f) ≡ a → (b : Bool) →
-          eqb (e .print) (f .print) ≡ b → (b && a) ≡ a
-      cases true t b u =
-          ap (λ (x : Bool). x && true)
-          (sym u ∙ eq-eqb (e .print) (f .print) (p ∙ alike-fingerprint _ _ t ∙ sym q))
-      cases false t true u = refl
-      cases false t false u = refl
-
-  pub clashes-repeated : (es : List Entry) → Printed ts es →
-      clashes across ts es ≡ repeated across ts es
-  unfolding clashes repeated
-  clashes-repeated es h =
-      any-pair-same (HasPrint ts) (clash across ts) (same across ts) clash-same es h
-
--- Entries of members have their fingerprints
-
-pub entries-printed : (names : List (List ℕ)) (ts : Texts) (s : List ℕ) (o : ℕ) (ms : List Member) →
-    s ≡ textOf ts o → Printed ts (entriesIn names s o ms)
+pub entries-stand : (names : List (List ℕ)) (ts : Texts) (s : List ℕ) (o : ℕ) (ms : List Member) → textOf ts o ≡ s →
+    StandIn ts s (entriesIn names s o ms)
 unfolding entriesIn
-entries-printed names ts s o [] e = tt
-entries-printed names ts s o (m ∷ ms) e = (
-  ap (λ (x : List ℕ). fingerprint (undo (spelledName x m))) e,
-  entries-printed names ts s o ms e,
-)
+entries-stand names ts s o [] e = tt
+entries-stand names ts s o (m ∷ ms) e = (e, entries-stand names ts s o ms e)
 
-pub printed-append : (ts : Texts) (es fs : List Entry) → Printed ts es →
-    Printed ts fs → Printed ts (es ++ fs)
-printed-append ts = every-append (HasPrint ts)
+-- One text is the text of every origin.
+one-text : (s : List ℕ) (o : ℕ) → textOf (oneText s) o ≡ s
+one-text s zero = refl
+one-text s (suc zero) = refl
+one-text s (suc (suc o)) = refl
+
+pub stand-in-one : (s : List ℕ) (es : List Entry) → StandIn (oneText s) s es
+stand-in-one s [] = tt
+stand-in-one s (e ∷ es) = (one-text s (e .origin), stand-in-one s es)
+
+module _ (ts : Texts) where
+  -- An entry's, out of those of all.
+  pub printed-at : (i count : ℕ) (t : List ℕ) → i < count → Printed ts count t → HasPrint ts (drop (i * width) t)
+  unfolding Printed
+  printed-at i zero t h p = absurd (omega arith)
+  printed-at zero (suc n) t h p = p .0
+  printed-at (suc i) (suc n) t h p =
+      let at : width + i * width ≡ suc i * width = omega arith in
+      subst (HasPrint ts) (drop-drop (i * width) width t ∙ ap (λ (k : ℕ). drop k t) at)
+      (printed-at i n (drop width t) (omega arith) (p .1))
+
+  -- Those of the first entries, and of those behind them.
+  printed-split : (m n : ℕ) (t : List ℕ) → Printed ts m t → Printed ts n (drop (m * width) t) → Printed ts (m + n) t
+  unfolding Printed
+  printed-split zero n t p q = let e : n ≡ 0 + n = omega arith in subst (λ (k : ℕ). Printed ts k t) e q
+  printed-split (suc m) n t p q =
+      let e : suc (m + n) ≡ suc m + n = omega arith in
+      let at : width + m * width ≡ suc m * width = omega arith in
+      let behind = subst (Printed ts n) (sym (drop-drop (m * width) width t ∙ ap (λ (k : ℕ). drop k t) at)) q in
+      subst (λ (k : ℕ). Printed ts k t) e (p .0, printed-split m n (drop width t) (p .1) behind)
+
+  printed-front : (count : ℕ) (t rest : List ℕ) → count * width ≤ length t → Printed ts count t →
+      Printed ts count (take (count * width) t ++ rest)
+  unfolding Printed
+  printed-front zero t rest h p = tt
+  printed-front (suc n) t rest h p =
+      subst (Printed ts (suc n)) (sym (front-next n t rest h))
+      (p .0, printed-front n (drop width t) rest (omega (arith, length-drop width t)) (p .1))
+
+  -- Whatever is written behind them.
+  pub printed-kept : (count : ℕ) (xs t : List ℕ) → count * width ≤ length t → Printed ts count t →
+      Printed ts count (written (count * width) xs t)
+  unfolding written
+  printed-kept count xs t h p = printed-front count t _ h p
+
+  -- Entries that were written
+
+  printed-flat : (s : List ℕ) (es : List Entry) (rest : List ℕ) → StandIn ts s es →
+      Printed ts (length es) (flat s es ++ rest)
+  unfolding Printed flat
+  printed-flat s [] rest h = tt
+  printed-flat s (e ∷ es) rest h =
+      (ap (λ (x : List ℕ). fingerprint (undo (spelledName x (e .member)))) (sym (h .0)), printed-flat s es rest (h .1))
+
+  pub printed-written : (s : List ℕ) (es : List Entry) (table : List ℕ) → StandIn ts s es →
+      Printed ts (length es) (written 0 (flat s es) table)
+  unfolding written
+  printed-written s es table h = printed-flat s es _ h
+
+  -- From the entry `from` on.
+  module _ (from : ℕ) (s : List ℕ) (es : List Entry) (table : List ℕ) (room : from * width ≤ length table)
+      (h : StandIn ts s es) where
+    pub printed-written-from :
+        Printed ts (length es) (drop (from * width) (written (from * width) (flat s es) table))
+    printed-written-from =
+        subst (Printed ts (length es)) (sym (drop-written from s es table room)) (printed-flat s es _ h)
+
+    -- Those before it, and these.
+    pub printed-more : Printed ts from table →
+        Printed ts (from + length es) (written (from * width) (flat s es) table)
+    printed-more p =
+        printed-split from (length es) (written (from * width) (flat s es) table)
+        (printed-kept from (flat s es) table room p) printed-written-from

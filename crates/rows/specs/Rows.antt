@@ -1,5 +1,5 @@
 -- Members of the objects whose names are compared, as entries: document 01's list entry (origin, the name's place, the
--- value's place, the kind), which of some names the member has, and a fingerprint of what its name says.
+-- value's place, the kind), and which of some names the member has.
 use mathlib.Core.List.{List, [], _∷_, map}
 use mathlib.Core.Bool.{Bool, true, not, _&&_, cond}
 use Prim.Native.Nat.{ℕ, zero, suc, _+_, _-_}
@@ -7,7 +7,7 @@ use lib.Dec.{eqb}
 use Rattle.parts.specs.Parts.{part}
 use Rattle.names.specs.Names.{numberIn}
 use Rattle.grammar.specs.Places.{Member, Place}
-use Rattle.grammar.specs.Spellings.{undo, alike, fingerprint}
+use Rattle.grammar.specs.Spellings.{alike}
 use Rattle.prelude.specs.Any.{any, anyPair}
 
 -- Origins (document 01): 0 the protected header, 1 the shared header or the message itself, 2 a recipient's own header.
@@ -15,7 +15,6 @@ pub record Entry : Type 0 where
   pub origin : ℕ
   pub member : Member
   pub number : ℕ
-  pub print : ℕ
 
 -- The texts in which a recipient's three headers stand.
 pub record Texts : Type 0 where
@@ -54,7 +53,6 @@ entryOf names s o m = record {
   origin = o;
   member = m;
   number = numberIn names (spelledName s m);
-  print = fingerprint (undo (spelledName s m));
 }
 
 -- The entries of members that stand in the text s.
@@ -101,13 +99,3 @@ same across ts e f =
 
 unfoldable pub repeated : Bool → Texts → List Entry → Bool
 repeated across ts es = anyPair (same across ts) es
-
--- The same as the code asks it: names with different fingerprints are not compared.
-
-abbrev pub clash : Bool → Texts → Entry → Entry → Bool
-clash across ts e f =
-    apart across (e .origin) (f .origin)
-    && (eqb (e .print) (f .print) && alike (nameIn ts e) (nameIn ts f))
-
-unfoldable pub clashes : Bool → Texts → List Entry → Bool
-clashes across ts es = anyPair (clash across ts) es

@@ -1,12 +1,9 @@
--- Entries as numbers in a table, eight each; and six each in the list that is handed out.
+-- Entries as numbers: six each in the list that is handed out, and eight each in a table, of which the last is not the
+-- entry's (specs/Inner/Prints).
 use mathlib.Core.List.{List, [], _∷_, _++_}
-use mathlib.Core.Bool.{cond}
-use Prim.Native.Nat.{ℕ, zero, suc, _+_, _*_}
-use lib.ListN.{length, drop, getD}
-use lib.Dec.{leb}
-use Rattle.prelude.specs.Buffer.{written}
+use Prim.Native.Nat.{ℕ, zero, suc, _*_}
+use lib.ListN.{drop, getD}
 use Rattle.prelude.specs.Limits.{mostMembers}
-use Rattle.grammar.specs.Places.{Member}
 use Rattle.rows.specs.Rows.{Entry}
 
 -- How many numbers an entry has in a table, and in the list that is handed out.
@@ -34,19 +31,11 @@ listRow e =
     ∷ e .member .kind
     ∷ []
 
--- Those of a table: which of the names it has and the fingerprint besides.
-abbrev pub tableRow : Entry → List ℕ
-tableRow e = listRow e ++ (e .number ∷ e .print ∷ [])
-
-unfoldable pub flat : List Entry → List ℕ
-flat [] = []
-flat (e ∷ es) = tableRow e ++ flat es
-
 unfoldable pub listed : List Entry → List ℕ
 listed [] = []
 listed (e ∷ es) = listRow e ++ listed es
 
--- The first entry of a table.
+-- The first entry of a table: those numbers, and which of the names it has.
 abbrev pub firstOf : List ℕ → Entry
 firstOf t = record {
   origin = getD t 0 0;
@@ -58,14 +47,9 @@ firstOf t = record {
     kind = getD t 5 0;
   };
   number = getD t 6 0;
-  print = getD t 7 0;
 }
 
 -- Its first n entries.
 unfoldable pub entriesOf : ℕ → List ℕ → List Entry
 entriesOf zero t = []
 entriesOf (suc n) t = firstOf t ∷ entriesOf n (drop width t)
-
--- A table into which the entries of an object were collected from an entry on; unchanged where there are more than 32.
-unfoldable pub collectedTable : ℕ → List Entry → List ℕ → List ℕ
-collectedTable from es table = cond (leb (length es) mostMembers) (written (from * width) (flat es) table) table

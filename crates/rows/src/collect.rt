@@ -11,8 +11,9 @@ ghost use Rattle.grammar.specs.Reader.{membersAt};
 ghost use Rattle.json.specs.Members.{collectedOf, memberWidth};
 ghost use Rattle.json.specs.Inner.Known.{Given, KnownIn};
 ghost use Rattle.rows.specs.Rows.{entryOf, entriesIn};
-ghost use Rattle.rows.specs.Tables.{tableRow, flat, collectedTable, headerTable, width};
+ghost use Rattle.rows.specs.Tables.{headerTable, width};
 ghost use Rattle.rows.specs.Inner.Members.{firstMember, membersOf};
+ghost use Rattle.rows.specs.Inner.Prints.{tableRow, flat, collectedTable};
 use crate::layout;
 use json::Position;
 use json::member::Collected;
@@ -24,7 +25,7 @@ fn put(text: &[u8], origin: u32, list: &[u8], row: &[usize], table: &mut [u32], 
     requires { ⌜ length (now row) ≡ memberWidth ⌝ }
     requires { ⌜ AllBelow numberLimit (now row) ⌝ }
     requires { ⌜ at + width ≤ length (now table) ⌝ }
-    ensures { λ _. ⌜ now (table .exit) ≡ written at (tableRow (entryOf (names (now (list .entry))) (now (text .entry)) origin (firstMember (now (row .entry))))) (now (table .entry)) ⌝ }
+    ensures { λ _. ⌜ now (table .exit) ≡ written at (tableRow (now (text .entry)) (entryOf (names (now (list .entry))) (now (text .entry)) origin (firstMember (now (row .entry))))) (now (table .entry)) ⌝ }
 {
     let start = row[0];
     let len = row[1];
@@ -55,7 +56,7 @@ fn fill(
     requires { ⌜ count * memberWidth ≤ length (now rows) ⌝ }
     requires { ⌜ AllBelow numberLimit (take (count * memberWidth) (now rows)) ⌝ }
     requires { ⌜ from * width + count * width ≤ length (now table) ⌝ }
-    ensures { λ _. ⌜ now (table .exit) ≡ written (from * width) (flat (entriesIn (names (now (list .entry))) (now (text .entry)) origin (membersOf count (now (rows .entry))))) (now (table .entry)) ⌝ }
+    ensures { λ _. ⌜ now (table .exit) ≡ written (from * width) (flat (now (text .entry)) (entriesIn (names (now (list .entry))) (now (text .entry)) origin (membersOf count (now (rows .entry))))) (now (table .entry)) ⌝ }
 {
     let mut i: usize = 0;
     while i < count {
@@ -90,7 +91,7 @@ pub fn collect(
     requires { ⌜ from * width + headerTable ≤ length (now table) ⌝ }
     requires { ⌜ Given judged (KnownIn curly levels (now text) at) ⌝ }
     ensures { λ r. ⌜ r ≡ collectedOf (membersAt levels (now (text .entry)) at) ⌝ }
-    ensures { λ _. ⌜ now (table .exit) ≡ collectedTable from (entriesIn (names (now (list .entry))) (now (text .entry)) origin (membersAt levels (now (text .entry)) at)) (now (table .entry)) ⌝ }
+    ensures { λ _. ⌜ now (table .exit) ≡ collectedTable from (now (text .entry)) (entriesIn (names (now (list .entry))) (now (text .entry)) origin (membersAt levels (now (text .entry)) at)) (now (table .entry)) ⌝ }
 {
     let mut rows = [0usize; json::member::ROOM];
     let answer = Position { at }.collect(text, LEVELS, judged, &mut rows);

@@ -4,8 +4,9 @@ ghost use Prim.Native.Nat.{_+_, _*_, _≤_, _<_};
 ghost use lib.ListN.{length, drop};
 ghost use Rattle.grammar.specs.Spellings.{alike};
 ghost use Rattle.prelude.specs.Any.{any};
-ghost use Rattle.rows.specs.Rows.{texts, nameIn, nameSays, apart, clash, clashes};
+ghost use Rattle.rows.specs.Rows.{texts, nameIn, nameSays, apart, same, repeated};
 ghost use Rattle.rows.specs.Tables.{firstOf, entriesOf, width};
+ghost use Rattle.rows.specs.Inner.Prints.{HasPrint, Printed};
 use crate::ask::field;
 use crate::ask::name;
 use crate::layout;
@@ -48,7 +49,7 @@ fn same(header: &[u8], shared: &[u8], own: &[u8], table: &[u32], i: usize, j: us
     says(header, shared, own, table, i, name(own, table, j))
 }
 
-// Whether two entries clash: their fingerprints are compared first.
+// Whether two entries, both of one origin, or, across, of two, say the same: their fingerprints are compared first.
 fn clash(
     header: &[u8],
     shared: &[u8],
@@ -60,7 +61,9 @@ fn clash(
 ) -> bool
     requires { ⌜ i * width + width ≤ length (now table) ⌝ }
     requires { ⌜ j * width + width ≤ length (now table) ⌝ }
-    ensures { λ r. ⌜ r ≡ clash across (texts (now (header .entry)) (now (shared .entry)) (now (own .entry))) (firstOf (drop (i * width) (now (table .entry)))) (firstOf (drop (j * width) (now (table .entry)))) ⌝ }
+    requires { ⌜ HasPrint (texts (now header) (now shared) (now own)) (drop (i * width) (now table)) ⌝ }
+    requires { ⌜ HasPrint (texts (now header) (now shared) (now own)) (drop (j * width) (now table)) ⌝ }
+    ensures { λ r. ⌜ r ≡ same across (texts (now (header .entry)) (now (shared .entry)) (now (own .entry))) (firstOf (drop (i * width) (now (table .entry)))) (firstOf (drop (j * width) (now (table .entry)))) ⌝ }
 {
     if field(table, i, layout::PRINT) != field(table, j, layout::PRINT) {
         return false;
@@ -75,7 +78,7 @@ fn clash(
     false
 }
 
-// Whether an entry clashes with one behind it.
+// Whether an entry says the same as one behind it.
 fn clashes_with(
     header: &[u8],
     shared: &[u8],
@@ -87,7 +90,8 @@ fn clashes_with(
 ) -> bool
     requires { ⌜ count * width ≤ length (now table) ⌝ }
     requires { ⌜ i < count ⌝ }
-    ensures { λ r. ⌜ r ≡ any (clash across (texts (now (header .entry)) (now (shared .entry)) (now (own .entry))) (firstOf (drop (i * width) (now (table .entry))))) (drop (i + 1) (entriesOf count (now (table .entry)))) ⌝ }
+    requires { ⌜ Printed (texts (now header) (now shared) (now own)) count (now table) ⌝ }
+    ensures { λ r. ⌜ r ≡ any (same across (texts (now (header .entry)) (now (shared .entry)) (now (own .entry))) (firstOf (drop (i * width) (now (table .entry))))) (drop (i + 1) (entriesOf count (now (table .entry)))) ⌝ }
 {
     let mut j = i + 1;
     while j < count {
@@ -110,7 +114,8 @@ pub fn clashes(
     across: bool,
 ) -> bool
     requires { ⌜ count * width ≤ length (now table) ⌝ }
-    ensures { λ r. ⌜ r ≡ clashes across (texts (now (header .entry)) (now (shared .entry)) (now (own .entry))) (entriesOf count (now (table .entry))) ⌝ }
+    requires { ⌜ Printed (texts (now header) (now shared) (now own)) count (now table) ⌝ }
+    ensures { λ r. ⌜ r ≡ repeated across (texts (now (header .entry)) (now (shared .entry)) (now (own .entry))) (entriesOf count (now (table .entry))) ⌝ }
 {
     let mut i: usize = 0;
     while i < count {

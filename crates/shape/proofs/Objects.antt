@@ -15,7 +15,8 @@ use Rattle.grammar.specs.Reader.{Answer, nothing, found, skipSpace, membersAt, 
 use Rattle.json.specs.Inner.Ends.{foundOf}
 use Rattle.json.specs.declared.Found.{Found}
 use Rattle.rows.specs.Rows.{Entry, oneText, entryOf, entriesIn, repeated}
-use Rattle.rows.specs.Tables.{flat, entriesOf, collectedTable, width}
+use Rattle.rows.specs.Tables.{entriesOf, width}
+use Rattle.rows.specs.Inner.Prints.{flat, collectedTable}
 use Rattle.rows.proofs.Entries.{flat-length, entries-written}
 use Rattle.prelude.specs.Refusals.{Test, _if_, first, stageOf}
 use Rattle.prelude.proofs.Refusals.{first-fails, first-passes}
@@ -25,8 +26,8 @@ use Rattle.prelude.specs.declared.Stage.the-variants.{Passed, Refused}
 use Rattle.headers.proofs.Stages.{passed-is, object-nonzero}
 use Rattle.headers.proofs.Texts.{noValue}
 use Rattle.shape.specs.Shape.{memberNames, memberEntries, wrongTop, wrongElement}
-use Rattle.shape.specs.Recipients.{topEntries, topOrder, topTable, elementEntries, elementOrder}
-use Rattle.shape.specs.Inner.Answers.{LeavesAt}
+use Rattle.shape.specs.Recipients.{topEntries, topOrder, elementEntries, elementOrder}
+use Rattle.shape.specs.Inner.Answers.{topTable, LeavesAt}
 use Rattle.shape.proofs.Orders.{handed-up, gone-on, both-pass, one-fails, one-passes}
 
 entries-count : (names : List (List ℕ)) (s : List ℕ) (o : ℕ) (ms : List Member) →
@@ -45,9 +46,9 @@ object-answer message es names ms e answer a =
     ∙ ap (λ (fs : List Entry). stageOf (first (objectOrder message fs)) (length fs)) e
 
 -- The table, in the same terms.
-pub object-table : (es fs : List Entry) (before last : List ℕ) → es ≡ fs → last ≡ collectedTable 0 es before →
-    last ≡ collectedTable 0 fs before
-object-table es fs before last e l = l ∙ ap (λ (gs : List Entry). collectedTable 0 gs before) e
+pub object-table : (s : List ℕ) (es fs : List Entry) (before last : List ℕ) → es ≡ fs →
+    last ≡ collectedTable 0 s es before → last ≡ collectedTable 0 s fs before
+object-table s es fs before last e l = l ∙ ap (λ (gs : List Entry). collectedTable 0 s gs before) e
 
 -- What is known where it passes: the table begins with the entries.
 pub record Entered (es : List Entry) (last : List ℕ) (count : ℕ) : Type 0 where
@@ -63,31 +64,30 @@ few s es e = ltb-false 32 (length es) (cases (ltb 32 (length es)) e)
     cases true z = let absurdity : _≡_ {A = ℕ} 8 0 = z in absurd (omega arith)
     cases false z = refl
 
-room-for : (es : List Entry) (before : List ℕ) → length es ≤ 32 → 256 ≤ length before →
-    length (written 0 (flat es) before) ≡ length before
-room-for es before h r = written-length 0 (flat es) before (omega (arith, flat-length es))
+room-for : (s : List ℕ) (es : List Entry) (before : List ℕ) → length es ≤ 32 → 256 ≤ length before →
+    length (written 0 (flat s es) before) ≡ length before
+room-for s es before h r = written-length 0 (flat s es) before (omega (arith, flat-length s es))
 
-module _ (es : List Entry) (before last : List ℕ) (left : last ≡ collectedTable 0 es before)
-    (room : 256 ≤ length before) where
-  module _ (message : List ℕ) (answer : Stage) (a : answer ≡ stageOf (first (objectOrder message es)) (length es))
-      (count : ℕ) (e : answer ≡ Passed count) where
-    told : (first (objectOrder message es) ≡ 0) × (count ≡ length es)
-    told = passed-is count (first (objectOrder message es)) (length es) (sym e ∙ a)
+module _ (message : List ℕ) (es : List Entry) (before last : List ℕ) (left : last ≡ collectedTable 0 message es before)
+    (room : 256 ≤ length before) (answer : Stage) (a : answer ≡ stageOf (first (objectOrder message es)) (length es))
+    (count : ℕ) (e : answer ≡ Passed count) where
+  told : (first (objectOrder message es) ≡ 0) × (count ≡ length es)
+  told = passed-is count (first (objectOrder message es)) (length es) (sym e ∙ a)
 
-    within : length es ≤ 32
-    within = few message es (told .0)
+  within : length es ≤ 32
+  within = few message es (told .0)
 
-    entered-table : last ≡ written 0 (flat es) before
-    unfolding collectedTable
-    entered-table =
-        left ∙ ap (λ (b : Bool). cond b (written 0 (flat es) before) before) (le-leb (length es) 32 within)
+  entered-table : last ≡ written 0 (flat message es) before
+  unfolding collectedTable
+  entered-table =
+      left ∙ ap (λ (b : Bool). cond b (written 0 (flat message es) before) before) (le-leb (length es) 32 within)
 
-    pub entered : Entered es last count
-    entered = record {
-      counted = told .1;
-      entries = ap₂ entriesOf (told .1) entered-table ∙ entries-written es before;
-      fits = omega (arith, told .1, within, ap length entered-table, room-for es before within room, room);
-    }
+  pub entered : Entered es last count
+  entered = record {
+    counted = told .1;
+    entries = ap₂ entriesOf (told .1) entered-table ∙ entries-written message es before;
+    fits = omega (arith, told .1, within, ap length entered-table, room-for message es before within room, room);
+  }
 
 module _ (message : List ℕ) (es : List Entry) (answer : Stage)
     (a : answer ≡ stageOf (first (objectOrder message es)) (length es)) where
@@ -161,28 +161,31 @@ module _ (message : List ℕ) where
     -- What is left in the table ..
     pub top-kept : unread message ≡ true → topTable message table ≡ table
     unfolding topTable
-    top-kept e = ap (λ (b : Bool). cond b table (collectedTable 0 (topEntries message) table)) e
+    top-kept e = ap (λ (b : Bool). cond b table (collectedTable 0 message (topEntries message) table)) e
 
-    pub top-collected : unread message ≡ false → topTable message table ≡ collectedTable 0 (topEntries message) table
+    pub top-collected : unread message ≡ false →
+        topTable message table ≡ collectedTable 0 message (topEntries message) table
     unfolding topTable
-    top-collected e = ap (λ (b : Bool). cond b table (collectedTable 0 (topEntries message) table)) e
+    top-collected e = ap (λ (b : Bool). cond b table (collectedTable 0 message (topEntries message) table)) e
 
     -- .. and where nothing is refused it begins with the entries.
-    pub top-written : first (topOrder message) ≡ 0 → topTable message table ≡ written 0 (flat (topEntries message)) table
+    pub top-written : first (topOrder message) ≡ 0 →
+        topTable message table ≡ written 0 (flat message (topEntries message)) table
     unfolding topOrder collectedTable
     top-written e = cases (unread message) refl
       where
         behind : List Test
         behind = objectOrder message (topEntries message) ++ (10 if wrongTop message (topEntries message) ∷ [])
 
-        cases : (b : Bool) → unread message ≡ b → topTable message table ≡ written 0 (flat (topEntries message)) table
+        cases : (b : Bool) → unread message ≡ b →
+            topTable message table ≡ written 0 (flat message (topEntries message)) table
         cases true u = absurd (omega (arith, sym (first-fails (7 if unread message) behind u) ∙ e))
         cases false u =
             let passed = both-pass (objectOrder message (topEntries message))
             (10 if wrongTop message (topEntries message) ∷ []) (object-nonzero message (topEntries message))
             (sym (first-passes (7 if unread message) behind u) ∙ e) in
             top-collected u
-            ∙ ap (λ (b : Bool). cond b (written 0 (flat (topEntries message)) table) table)
+            ∙ ap (λ (b : Bool). cond b (written 0 (flat message (topEntries message)) table) table)
             (le-leb (length (topEntries message)) 32 (few message (topEntries message) (passed .0)))
 
   pub top-order : (n : ℕ) → unread message ≡ false →

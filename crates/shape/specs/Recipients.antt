@@ -7,7 +7,6 @@ use lib.Dec.{ltb}
 use Rattle.grammar.specs.Places.{Element}
 use Rattle.grammar.specs.Reader.{membersAt, elementsAt}
 use Rattle.rows.specs.Rows.{Entry, present, valueOf}
-use Rattle.rows.specs.Tables.{collectedTable}
 use Rattle.prelude.specs.Refusals.{Test, _if_}
 use Rattle.prelude.specs.Limits.{levels, mostRecipients}
 use Rattle.headers.specs.Components.{Components, absent, withKey, flattenedForm, generalForm}
@@ -24,11 +23,6 @@ unfoldable pub topOrder : List ℕ → List Test
 topOrder message =
     let es = topEntries message in
     7 if unread message ∷ (objectOrder message es ++ (10 if wrongTop message es ∷ []))
-
--- The table into which the top level is collected: unchanged where the message does not read (7) or has more than 32
--- members (8); it begins with the entries otherwise, also where 9 or 10 refuses them.
-unfoldable pub topTable : List ℕ → List ℕ → List ℕ
-topTable message table = cond (unread message) table (collectedTable 0 (topEntries message) table)
 
 -- The elements of `recipients`.
 unfoldable pub elementsIn : List ℕ → List Entry → List Element

@@ -7,7 +7,8 @@ use lib.ListN.{length, getD}
 use lib.Dec.{T}
 use borrow.Author.Tests.{le-leb, lt-leb}
 use Rattle.grammar.specs.Utf8.{sixBits, encode}
-use Rattle.grammar.specs.Spellings.{undo, alike, has, mixed, fingerprintFrom, fingerprint}
+use Rattle.grammar.specs.Spellings.{undo, alike, has}
+use Rattle.spelling.specs.Inner.Fingerprints.{mixed, fingerprintFrom, fingerprint}
 use Rattle.spelling.specs.Inner.Cursors.{undoAt}
 use Rattle.spelling.proofs.Cursors.{undo-plain}
 use Rattle.grammar.proofs.Spellings.{equal-sound}

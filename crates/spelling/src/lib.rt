@@ -5,8 +5,9 @@ ghost use Prim.Native.Nat.{_-_, _≤_, _<_};
 ghost use mathlib.Core.Bool.{true, false};
 ghost use lib.ListN.{length, drop, getD};
 ghost use Rattle.grammar.specs.Strings.{hexDigit, escapePoint, combined, unit, isHigh};
-ghost use Rattle.grammar.specs.Spellings.{undo, equal, alike, has, mixed, fingerprintFrom, fingerprint};
+ghost use Rattle.grammar.specs.Spellings.{undo, equal, alike, has};
 ghost use Rattle.grammar.specs.Utf8.{sixBits, encode};
+ghost use Rattle.spelling.specs.Inner.Fingerprints.{mixed, fingerprintFrom, fingerprint};
 ghost use Rattle.spelling.specs.Inner.Cursors.{undoAt, rest, told, Falls, cursor, octet, pendingOf, encoded};
 ghost use Rattle.spelling.specs.Inner.Cursors.{hexBase, mixedAt, whole};
 

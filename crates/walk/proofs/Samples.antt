@@ -7,7 +7,7 @@ use Rattle.prelude.specs.Ascii.{ascii}
 use Rattle.names.specs.Names.{numberIn}
 use Rattle.parts.specs.Parts.{part}
 use Rattle.grammar.specs.Utf8.{utf8, utf8After, follow, encode}
-use Rattle.grammar.specs.Spellings.{undo, undoFrom, adds, next, equal, has, alike, fingerprint}
+use Rattle.grammar.specs.Spellings.{undo, undoFrom, adds, next, equal, has, alike}
 use Rattle.grammar.specs.Reader.{passOver, skip, turn, scanString, stringAt, digitsAt, intAt, perhapsAt, fractionAt}
 use Rattle.grammar.specs.Reader.{exponentAt, numberAt, wordAt, beforeAt, entryAt, entriesAt, rowsAt, nestedAt, rowsIn}
 use Rattle.grammar.specs.Reader.{valueWith, valueAt, membersAt, readText}
@@ -25,10 +25,10 @@ walked s ks = map (λ (k : ℕ). handedNumbers (call s (openAt s) k)) ks
 
 pub sample-walk : walked (ascii "{\"alg\":\"dir\",\"enc\":\"A128GCM\"}") (0 ∷ 1 ∷ 2 ∷ 3 ∷ [])
     ≡ (2 ∷ 3 ∷ 7 ∷ 5 ∷ 2 ∷ []) ∷ (14 ∷ 3 ∷ 19 ∷ 9 ∷ 2 ∷ []) ∷ [] ∷ [] ∷ []
-unfolding ascii numberIn utf8 utf8After follow encode undo undoFrom adds next equal has alike fingerprint passOver skip turn scanString stringAt digitsAt intAt perhapsAt fractionAt exponentAt numberAt wordAt beforeAt entryAt entriesAt rowsAt nestedAt rowsIn valueWith valueAt membersAt readText nextFrom any anyPair entriesIn repeated registered first unread outermost protectedEntries objectOrder walkOrder firstOffset stepAt call flatMap xor part
+unfolding ascii numberIn utf8 utf8After follow encode undo undoFrom adds next equal has alike passOver skip turn scanString stringAt digitsAt intAt perhapsAt fractionAt exponentAt numberAt wordAt beforeAt entryAt entriesAt rowsAt nestedAt rowsIn valueWith valueAt membersAt readText nextFrom any anyPair entriesIn repeated registered first unread outermost protectedEntries objectOrder walkOrder firstOffset stepAt call flatMap xor part
 sample-walk = refl
 
 pub sample-refusals : map (λ (s : List ℕ). first (walkOrder s)) (ascii "{}" ∷ ascii "[]" ∷ ascii "{\"alg\":\"dir\",\"\\u0061lg\":\"dir\"}" ∷ [])
     ≡ 0 ∷ 7 ∷ 9 ∷ []
-unfolding ascii numberIn utf8 utf8After follow encode undo undoFrom adds next equal has alike fingerprint passOver skip turn scanString stringAt digitsAt intAt perhapsAt fractionAt exponentAt numberAt wordAt beforeAt entryAt entriesAt rowsAt nestedAt rowsIn valueWith valueAt membersAt readText nextFrom any anyPair entriesIn repeated registered first unread outermost protectedEntries objectOrder walkOrder firstOffset stepAt call flatMap xor part
+unfolding ascii numberIn utf8 utf8After follow encode undo undoFrom adds next equal has alike passOver skip turn scanString stringAt digitsAt intAt perhapsAt fractionAt exponentAt numberAt wordAt beforeAt entryAt entriesAt rowsAt nestedAt rowsIn valueWith valueAt membersAt readText nextFrom any anyPair entriesIn repeated registered first unread outermost protectedEntries objectOrder walkOrder firstOffset stepAt call flatMap xor part
 sample-refusals = refl

@@ -1,4 +1,5 @@
--- `object` answers by how many members are collected, and by whether their entries, read back from the table, clash.
+-- `object` answers by how many members are collected, and by whether the names of two of their entries, read back from
+-- the table, say the same.
 use mathlib.Core.Path.{sym, _∙_}
 use mathlib.Core.List.{List}
 use Rattle.names.specs.Names.{names}
@@ -16,7 +17,8 @@ members c = membersAt 12 (c .args .s .now) (c .args .at)
 -- where the members were collected
 collected : (c : tie.After-known-told) →
     let start = c .before .before .before .before .before .before .before .before .before .before in
-    Collects (entriesIn (names (start .args .list .now)) (start .args .s .now) (start .args .origin) (members start))
+    Collects (start .args .s .now)
+    (entriesIn (names (start .args .list .now)) (start .args .s .now) (start .args .origin) (members start))
     (start .args .from) (c .before .before .before .before .before .collect .last .1 .1 .1 .1 .0)
     (c .before .collected .given .0 .0)
 collected c =
@@ -26,7 +28,7 @@ collected c =
     let list = names (start .args .list .now) in
     let s = start .args .s .now in
     let ms = members start in
-    collects (entriesIn list s (start .args .origin) ms) (start .args .from) (known .0 .0) (start .args .table .now)
+    collects s (entriesIn list s (start .args .origin) ms) (start .args .from) (known .0 .0) (start .args .table .now)
     (call .last .1 .1 .1 .1 .0) (start .pre .1 .1 .0) (call .ensures .1)
     (sym (known .1) ∙ call .ensures .0 ∙ collected-is list s (start .args .origin) ms)
 
@@ -67,7 +69,7 @@ part-clashes-end : tie.Need-part-clashes-end
 part-clashes-end c = search needs
 
 clashes-requires : tie.Need-clashes-requires
-clashes-requires c κs = collected (c .before .before) .fits
+clashes-requires c κs = let k = collected (c .before .before) in (k .fits, k .printed)
 
 same-length-2 : tie.Need-same-length-2
 same-length-2 c = search needs

@@ -8,7 +8,7 @@ use Rattle.names.specs.Names.{listOf}
 use Rattle.names.proofs.Laws.{names-of}
 use Rattle.names.proofs.Contents.{filled-list}
 use Rattle.rows.specs.Rows.{Entry}
-use Rattle.rows.specs.Tables.{collectedTable}
+use Rattle.rows.specs.Inner.Prints.{collectedTable}
 use Rattle.jose.specs.Registered.{registered}
 use Rattle.headers.proofs.Collected.{entries-are, stage-is}
 use borrow.Author.Needs.{needs}
@@ -39,7 +39,7 @@ returns c =
     let call = c .before .before .object in (
       call .ensures .0 ∙ stage-is s (listOf registered) _ (names-of registered) (at .ensures),
       call .ensures .1
-          ∙ ap (λ (es : List Entry). collectedTable 0 es (start .args .table .now))
+          ∙ ap (λ (es : List Entry). collectedTable 0 s es (start .args .table .now))
           (entries-are s (listOf registered) _ (names-of registered) (at .ensures)),
     )
 

@@ -3,14 +3,15 @@ use mathlib.Core.Path.{_≡_}
 use mathlib.Core.List.{List, [], _∷_, _++_, flatMap}
 use mathlib.Core.Bool.{Bool, cond}
 use Prim.Native.Nat.{ℕ, zero, suc, _*_, _≤_, _<_}
-use lib.ListN.{length, drop, getD}
+use lib.ListN.{length, take, drop, getD}
 use lib.Dec.{leb}
 use Rattle.prelude.specs.Limits.{levels, mostMembers, mostRecipients}
 use Rattle.grammar.specs.Grammar.{curly}
 use Rattle.grammar.specs.Bounds.{Every}
 use Rattle.json.specs.Inner.Known.{KnownIn}
 use Rattle.rows.specs.Rows.{Entry, readTexts}
-use Rattle.rows.specs.Tables.{entriesOf, headerTable, recipientTable}
+use Rattle.rows.specs.Tables.{width, headerTable, recipientTable}
+use Rattle.rows.specs.Inner.Prints.{flat}
 use Rattle.prelude.specs.Refusals.{Test, _if_, first}
 use Rattle.jose.specs.HeaderRules.{recipientOrder}
 use Rattle.headers.specs.Headers.{textOrder, outermost, protectedEntries, objectOrder}
@@ -45,12 +46,16 @@ recipientsOf (suc n) t = recipientAt t ∷ recipientsOf n (drop recipientWidth t
 abbrev pub ownTable : ℕ
 ownTable = mostRecipients * headerTable
 
+-- The own entries of the k-th.
+abbrev pub ownAt : List ℕ → List ℕ → ℕ → List Entry
+ownAt message of k = ownEntries message (recipientAt (drop (k * recipientWidth) of))
+
 -- Their own headers, collected into a table 32 entries apart, with how many each has; k is below the number of
 -- recipients.
-abbrev pub OwnAt : List ℕ → List ℕ → List ℕ → List ℕ → ℕ → Type 0
-OwnAt message of own counts k =
-    (getD counts k 0 ≤ mostMembers)
-    × (entriesOf (getD counts k 0) (drop (k * headerTable) own) ≡ ownEntries message (recipientAt (drop (k * recipientWidth) of)))
+pub record OwnAt (message of own counts : List ℕ) (k : ℕ) : Type 0 where
+  pub few : getD counts k 0 ≤ mostMembers
+  pub counted : getD counts k 0 ≡ length (ownAt message of k)
+  pub entries : take (getD counts k 0 * width) (drop (k * headerTable) own) ≡ flat message (ownAt message of k)
 
 abbrev pub Owned : ℕ → List ℕ → List ℕ → List ℕ → List ℕ → Type 0
 Owned number message of own counts = (k : ℕ) → k < number → OwnAt message of own counts k

@@ -1,20 +1,18 @@
 -- `parameters` hands up the refusal of collecting the parameters; where they pass, the rules on them answer.
-use mathlib.Core.Path.{_≡_, refl, ap, sym, subst, _∙_}
+use mathlib.Core.Path.{ap, sym, _∙_}
 use mathlib.Core.List.{List}
 use Prim.Native.Nat.{ℕ}
 use native.Mathlib.Omega.{arith}
 use lib.ListN.{replicate}
 use Rattle.names.specs.Names.{names}
 use Rattle.rows.specs.Rows.{Entry, oneText}
-use Rattle.rows.specs.Inner.Prints.{Printed}
-use Rattle.rows.proofs.Printing.{entries-printed}
+use Rattle.rows.proofs.Printing.{stand-in-one}
 use Rattle.prelude.specs.Refusals.{first, stageOf}
 use Rattle.prelude.proofs.Refusals.{first-skip}
-use Rattle.jose.specs.Registered.{registered}
 use Rattle.jose.specs.HeaderRules.{modeIn}
-use Rattle.headers.specs.Headers.{outermost, protectedEntries, objectOrder}
+use Rattle.headers.specs.Headers.{protectedEntries, objectOrder}
 use Rattle.headers.proofs.Stages.{refused-is, object-nonzero, stopped, refuses}
-use Rattle.headers.proofs.Collected.{Kept, kept-passed}
+use Rattle.headers.proofs.Collected.{Kept, kept-passed, kept-printed}
 use Rattle.jwe_write.specs.Write.{writerRules}
 use borrow.Author.Needs.{needs}
 use Rattle.jwe_write.proofs.parameters.Statement.{statement}
@@ -70,16 +68,11 @@ slice-aggregate-judge-protected : tie.Need-slice-aggregate-judge-protected
 slice-aggregate-judge-protected c = search needs
 
 judge-protected-requires : tie.Need-judge-protected-requires
-unfolding protectedEntries
 judge-protected-requires c κs =
     let told = c .before in
     let s = start (collected-of told) in
     let table = kept told in
-    let printed : Printed (oneText (header s)) (entries s) =
-    entries-printed registered (oneText (header s)) (header s) 0 (outermost (header s)) refl in (
-      s .pre .1,
-      (table .fits, subst (Printed (oneText (header s))) (sym (table .entries)) printed),
-    )
+    (s .pre .1, (table .fits, kept-printed (oneText (header s)) table (stand-in-one (header s) (entries s))))
 
 returns-2 : tie.Need-returns-2
 returns-2 c =

@@ -8,14 +8,15 @@ use lib.ListN.{length}
 use Rattle.prelude.specs.Ascii.{ascii}
 use Rattle.names.specs.Names.{listOf, filled, total}
 use Rattle.names.proofs.Laws.{names-of}
-use Rattle.rows.specs.Tables.{collectedTable}
+use Rattle.rows.specs.Inner.Prints.{collectedTable}
 use Rattle.grammar.specs.Grammar.{curly}
 use Rattle.json.specs.Inner.Known.{KnownIn}
 use Rattle.prelude.specs.Refusals.{first, stageOf}
 use Rattle.headers.specs.Headers.{unread, objectOrder}
 use Rattle.headers.proofs.Texts.{noValue}
 use Rattle.shape.specs.Shape.{memberNames, wrongTop}
-use Rattle.shape.specs.Recipients.{topEntries, topTable}
+use Rattle.shape.specs.Recipients.{topEntries}
+use Rattle.shape.specs.Inner.Answers.{topTable}
 use Rattle.shape.proofs.Objects.{Entered, object-answer, object-table, entered}
 use Rattle.shape.proofs.Objects.{object-refused, object-wrong, object-passed}
 use Rattle.shape.proofs.Objects.{top-entries, unread-is, top-unread, top-order, top-kept, top-collected}
@@ -49,11 +50,11 @@ answer c =
     (c .object .ensures .0)
 
 left : (c : tie.After-object) → c .object .last .1 .1 .1 .1 .0
-    ≡ collectedTable 0 (topEntries (message (start c))) (start c .args .table .now)
+    ≡ collectedTable 0 (message (start c)) (topEntries (message (start c))) (start c .args .table .now)
 unfolding listOf memberNames ascii flatten
 left c =
     let skipped = c .before .before .before .skip-space in
-    object-table _ _ (start c .args .table .now) _
+    object-table _ _ _ (start c .args .table .now) _
     (top-entries (message (start c)) _ (names-of memberNames) (skipped .result .at) (skipped .ensures))
     (c .object .ensures .1)
 
@@ -73,7 +74,7 @@ holds : (c : tie.After-known-told) →
     (c .before .object2 .given .0 .0)
 holds c =
     let after = c .before .before .before .before .before in
-    entered _ _ _ (left after) (start after .pre .1) _ _ (answer after) (c .before .object2 .given .0 .0)
+    entered _ _ _ _ (left after) (start after .pre .1) _ (answer after) (c .before .object2 .given .0 .0)
     (c .before .object2 .given .1)
 
 judge-requires : tie.Need-judge-requires

@@ -8,14 +8,21 @@ use lib.Dec.{eqb, ltb}
 use Rattle.prelude.specs.Buffer.{written}
 use Rattle.grammar.specs.Places.{Element}
 use Rattle.rows.specs.Rows.{Entry, present}
+use Rattle.rows.specs.Inner.Prints.{collectedTable}
 use Rattle.prelude.specs.Refusals.{Test, _if_, first}
 use Rattle.prelude.specs.Limits.{mostRecipients}
 use Rattle.prelude.specs.declared.Stage.{Stage}
 use Rattle.prelude.specs.declared.Stage.the-variants.{Passed, Refused}
 use Rattle.shape.specs.Shape.{Recipient, recipientOf, recipients, wrongElements}
+use Rattle.headers.specs.Headers.{unread}
 use Rattle.headers.specs.Answers.{componentsOf}
-use Rattle.shape.specs.Recipients.{Top, elementsIn, elementEntries, elementOrder}
+use Rattle.shape.specs.Recipients.{Top, topEntries, elementsIn, elementEntries, elementOrder}
 use Rattle.shape.specs.declared.held.Top as declared
+
+-- The table into which the top level is collected: unchanged where the message does not read (7) or has more than 32
+-- members (8); it begins with the entries otherwise, also where 9 or 10 refuses them.
+unfoldable pub topTable : List ℕ → List ℕ → List ℕ
+topTable message table = cond (unread message) table (collectedTable 0 message (topEntries message) table)
 
 -- What the code holds of the top level.
 abbrev pub topIn : declared.Top → Top

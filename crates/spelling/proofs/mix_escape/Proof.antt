@@ -6,7 +6,8 @@ use native.Mathlib.Omega.{arith}
 use lib.ListN.{length, getD}
 use Rattle.grammar.specs.Utf8.{encode}
 use Rattle.grammar.specs.Strings.{escapePoint, combined}
-use Rattle.grammar.specs.Spellings.{between, mixed, fingerprintFrom}
+use Rattle.grammar.specs.Spellings.{between}
+use Rattle.spelling.specs.Inner.Fingerprints.{mixed, fingerprintFrom}
 use Rattle.spelling.specs.Inner.Cursors.{halfOf, undoAt, whole}
 use Rattle.spelling.specs.declared.Mixed.{Mixed}
 use Rattle.spelling.proofs.Cursors.{undo-end, undo-cut, undo-escape, undo-cut-digits, undo-pair, undo-single}

@@ -3,7 +3,7 @@ use Prim.Native.Nat.{ℕ, _+_, _-_, _≤_}
 use mathlib.Core.Path.{_≡_, refl, ap, _∙_}
 use native.Mathlib.Omega.{arith}
 use lib.ListN.{length}
-use Rattle.grammar.specs.Spellings.{fingerprintFrom}
+use Rattle.spelling.specs.Inner.Fingerprints.{fingerprintFrom}
 use Rattle.spelling.specs.Inner.Cursors.{undoAt}
 use Rattle.spelling.proofs.Fingerprints.{mixed-plain}
 use borrow.Author.Needs.{needs}

@@ -2,7 +2,7 @@
 use Prim.Native.Nat.{ℕ, _/_}
 use mathlib.Core.Path.{ap, _∙_}
 use Rattle.grammar.specs.Utf8.{sixBits}
-use Rattle.grammar.specs.Spellings.{mixed}
+use Rattle.spelling.specs.Inner.Fingerprints.{mixed}
 use Rattle.spelling.proofs.Fingerprints.{point-one, point-two, point-three, point-four}
 use borrow.Author.Needs.{needs}
 use Rattle.spelling.proofs.mix_point.Statement.{statement}

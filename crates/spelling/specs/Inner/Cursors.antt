@@ -6,7 +6,8 @@ use Prim.Native.Nat.{ℕ, zero, suc, _+_, _-_, _*_, _/_, _≤_, _<_}
 use lib.ListN.{length, drop}
 use lib.Dec.{leb}
 use Rattle.grammar.specs.Utf8.{sixBits}
-use Rattle.grammar.specs.Spellings.{between, undoFrom, fingerprintFrom}
+use Rattle.grammar.specs.Spellings.{between, undoFrom}
+use Rattle.spelling.specs.Inner.Fingerprints.{fingerprintFrom}
 use Rattle.spelling.specs.declared.Cursor.{Cursor}
 use Rattle.spelling.specs.declared.Mixed.{Mixed}
 use Rattle.spelling.specs.declared.Octet.{Octet}

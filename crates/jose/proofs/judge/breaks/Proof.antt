@@ -1,11 +1,10 @@
 -- `breaks` asks the one rule that has the number.
-use mathlib.Core.Path.{_≡_, refl, ap, sym, _∙_}
-use mathlib.Core.Bool.{Bool, true}
+use mathlib.Core.Path.{ap, sym, _∙_}
+use mathlib.Core.Bool.{Bool}
 use Prim.Native.Nat.{ℕ}
 use Rattle.names.specs.Names.{names}
 use Rattle.rows.specs.Rows.{texts}
 use Rattle.rows.specs.Tables.{entriesOf}
-use Rattle.rows.proofs.Printing.{clashes-repeated}
 use Rattle.jose.specs.HeaderRules.{breaks}
 use Rattle.jose.proofs.Order.{no-rule}
 use borrow.Author.Needs.{needs}
@@ -40,11 +39,7 @@ wrong-crit-requires c κs = search needs
 returns : tie.Need-returns
 returns c =
     let s = c .before .before .before .before .before .before .before in
-    let given = s .args in
-    c .clashes .ensures
-    ∙ clashes-repeated true (texts (given .header .now) (given .shared .now) (given .own .now)) (entriesOf (given .count) (given .table .now))
-    (s .pre .1 .1)
-    ∙ sym (ap (asked s) (c .before .match .keys1))
+    c .clashes .ensures ∙ sym (ap (asked s) (c .before .match .keys1))
 
 returns-2 : tie.Need-returns-2
 returns-2 c =

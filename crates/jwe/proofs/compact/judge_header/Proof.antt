@@ -1,5 +1,5 @@
 -- `judge_header` goes by stages: what each stage answers tells the first refusal, or what the next begins with.
-use mathlib.Core.Path.{_≡_, refl, ap, ap₂, sym, _∙_}
+use mathlib.Core.Path.{_≡_, refl, ap, ap₂, sym, subst, _∙_}
 use mathlib.Core.Bool.{false}
 use mathlib.Core.List.{List}
 use Prim.Native.Nat.{ℕ}
@@ -8,9 +8,9 @@ use lib.ListN.{length}
 use Rattle.names.specs.Names.{names}
 use Rattle.prelude.specs.Any.{any}
 use Rattle.rows.specs.Rows.{Entry, readTexts}
-use Rattle.rows.specs.Tables.{entriesOf, collectedTable}
-use Rattle.rows.specs.Inner.Prints.{Printed}
-use Rattle.rows.proofs.Printing.{entries-printed}
+use Rattle.rows.specs.Tables.{entriesOf}
+use Rattle.rows.specs.Inner.Prints.{collectedTable, Printed}
+use Rattle.rows.proofs.Printing.{entries-stand}
 use Rattle.jose.specs.Registered.{registered}
 use Rattle.prelude.specs.Refusals.{first, stageOf}
 use Rattle.jose.specs.declared.Sizes.{Sizes}
@@ -19,7 +19,7 @@ use Rattle.headers.specs.Components.{misspelled, places, sizesOf}
 use Rattle.headers.specs.Headers.{headerText, textOrder, outermost, protectedEntries, objectOrder}
 use Rattle.headers.specs.Answers.{placeOf, componentsOf, headerBuffer}
 use Rattle.headers.proofs.Stages.{passed-is, refused-is}
-use Rattle.headers.proofs.Collected.{Kept, kept-passed, table-length}
+use Rattle.headers.proofs.Collected.{Kept, kept-passed, kept-printed, table-length}
 use Rattle.jwe.specs.Compact.{compactComponents, compactOrder}
 use Rattle.jwe.specs.Inner.Outcomes.{compactOutcome}
 use Rattle.headers.specs.declared.Components.{Components}
@@ -27,7 +27,7 @@ use Rattle.jwe.proofs.SmallOutcomes.{mode-low}
 use Rattle.jwe.proofs.Splitting.{none-first, asked-are}
 use Rattle.jwe.proofs.CompactOrder.{header, entries, rules}
 use Rattle.jwe.proofs.CompactOrder.{first-text, first-object, first-rule, first-19, first-none}
-use Rattle.jwe.proofs.Stages.{Read, read-passed, buffer-length, printed-as, accepted-are}
+use Rattle.jwe.proofs.Stages.{Read, read-passed, buffer-length, accepted-are}
 use Rattle.jwe.proofs.JsonHeads.{judges-refused}
 use Rattle.jwe.proofs.Answering.{answered-accepted, refuses}
 use borrow.Author.Needs.{needs}
@@ -89,10 +89,12 @@ entries-answer c =
 
 entries-left : (c : tie.After-protected-entries) →
     let start = start-of (c .before .before .before) in
-    c .protected-entries .last .1 .0 ≡ collectedTable 0 (entries (message start)) (start .args .table .now)
+    c .protected-entries .last .1 .0
+    ≡ collectedTable 0 (header (message start)) (entries (message start)) (start .args .table .now)
 entries-left c =
     c .protected-entries .ensures .1
-    ∙ ap (λ (h : List ℕ). collectedTable 0 (protectedEntries h) (start-of (c .before .before .before) .args .table .now))
+    ∙ ap
+    (λ (h : List ℕ). collectedTable 0 h (protectedEntries h) (start-of (c .before .before .before) .args .table .now))
     (read (c .before .before .before) .front)
 
 -- where it passed
@@ -194,7 +196,7 @@ returns-2 c =
     judges-refused (message start) _ _ _ _ _ (c .handed2 .ensures) (told .1)
     (first-object (message start) _ _ (start .pre .0) (spelled start) (text .passes) (told .0 .0) (r .0) (r .1)) (r .1)
     (start .args .text .now) _ (start .args .table .now) _ (text .same)
-    (ap length (entries-left after) ∙ table-length _ _ (omega (arith, start .pre .1 .1 .1 .1 .1)))
+    (ap length (entries-left after) ∙ table-length _ _ _ (omega (arith, start .pre .1 .1 .1 .1 .1)))
 
 slice-reshare-prefix-judge : tie.Need-slice-reshare-prefix-judge
 slice-reshare-prefix-judge c = read (told-of c) .fits
@@ -212,14 +214,14 @@ judge-requires c κs =
     let start = start-of told in
     let m = message start in
     let text = read told in
-    let table = kept (c .before .before .before) in
-    let printed : Printed (readTexts (header m) m) (entries m) =
-    entries-printed registered (readTexts (header m) m) (header m) 0 (outermost (header m)) refl in (
+    let known = c .before .before .before in
+    let table = kept known in
+    let count = known .before .collected .given .0 .0 in
+    let after = known .before .before .before .before .before .protected-entries .last .1 .0 in
+    let ts = readTexts (header m) m in
+    let printed = kept-printed ts table (entries-stand registered ts (header m) 0 (outermost (header m)) refl) in (
       start .pre .1 .1 .1 .0,
-      (
-        table .fits,
-        printed-as m _ _ (header m) (entries m) (text .front) (table .entries) printed,
-      ),
+      (table .fits, subst (λ (h : List ℕ). Printed (readTexts h m) count after) (sym (text .front)) printed),
     )
 
 enum-known-judged : tie.Need-enum-known-judged

@@ -2,7 +2,6 @@
 use mathlib.Core.Path.{refl, ap, _∙_}
 use mathlib.Core.List.{List}
 use Prim.Native.Nat.{ℕ, _*_}
-use native.Mathlib.Omega.{arith}
 use lib.ListN.{getD}
 use Rattle.prelude.specs.Buffer.{written}
 use Rattle.jwe.proofs.OwnHeaders.{own-part}
@@ -58,7 +57,7 @@ returns c =
       refl,
       c .before .before .copy .ensures
           ∙ ap (λ (l : List ℕ). written (args .front * width) l (args .table .now))
-          (own-part (args .own .now) (args .i * headerTable) count (omega (arith, start .pre))),
+          (own-part (args .own .now) (args .i * headerTable) count),
     )
 
 pub gather-spec : {M : Type 1} → statement M

@@ -66,7 +66,7 @@ gather-requires c κs =
       omega (arith, below, pre .0),
       (
         pre .1 .1 .0,
-        (pre .1 .1 .1 .0, (pre .1 .1 .1 .1 .0 (s .args .i) below .0, pre .1 .1 .1 .1 .1 .1)),
+        (pre .1 .1 .1 .0, (pre .1 .1 .1 .1 .0 (s .args .i) below .few, pre .1 .1 .1 .1 .1 .1)),
       ),
     )
 

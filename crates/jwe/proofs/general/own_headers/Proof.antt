@@ -6,7 +6,7 @@ use mathlib.Core.List.{List, flatMap}
 use native.Mathlib.Omega.{arith}
 use lib.ListN.{length, drop, length-set}
 use Rattle.rows.specs.Rows.{Entry}
-use Rattle.rows.specs.Tables.{collectedTable}
+use Rattle.rows.specs.Inner.Prints.{collectedTable}
 use Rattle.prelude.specs.Refusals.{Test, first, stageOf}
 use Rattle.prelude.specs.Limits.{mostMembers}
 use Rattle.headers.specs.Headers.{objectOrder}
@@ -44,8 +44,9 @@ answered : (c : tie.After-unprotected Inv-loop μ-loop) →
     let es = ownEntries (args .message .now) (recipientAt (drop (c .before .before .before
     .before .loop .i * recipientWidth) (args .of .now))) in
     (c .unprotected .result ≡ stageOf (first (objectOrder (args .message .now) es)) (length es))
-    × (c .unprotected .last .1 .1 .1 .0 ≡ collectedTable (c .before .before .before .before .loop .i * mostMembers) es (c
-    .before .before .before .before .loop .own))
+    × (c .unprotected .last .1 .1 .1 .0
+    ≡ collectedTable (c .before .before .before .before .loop .i * mostMembers) (args .message .now) es
+    (c .before .before .before .before .loop .own))
 answered c =
     let args = c .before .before .before .before .before .before .before .before .before .args in
     let message = args .message .now in
@@ -53,8 +54,11 @@ answered c =
       c .unprotected .ensures .0
           ∙ ap (λ (es : List Entry). stageOf (first (objectOrder message es)) (length es)) same,
       c .unprotected .ensures .1
-          ∙ ap (λ (es : List Entry). collectedTable (c .before .before .before .before .loop .i * mostMembers) es (c .before
-          .before .before .before .loop .own)) same,
+          ∙ ap
+          (λ (es : List Entry).
+          collectedTable (c .before .before .before .before .loop .i * mostMembers) message es
+          (c .before .before .before .before .loop .own))
+          same,
     )
 
 loop-holds : tie.Need-loop-holds Inv-loop μ-loop

@@ -1,7 +1,7 @@
 -- `rules` judges one recipient after the other: the refusals from the next one on are those of all, and the first entries of
 -- the table stay.
 use Prim.Native.Nat.{ℕ, _+_, _-_, _*_, _≤_}
-use mathlib.Core.Path.{_≡_, refl, ap, ap₂, sym, subst, _∙_}
+use mathlib.Core.Path.{_≡_, refl, ap, ap₂, sym, _∙_}
 use mathlib.Core.Bool.{true}
 use mathlib.Core.List.{List, flatMap, _++_}
 use native.Mathlib.Omega.{arith}
@@ -11,7 +11,6 @@ use Rattle.grammar.specs.Places.{Place}
 use Rattle.rows.specs.Rows.{Entry, readTexts}
 use Rattle.rows.specs.Inner.Prints.{Printed}
 use Rattle.rows.specs.Tables.{entriesOf, width}
-use Rattle.rows.proofs.Printing.{printed-append}
 use Rattle.prelude.specs.Refusals.{Test, first, stageOf}
 use Rattle.jose.specs.declared.Sizes.{Sizes}
 use Rattle.jose.specs.HeaderRules.{recipientOrder, modeIn}
@@ -25,7 +24,8 @@ use Rattle.jwe.specs.General.{ownEntries}
 use Rattle.jwe.specs.Inner.Stages.{recipientAt, recipientsOf, ruleTests}
 use Rattle.jwe.proofs.CompactOrder.{rules-nonzero}
 use Rattle.jwe.proofs.RecipientRows.{one-passes, one-refuses, all-pass}
-use Rattle.jwe.proofs.OwnHeaders.{gathered, gathered-length, gathered-room, gathered-front, own-printed}
+use Rattle.jwe.proofs.OwnHeaders.{gathered, gathered-length, gathered-room, gathered-front}
+use Rattle.jwe.proofs.OwnHeaders.{gathered-printed, gathered-kept}
 use borrow.Author.Needs.{needs}
 use Rattle.jwe.proofs.general.rules.Statement.{statement}
 use Rattle.jwe.proofs.general.rules.Tie as tie
@@ -46,7 +46,8 @@ Inv-loop header message known q of number own counts table₀ front i₀ table i
     (i ≤ number)
     × ((length table ≡ length table₀)
     × ((entriesOf front table ≡ es)
-    × (first (flatMap (tests (names known) header message es (componentsOf q)) (drop i (recipientsOf number of))) ≡ all)))
+    × (Printed (readTexts header message) front table
+    × (first (flatMap (tests (names known) header message es (componentsOf q)) (drop i (recipientsOf number of))) ≡ all))))
 
 abbrev μ-loop : tie.MeasureT-loop
 μ-loop header message known q of number own counts table₀ front i₀ table i = number - i
@@ -81,14 +82,17 @@ never-0 s =
     sound (names (args .known .now)) (args .header .now) (args .message .now) (front s) (componentsOf (args .q))
 
 -- once the own entries are copied behind the others: what the table has, that they fit, that it is as long, and what
--- stays
+-- stays; and the fingerprints of all, and of those that stay
 copied : (c : tie.After-gather Inv-loop μ-loop) →
     let at = loop-of c in
     let args = start at .args in
     let last = c .gather .last .1 .1 .1 .0 in
     (entriesOf (c .gather .result) last ≡ front (start at) ++ ownEntries (args .message .now) (this at))
     × ((c .gather .result * width ≤ length last)
-    × ((length last ≡ length (args .table .now)) × (entriesOf (args .front) last ≡ front (start at))))
+    × ((length last ≡ length (args .table .now))
+    × ((entriesOf (args .front) last ≡ front (start at))
+    × (Printed (readTexts (args .header .now) (args .message .now)) (c .gather .result) last
+    × Printed (readTexts (args .header .now) (args .message .now)) (args .front) last))))
 copied c =
     let at = loop-of c in
     let args = start at .args in
@@ -101,7 +105,8 @@ copied c =
     omega (arith, loop .inv .1 .0, start at .pre .1 .1 .1 .1 .1 .1 .0) in
     let own = args .own .now in
     let counts = args .counts .now in
-    let same = loop .inv .1 .1 .0 in (
+    let same = loop .inv .1 .1 .0 in
+    let prints = loop .inv .1 .1 .1 .0 in (
       gathered message of own counts (loop .i) (args .front) _ (loop .table) _ o fits (call .0) (call .1)
           ∙ ap (λ (l : List Entry). l ++ ownEntries message (this at)) same,
       (
@@ -109,7 +114,16 @@ copied c =
         (
           gathered-length message of own counts (loop .i) (args .front) _ (loop .table) _ o fits (call .0) (call .1)
               ∙ loop .inv .1 .0,
-          gathered-front message of own counts (loop .i) (args .front) _ (loop .table) _ o fits (call .0) (call .1) ∙ same,
+          (
+            gathered-front message of own counts (loop .i) (args .front) _ (loop .table) _ o fits (call .0) (call .1)
+                ∙ same,
+            (
+              gathered-printed message of own counts (loop .i) (args .front) _ (loop .table) _ o fits (call .0) (call .1)
+                  (args .header .now) prints,
+              gathered-kept message of own counts (loop .i) (args .front) _ (loop .table) _ o fits (call .0) (call .1)
+                  (args .header .now) prints,
+            ),
+          ),
         ),
       ),
     )
@@ -137,7 +151,9 @@ answered c =
 
 loop-holds : tie.Need-loop-holds Inv-loop μ-loop
 unfolding ruleTests
-loop-holds c = (omega arith, (refl, (refl, refl)))
+loop-holds c =
+    let pre = c .before .before .before .before .before .before .before .pre in
+    (omega arith, (refl, (refl, (pre .1 .1 .1 .1 .1 .1 .1, refl))))
 
 gather-requires : tie.Need-gather-requires Inv-loop μ-loop
 gather-requires c κs =
@@ -147,7 +163,7 @@ gather-requires c κs =
       omega (arith, pre .1 .0),
       (
         pre .1 .1 .1 .0,
-        (pre .1 .1 .1 .1 .0, (o .0, omega (arith, at .loop .inv .1 .0, pre .1 .1 .1 .1 .1 .1 .0))),
+        (pre .1 .1 .1 .1 .0, (o .few, omega (arith, at .loop .inv .1 .0, pre .1 .1 .1 .1 .1 .1 .0))),
       ),
     )
 
@@ -164,19 +180,8 @@ judge-requires : tie.Need-judge-requires Inv-loop μ-loop
 judge-requires c κs =
     let after = c .before .before .before .before .before .before in
     let at = loop-of after in
-    let args = start at .args in
-    let header = args .header .now in
-    let message = args .message .now in
-    let ts = readTexts header message in
-    let has = copied after in (
-      start at .pre .0,
-      (
-        has .1 .0,
-        subst (Printed ts) (sym (has .0))
-            (printed-append ts (front (start at)) (ownEntries message (this at))
-            (start at .pre .1 .1 .1 .1 .1 .1 .1) (own-printed header message (this at))),
-      ),
-    )
+    let has = copied after in
+    (start at .pre .0, (has .1 .0, has .1 .1 .1 .1 .0))
 
 enum-told : tie.Need-enum-told Inv-loop μ-loop
 enum-told c = search needs
@@ -195,9 +200,9 @@ returns c =
     let refusal = c .enum-told2 .given .1 in
     let told = refused-is _ (first (asked (start at) (this at))) _ (sym refusal ∙ answered (c .before .before)) in
     let all = one-refuses (asked (start at)) (never-0 (start at)) _ (args .number) (at .loop .i)
-    (args .of .now) (at .loop .inv .1 .1 .1) (after .before .before .loop-test .taken) (told .0) (told .1) in (
+    (args .of .now) (at .loop .inv .1 .1 .1 .1) (after .before .before .loop-test .taken) (told .0) (told .1) in (
       refusal ∙ refuses (args .number) (told .1) ∙ ap (λ (n : ℕ). stageOf n (args .number)) (sym all),
-      copied after .1 .1 .1,
+      copied after .1 .1 .1 .0,
     )
 
 add-i : tie.Need-add-i Inv-loop μ-loop
@@ -220,9 +225,12 @@ loop-again c =
       (
         has .1 .1 .0,
         (
-          has .1 .1 .1,
-          one-passes (asked (start at)) (never-0 (start at)) _ (args .number) (at .loop .i)
-              (args .of .now) (at .loop .inv .1 .1 .1) (after .before .before .loop-test .taken) passed,
+          has .1 .1 .1 .0,
+          (
+            has .1 .1 .1 .1 .1,
+            one-passes (asked (start at)) (never-0 (start at)) _ (args .number) (at .loop .i)
+                (args .of .now) (at .loop .inv .1 .1 .1 .1) (after .before .before .loop-test .taken) passed,
+          ),
         ),
       ),
     )
@@ -235,7 +243,7 @@ returns-2 c =
     let at = c .before in
     let args = start at .args in
     let all = all-pass (asked (start at)) (never-0 (start at)) _ (args .number) (at .loop .i)
-    (args .of .now) (at .loop .inv .1 .1 .1) (c .loop-test .left) in
+    (args .of .now) (at .loop .inv .1 .1 .1 .1) (c .loop-test .left) in
     (passes all, at .loop .inv .1 .1 .0)
 
 pub rules-spec : {M : Type 1} → statement M

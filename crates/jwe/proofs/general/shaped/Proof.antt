@@ -80,8 +80,8 @@ decodes c =
 collects : (c : tie.After-known-told2) →
     let s = start (decoded-of (text-of (protected-of c))) in
     (first (protectedTests (top s .protected) (header s)) ≡ 0)
-    × Collected (protectedEntries (header s)) 0 (s .args .table .now) (protected-of c .protected .last .1 .1 .0)
-    (c .before .own .given .0 .0)
+    × Collected (header s) (protectedEntries (header s)) 0 (s .args .table .now)
+    (protected-of c .protected .last .1 .1 .0) (c .before .own .given .0 .0)
 collects c =
     let s = start (decoded-of (text-of (protected-of c))) in
     let call = protected-of c .protected .ensures in
@@ -92,7 +92,8 @@ collects c =
 collected-long : (c : tie.After-protected) → length (c .protected .last .1 .1 .0) ≡ 768
 collected-long c = c .protected .kept .1 .1 .0 ∙ start (decoded-of (text-of c)) .pre .1 .1 .1 .1 .1 .1 .1 .0
 
--- where the shared header's are collected too: that it passes, how many there are, the table's length and its entries
+-- where the shared header's are collected too: that it passes, how many there are, the table's length, its entries and
+-- their fingerprints
 gathers : (c : tie.After-known-told3) →
     let s = begin c in
     let n = own-of (shared-of c) .before .own .given .0 .0 + c .before .shared .given .0 .0 in
@@ -100,7 +101,8 @@ gathers : (c : tie.After-known-told3) →
     (first (objectOrder (message s) (sharedEntries (message s) (top s))) ≡ 0)
     × ((n ≤ 64)
     × ((length last ≡ 768)
-    × (entriesOf n last ≡ protectedEntries (header s) ++ sharedEntries (message s) (top s))))
+    × ((entriesOf n last ≡ protectedEntries (header s) ++ sharedEntries (message s) (top s))
+    × Printed (readTexts (header s) (message s)) n last)))
 gathers c =
     let s = begin c in
     let call = shared-of c .unprotected in
@@ -111,7 +113,10 @@ gathers c =
       shared .0,
       (
         omega (arith, own .1 .short, shared .1 .short),
-        (call .kept .1 .1 .1 .0 ∙ long, behind (own .1) (shared .1) long),
+        (
+          call .kept .1 .1 .1 .0 ∙ long,
+          (behind (own .1) (shared .1) long, front-printed (top s) (own .1) (shared .1) long),
+        ),
       ),
     )
 
@@ -245,9 +250,7 @@ headed-requires c κs =
     let s = begin told in
     let pre = s .pre in
     let has = gathers told in
-    let decoded = text-of (protected-of (own-of (shared-of told))) in
-    let printed = subst (Printed (readTexts (header s) (message s))) (sym (has .1 .1 .1))
-    (front-printed (header s) (message s) (top s)) in (
+    let decoded = text-of (protected-of (own-of (shared-of told))) in (
       pre .0,
       (
         pre .1 .0,
@@ -263,9 +266,9 @@ headed-requires c κs =
                   subst
                       (λ (l : List ℕ).
                       Printed (readTexts l (message s))
-                      (entriesOf (own-of (shared-of told) .before .own .given .0 .0 + told .before .shared .given .0 .0)
-                      (shared-of told .unprotected .last .1 .1 .1 .0)))
-                      (sym (decodes decoded .1 .front)) printed,
+                      (own-of (shared-of told) .before .own .given .0 .0 + told .before .shared .given .0 .0)
+                      (shared-of told .unprotected .last .1 .1 .1 .0))
+                      (sym (decodes decoded .1 .front)) (has .1 .1 .1 .1),
                   pre .1 .1 .1 .1 .1 .1 .1 .1 .1,
                 ),
               ),
@@ -294,7 +297,7 @@ returns-4 c =
     let begins = decodes (text-of (protected-of own)) in
     let has = gathers told in
     judges (names (s .args .known .now)) (message s) (top s) (rs s) (s .args .recipient) (call .result) _ _ (s .args .text .now) _
-    (s .args .table .now) _ _ (begins .1 .front) (has .1 .1 .1)
+    (s .args .table .now) _ _ (begins .1 .front) (has .1 .1 .1 .0)
     (shaped-rest (names (s .args .known .now)) (message s) (top s) (rs s) (s .args .recipient) (begins .0) (collects own .0)
     (has .0))
     (begins .1 .wrote) (begins .1 .long ∙ sym (s .pre .1 .1 .1 .1 .1 .1 .0)) (has .1 .1 .0 ∙ sym (s .pre .1 .1 .1 .1 .1 .1 .1 .0)) (call .ensures)

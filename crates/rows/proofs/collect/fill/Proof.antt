@@ -9,8 +9,9 @@ use Rattle.names.specs.Names.{names}
 use Rattle.prelude.proofs.Writing.{Writing, put-part, done}
 use Rattle.prelude.specs.Limits.{numberLimit}
 use Rattle.rows.specs.Rows.{entryOf, entriesIn}
-use Rattle.rows.specs.Tables.{tableRow, flat, width}
+use Rattle.rows.specs.Tables.{width}
 use Rattle.rows.specs.Inner.Members.{firstMember, membersOf}
+use Rattle.rows.specs.Inner.Prints.{tableRow, flat}
 use Rattle.rows.proofs.Collecting.{below-inside, entries-next, entries-none, entries-begin}
 use Rattle.rows.proofs.collect.fill.Statement.{statement}
 use Rattle.rows.proofs.collect.fill.Tie as tie
@@ -19,8 +20,9 @@ use Rattle.json.specs.Members.{memberWidth}
 abbrev Inv-loop : tie.InvT-loop
 Inv-loop text origin list rows count table₀ from i₀ table i =
     (i ≤ count)
-    × Writing (from * width) (flat (entriesIn (names list) text origin (membersOf count rows))) table₀
-    (flat (entriesIn (names list) text origin (membersOf (count - i) (drop (i * memberWidth) rows)))) ((from + i) * width) table
+    × Writing (from * width) (flat text (entriesIn (names list) text origin (membersOf count rows))) table₀
+    (flat text (entriesIn (names list) text origin (membersOf (count - i) (drop (i * memberWidth) rows))))
+    ((from + i) * width) table
 
 abbrev μ-loop : tie.MeasureT-loop
 μ-loop text origin list rows count table₀ from i₀ table i = count - i
@@ -97,9 +99,9 @@ loop-again c =
     let more = c .before .before .before .before .before .loop-test .taken in
     let next = entries-next list text origin count (loop .i) rows (at + memberWidth - at) (omega arith) more in
     let behind = membersOf (count - (loop .i + 1)) (drop ((loop .i + 1) * memberWidth) rows) in
-    let later = flat (entriesIn list text origin behind) in (
+    let later = flat text (entriesIn list text origin behind) in (
       omega arith,
-      put-part (tableRow (entryOf list text origin (firstMember row))) later next (loop .inv .1) (omega arith)
+      put-part (tableRow text (entryOf list text origin (firstMember row))) later next (loop .inv .1) (omega arith)
           (c .before .before .put .ensures),
     )
 
@@ -113,7 +115,7 @@ returns c =
     let list = names (args .list .now) in
     let text = args .text .now in
     let rows = args .rows .now in
-    let all = flat (entriesIn list text (args .origin) (membersOf (args .count) rows)) in
+    let all = flat text (entriesIn list text (args .origin) (membersOf (args .count) rows)) in
     let none = entries-none list text (args .origin) (args .count) (loop .i) rows (c .loop-test .left) in
     done (subst
     (λ (l : List ℕ). Writing (args .from * width) all (args .table .now) l ((args .from + loop .i) * width) (loop .table))

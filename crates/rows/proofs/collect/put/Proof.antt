@@ -9,7 +9,7 @@ use Rattle.prelude.proofs.Writing.{begin-as, put, done}
 use Rattle.prelude.specs.Limits.{numberLimit}
 use Rattle.names.specs.Names.{names}
 use Rattle.rows.specs.Rows.{entryOf}
-use Rattle.rows.specs.Tables.{tableRow}
+use Rattle.rows.specs.Inner.Prints.{tableRow}
 use Rattle.rows.specs.Inner.Members.{firstMember}
 use Rattle.rows.proofs.Collecting.{entry-numbers}
 use Rattle.rows.proofs.collect.put.Statement.{statement}
@@ -152,7 +152,7 @@ returns c =
     let found = c .before .before .before .before .find in
     let print = c .before .before .before .fingerprint in
     let name = c .before .before .before .before .before .part in
-    let entry = tableRow (entryOf list text origin (firstMember row)) in
+    let entry = tableRow text (entryOf list text origin (firstMember row)) in
     let is = entry-numbers list text origin row (name .result .now) (found .result) (print .result)
     (name .ensures .0) (found .ensures) (print .ensures) in
     let opened = begin-as at entry _ (start .args .table .now) is (start .pre .1 .1 .1) in

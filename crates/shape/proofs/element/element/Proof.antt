@@ -49,8 +49,8 @@ holds c =
     let args = after .before .before .before .before .before .args in
     let message = args .message .now in
     let same = element-entries message (args .at) _ (names-of memberNames) in
-    entered _ _ _ (object-table _ _ _ _ same (after .object .ensures .1)) (search needs)
-    message _ (answer after) (c .before .object2 .given .0 .0) (c .before .object2 .given .1)
+    entered message _ _ _ (object-table message _ _ _ _ same (after .object .ensures .1)) (search needs) _
+    (answer after) (c .before .object2 .given .0 .0) (c .before .object2 .given .1)
 
 slice-aggregate-object : tie.Need-slice-aggregate-object
 slice-aggregate-object c = search needs
