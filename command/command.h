@@ -56,7 +56,7 @@ int write_output(const uint8_t *octets, size_t length);
 /* refusals.c: tells a refusal with what to do, and answers REFUSED. */
 int refused(FILE *to, uint32_t refusal);
 
-/* inspect.c: a component's number by its word, -1 for none; what a message is, for a person and in document 01's lines. */
+/* inspect.c: a component's number by its word, or -1; what a message is, for a person and in document 01's lines. */
 int component_called(const char *word);
 void print_words(const struct request *request, const struct reading *reading);
 void print_numbers(const struct reading *reading);

@@ -37,7 +37,8 @@ const struct refusal refusals[] = {
     },
     [JWE_NOT_JSON] = {
         "No JSON object (RFC 8259) within 12 levels, the message or the decoded header: no object reading, octets that "
-        "are not UTF-8 (RFC 3629), half of a surrogate pair in \\u without its other half, or nesting that is too deep.",
+        "are not UTF-8 (RFC 3629), half of a surrogate pair in \\u without its other half, or nesting that is too "
+        "deep.",
         "Have the sender's JSON writer mended; nothing of a text that has no reading is used. A byte order mark is no "
         "space.",
     },
