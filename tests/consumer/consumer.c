@@ -1,4 +1,4 @@
-/* A host outside the tree, in what C and C++ share: every function of the installed header, on document 01's samples. */
+/* A host outside the tree, in what C and C++ share: each function of the installed header on document 01's samples. */
 #include <jwe_gateway.h>
 
 #include <stdio.h>
