@@ -29,7 +29,7 @@ install: $(BUILD)/jwe
 	install -d $(addprefix $(root)/,$(sort $(dir $(installed))))
 	install -m 644 include/jwe_gateway.h $(root)/include/jwe_gateway.h
 	install -m 644 $(archive) $(root)/lib/libjwe_gateway.a
-	sed 's|@PREFIX@|$(PREFIX)|; s|@VERSION@|$(version)|' jwe_gateway.pc.in >$(root)/lib/pkgconfig/jwe_gateway.pc
+	sed 's|@PREFIX@|$(abspath $(PREFIX))|; s|@VERSION@|$(version)|' jwe_gateway.pc.in >$(root)/lib/pkgconfig/jwe_gateway.pc
 	chmod 644 $(root)/lib/pkgconfig/jwe_gateway.pc
 	install -m 755 $(BUILD)/jwe $(root)/bin/jwe
 	install -m 644 man/jwe.1 $(root)/share/man/man1/jwe.1
