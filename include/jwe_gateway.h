@@ -1,5 +1,6 @@
-/* The JWE gateway's proved functions, for C on x86-64 Linux. Link target/staticlib/libhost.a, which `rt staticlib host`
- * writes; nothing else is needed.
+/* The JWE gateway's proved functions, for C and C++ on x86-64 Linux. Link libjwe_gateway.a, as `pkg-config jwe_gateway`
+ * says after `make install`, or target/staticlib/libhost.a, which is the same and which `rt staticlib host` writes. It
+ * needs memcpy and memset of the C library and nothing else.
  *
  * Every function answers a refusal: 0, or a number of docs/REFUSALS.md. Where octets are written, *octets is how many,
  * at the start of out, and the rest of out is unchanged; refused, *octets is 0 and every lent buffer is unchanged.
@@ -15,9 +16,36 @@
 #include <stddef.h>
 #include <stdint.h>
 
+#if SIZE_MAX != UINT64_MAX
+#error "jwe_gateway.h: a length is a size_t of 64 bits"
+#endif
+
+/* What the pointers promise: a buffer that is written overlaps no other, and none is NULL. */
+#if defined(__GNUC__)
+#define JWE_RESTRICT __restrict__
+#define JWE_NONNULL __attribute__((nonnull))
+#elif defined(__cplusplus)
+#define JWE_RESTRICT
+#define JWE_NONNULL
+#else
+#define JWE_RESTRICT restrict
+#define JWE_NONNULL
+#endif
+
+#define JWE_GATEWAY_VERSION "0.6.0"
+#define JWE_GATEWAY_VERSION_MAJOR 0
+#define JWE_GATEWAY_VERSION_MINOR 6
+#define JWE_GATEWAY_VERSION_PATCH 0
+
 #ifdef __cplusplus
 extern "C" {
 #endif
+
+/* The version of this header, and of the archive that is installed with it. */
+static inline const char *jwe_version(void)
+{
+    return JWE_GATEWAY_VERSION;
+}
 
 /* Refusals, in the order in which they are given; docs/REFUSALS.md has a sentence for each. */
 #define JWE_OK 0u                 /* not refused */
@@ -41,6 +69,8 @@ extern "C" {
 #define JWE_KEY 18u               /* not empty in direct modes, or empty in others */
 #define JWE_NO_SUCH_RECIPIENT 19u
 
+#define JWE_MESSAGE_OCTETS 16777216u /* of the longest message */
+
 /* The known extension names, `known` below, are a table of contents and then the names: one octet n (0 to 16), n length
  * octets (each 1 to 64), then the names one behind the other, filling known_len exactly. No names: one octet 0. */
 
@@ -53,30 +83,37 @@ extern "C" {
 #define JWE_TAG 5u
 
 /* Judges a message for a recipient, counted from 0. */
+JWE_NONNULL
 uint32_t jwe_judge(const uint8_t *message, size_t message_len, const uint8_t *known, size_t known_len,
                    uint32_t recipient);
 
 /* Judges a message for a recipient and decodes one of its components into out. An absent component, and one of another
  * number, has no octets. Refusals are jwe_judge's, then JWE_TOO_SHORT. message_len / 4 * 3 + 2 octets are always
  * enough. */
+JWE_NONNULL
 uint32_t jwe_component(const uint8_t *message, size_t message_len, const uint8_t *known, size_t known_len,
-                       uint32_t recipient, uint32_t component, uint8_t *out, size_t out_len, size_t *octets);
+                       uint32_t recipient, uint32_t component, uint8_t *JWE_RESTRICT out, size_t out_len,
+                       size_t *JWE_RESTRICT octets);
 
 /* Decodes one component's text: base64url without padding (RFC 4648, section 5). Refusals: JWE_NOT_BASE64URL, then
  * JWE_TOO_SHORT. text_len / 4 * 3 + 2 octets are always enough. */
-uint32_t jwe_decode(const uint8_t *text, size_t text_len, uint8_t *out, size_t out_len, size_t *octets);
+JWE_NONNULL
+uint32_t jwe_decode(const uint8_t *text, size_t text_len, uint8_t *JWE_RESTRICT out, size_t out_len,
+                    size_t *JWE_RESTRICT octets);
 
 /* Writes a compact message (RFC 7516, section 7.1) of the protected header's text and the raw other components.
  * Refusals in order: 3; 6; 7, 8, 9; 13, 14, 15, 17, 18; 2; 1. */
+JWE_NONNULL
 uint32_t jwe_write_compact(const uint8_t *header, size_t header_len, const uint8_t *key, size_t key_len,
                            const uint8_t *iv, size_t iv_len, const uint8_t *ciphertext, size_t ciphertext_len,
-                           const uint8_t *tag, size_t tag_len, const uint8_t *known, size_t known_len, uint8_t *out,
-                           size_t out_len, size_t *octets);
+                           const uint8_t *tag, size_t tag_len, const uint8_t *known, size_t known_len,
+                           uint8_t *JWE_RESTRICT out, size_t out_len, size_t *JWE_RESTRICT octets);
 
 /* Writes the additional authenticated data (RFC 7516, section 5.1, step 14) of an encoded protected header and an
  * encoded aad: the header where the aad is empty, else header, full stop, aad. Only JWE_TOO_SHORT can refuse. */
+JWE_NONNULL
 uint32_t jwe_aad(const uint8_t *encoded_header, size_t header_len, const uint8_t *encoded_aad, size_t aad_len,
-                 uint8_t *out, size_t out_len, size_t *octets);
+                 uint8_t *JWE_RESTRICT out, size_t out_len, size_t *JWE_RESTRICT octets);
 
 /* Apart from the others, because it lends numbers and not only octets: the reader. */
 
@@ -100,11 +137,12 @@ enum {
 /* Reads a message for a recipient. Accepted: header begins with the decoded protected header; list with six numbers a
  * parameter: origin (0 protected, 1 shared, 2 own), the name's start and length without quotation marks, the value's
  * start and length with them, and its kind (0 object, 1 array, 2 string, 3 number, 4 true, 5 false, 6 null), places of
- * origin 0 counting in the header and others in the message; result with 18 numbers. The rest of each is unchanged; refused,
- * all of it is. */
+ * origin 0 counting in the header and others in the message; result with 18 numbers. The rest of each is unchanged;
+ * refused, all of it is, so that result holds numbers only where the answer is 0. */
+JWE_NONNULL
 uint32_t jwe_read(const uint8_t *message, size_t message_len, const uint8_t *known, size_t known_len,
-                  uint32_t recipient, uint8_t *header, size_t header_len, uint32_t *list, size_t list_len,
-                  uint32_t *result, size_t result_len);
+                  uint32_t recipient, uint8_t *JWE_RESTRICT header, size_t header_len, uint32_t *JWE_RESTRICT list,
+                  size_t list_len, uint32_t *JWE_RESTRICT result, size_t result_len);
 
 #ifdef __cplusplus
 }

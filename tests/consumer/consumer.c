@@ -1,0 +1,57 @@
+/* A host outside the tree, in what C and C++ share: each function of the installed header on document 01's samples. */
+#include <jwe_gateway.h>
+
+#include <stdio.h>
+#include <string.h>
+
+#define H "eyJhbGciOiJkaXIiLCJlbmMiOiJBMTI4R0NNIn0"
+#define M H "..AA.AQID.Ag"
+
+static int failures;
+
+static void check(int holds, const char *what)
+{
+    if (!holds) {
+        printf("FAILED consumer: %s\n", what);
+        failures++;
+    }
+}
+
+static int is(const uint8_t *octets, size_t n, const char *text)
+{
+    return n == strlen(text) && memcmp(octets, text, n) == 0;
+}
+
+int main(void)
+{
+    static const uint8_t no_names[] = {0}, key[] = {0}, iv[] = {0}, ciphertext[] = {1, 2, 3}, tag[] = {2};
+    const char *header_text = "{\"alg\":\"dir\",\"enc\":\"A128GCM\"}";
+    const uint8_t *m = (const uint8_t *)M, *text = (const uint8_t *)header_text;
+    uint8_t out[100], header[JWE_HEADER_OCTETS];
+    uint32_t list[JWE_LIST_NUMBERS], result[JWE_RESULT_NUMBERS];
+    size_t n = 1;
+    char version[32];
+
+    check(jwe_judge(m, strlen(M), no_names, 1, 0) == JWE_OK, "M is judged");
+    check(jwe_judge(m, strlen(M), no_names, 1, 1) == JWE_NO_SUCH_RECIPIENT, "M has one recipient");
+    check(jwe_component(m, strlen(M), no_names, 1, 0, JWE_CIPHERTEXT, out, sizeof out, &n) == JWE_OK && n == 3 &&
+              memcmp(out, ciphertext, 3) == 0,
+          "M's ciphertext");
+    check(jwe_read(m, strlen(M), no_names, 1, 0, header, JWE_HEADER_OCTETS, list, JWE_LIST_NUMBERS, result,
+                   JWE_RESULT_NUMBERS) == JWE_OK &&
+              result[JWE_RESULT_MODE] == 5 && is(header, result[JWE_RESULT_HEADER_LENGTH], header_text),
+          "M is read");
+    check(jwe_decode(m, strlen(H), out, sizeof out, &n) == JWE_OK && is(out, n, header_text), "H is decoded");
+    check(jwe_decode(m, strlen(H), out, 1, &n) == JWE_TOO_SHORT && n == 0, "an output that is too short");
+    check(jwe_aad(m, 0, (const uint8_t *)"AA", 2, out, sizeof out, &n) == JWE_OK && is(out, n, ".AA"), "T10's AAD");
+    check(jwe_write_compact(text, strlen(header_text), key, 0, iv, 1, ciphertext, 3, tag, 1, no_names, 1, out,
+                            sizeof out, &n) == JWE_OK &&
+              is(out, n, M),
+          "M is written");
+
+    snprintf(version, sizeof version, "%d.%d.%d", JWE_GATEWAY_VERSION_MAJOR, JWE_GATEWAY_VERSION_MINOR,
+             JWE_GATEWAY_VERSION_PATCH);
+    check(strcmp(jwe_version(), version) == 0 && strcmp(version, JWE_GATEWAY_VERSION) == 0, "the version");
+    puts(jwe_version());
+    return failures != 0;
+}
