@@ -95,11 +95,22 @@ fn expand(s: &[u8], into: &mut [u8]) -> usize
     end
 }
 
-// A number in decimal digits, and an octet behind it.
+// A number in decimal digits, ten at most, and an octet behind it. They are found from the last on.
 fn print_number(n: u32, behind: u8) {
-    let mut digits = [0u8; 16];
-    let end = report::words::put_number(n as usize, behind, &mut digits, 0);
-    io::write_all(STDOUT_FILENO, &digits[..end]);
+    let mut digits = [0u8; 11];
+    digits[10] = behind;
+    let mut rest = n;
+    let mut first: usize = 10;
+    while 0 < first {
+        first -= 1;
+        digits[first] = 48 + (rest % 10) as u8;
+        rest /= 10;
+        if rest == 0 {
+            io::write_all(STDOUT_FILENO, &digits[first..]);
+            return;
+        }
+    }
+    io::write_all(STDOUT_FILENO, &digits);
 }
 
 fn print_numbers(numbers: &[u32]) {

@@ -13,7 +13,7 @@ use prelude::limits::HEADER_ROOM;
 use prelude::limits::LIST_ROOM;
 
 mod lines;
-pub mod words;
+mod words;
 
 // The octets written, or that too little is lent.
 pub enum Reported {

@@ -33,7 +33,7 @@ fn put_digits(n: usize, out: &mut [u8], at: usize) -> usize
     last + 1
 }
 
-pub fn put_number(n: usize, end: u8, out: &mut [u8], at: usize) -> usize
+pub(crate) fn put_number(n: usize, end: u8, out: &mut [u8], at: usize) -> usize
     requires { ⌜ at + length (ended (decimal n) end) ≤ length (now out) ⌝ }
     ensures { λ r. ⌜ r ≡ at + length (ended (decimal n) end) ⌝ }
     ensures { λ _. ⌜ now (out .exit) ≡ written at (ended (decimal n) end) (now (out .entry)) ⌝ }
