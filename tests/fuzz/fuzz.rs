@@ -22,6 +22,7 @@ mod reference;
 #[path = "../host/writer.rs"]
 mod writer;
 
+use jwe::colliding::names;
 use jwe::messages::made;
 use jwe::second::Answer;
 use jwe::{Call, Comparer};
@@ -47,7 +48,7 @@ fn kinds_of(call: &Call, answer: &Answer) -> [Kind; 2] {
 }
 
 /// The other functions give what follows from the second reader's answer: judging its number, each component its octets, and
-/// what was read of a compact message, written again, the message.
+/// what was read of a compact message, written again, the message or the same refusal.
 fn others_agree(call: &Call, answer: &Answer, reference: &Reference) -> bool {
     let Call { message, known, recipient, .. } = call;
     let mut out = vec![0; message.len()];
@@ -56,9 +57,9 @@ fn others_agree(call: &Call, answer: &Answer, reference: &Reference) -> bool {
         return false;
     }
     if answer.refusal != 0 {
-        return library::component(message, known, *recipient, 4, &mut out, &mut octets) == answer.refusal && octets == 0;
+        let refusal = library::component(message, known, *recipient, 4, &mut out, &mut octets);
+        return refusal == answer.refusal && octets == 0 && writer_agrees(call, answer.refusal, reference);
     }
-    let mut parts = Vec::new();
     for (component, [start, length]) in answer.places.iter().enumerate() {
         let encoded = &message[*start as usize..][..*length as usize];
         let Some(decoded) = reference.decode(encoded) else { return false };
@@ -66,14 +67,45 @@ fn others_agree(call: &Call, answer: &Answer, reference: &Reference) -> bool {
         if refusal != 0 || octets != decoded.len() || out[..octets] != decoded {
             return false;
         }
-        parts.push(decoded);
+        if let Some(short) = decoded.len().checked_sub(1) {
+            let refusal = library::component(message, known, *recipient, component as u32, &mut out[..short], &mut octets);
+            if refusal != 1 || octets != 0 {
+                return false;
+            }
+        }
     }
-    if answer.form > 0 {
-        return true;
+    writer_agrees(call, 0, reference)
+}
+
+/// Compact: the parts, decoded and written again, give the message, or the reader's refusal if that is one of the writer's.
+fn writer_agrees(call: &Call, refusal: u32, reference: &Reference) -> bool {
+    let parts = call.message.split(|&c| c == b'.').map(|part| reference.decode(part)).collect::<Option<Vec<Vec<u8>>>>();
+    let Some([header, key, iv, ciphertext, tag]) = parts.as_deref() else { return true };
+    // The writer is asked for no recipient.
+    let expected = if refusal == 19 { 0 } else { refusal };
+    let mut out = vec![0; call.message.len()];
+    let mut octets = usize::MAX;
+    let inputs = [&header[..], key, iv, ciphertext, tag, &call.known];
+    let answer = library::write_compact(inputs, &mut out, &mut octets);
+    if expected != 0 {
+        return answer == expected && octets == 0 && out.iter().all(|&c| c == 0);
     }
-    let [header, key, iv, _, ciphertext, tag] = &parts[..] else { return false };
-    let refusal = library::write_compact([header, key, iv, ciphertext, tag, known], &mut out, &mut octets);
-    refusal == 0 && out == *message && octets == message.len()
+    let written = answer == 0 && octets == call.message.len() && out == call.message;
+    let short = out.len() - 1;
+    written && library::write_compact(inputs, &mut out[..short], &mut octets) == 1 && octets == 0
+}
+
+/// Names with one fingerprint, which chance does not make: only then are names compared that differ.
+fn colliding_messages() -> [Call; 2] {
+    let [one, other, third, fourth] = &names(4, 40)[..] else { panic!("four names") };
+    let header = format!(r#"{{"alg":"dir","enc":"A128GCM","{one}":0,"{other}":1}}"#);
+    let encoded = String::from_utf8(Reference::new().encode(header.as_bytes())).expect("the alphabet is ASCII");
+    [
+        Call::new(format!("{encoded}..AA.AQID.Ag")),
+        Call::new(format!(
+            r#"{{"protected":"{encoded}","unprotected":{{"{third}":0}},"ciphertext":"","recipients":[{{"header":{{"{fourth}":0}}}}]}}"#
+        )),
+    ]
 }
 
 fn main() {
@@ -95,7 +127,7 @@ fn main() {
     let mut mutator = Mutator::new(seed);
     let mut comparer = Comparer::new(&jwe::ours, &mut mutator.random);
     let mut corpus: Vec<Call> = messages.iter().map(|path| Call::new(std::fs::read(path).expect(path))).collect();
-    assert!(!corpus.is_empty(), "a message to begin with");
+    corpus.extend(colliding_messages());
     let mut leading: Vec<usize> = Vec::new();
     let (mut kinds, mut numbers) = (HashSet::new(), [0u64; 20]);
     cover::watch(&blocks);
@@ -130,7 +162,7 @@ fn main() {
         executions += 1;
         let before = cover::count();
         let answer = comparer.compare("fuzzed", &call);
-        if !others_agree(&call, &answer, &reference) {
+        if answer.refusal != 1 && !others_agree(&call, &answer, &reference) {
             println!("MISMATCH in the other functions, seed {seed}, execution {executions}");
             println!(" message {}", call.message.escape_ascii());
             println!("   known {}", call.known.escape_ascii());
@@ -176,9 +208,9 @@ fn main() {
         kinds.len(),
         corpus.len() - given
     );
-    // Rooms are always long enough and messages short, so that 1 and 2 do not come; every other number has to.
-    if let Some(number) = (3..20).find(|&n| numbers[n] == 0) {
-        println!("FAILED fuzz: no message was refused by {number}");
+    // Messages are short, so that 2 does not come; every other number has to.
+    if let Some(number) = [0, 1].into_iter().chain(3..20).find(|&n| numbers[n] == 0) {
+        println!("FAILED fuzz: no message had the answer {number}");
         std::process::exit(1);
     }
 }

@@ -152,6 +152,12 @@ impl Mutator {
             _ => {}
         }
         call.known.truncate(2000);
+        // Buffers that are too short, which only this one call keeps.
+        (call.header_room, call.list_room) = match self.random.below(256) {
+            0 => (4095, 576),
+            1 => (4096, 575),
+            _ => (4096, 576),
+        };
         if self.random.below(16) == 0 {
             call.recipient = [0, 1, 2, 7, 8, u32::MAX][self.random.below(6)];
         }
