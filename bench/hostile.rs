@@ -2,7 +2,7 @@
 //! fingerprints of their own; and messages that are refused, late and at their end.
 
 use crate::jwe::{encoded, letters, protected, second, Reader, DIR};
-use crate::{processor_time, summary, FEW, SIZE};
+use crate::{processor_time, FEW, SIZE};
 use std::hint::black_box;
 
 #[allow(dead_code)]
@@ -30,8 +30,8 @@ fn members(names: &[String], escapes: Escapes) -> String {
     names.iter().map(|name| format!(r#""{}":0"#, spelled(name, escapes))).collect::<Vec<_>>().join(",")
 }
 
-fn compact(names: &[String]) -> Vec<u8> {
-    let header = format!("{{{DIR},{}}}", members(names, Escapes::None));
+fn compact(names: &[String], escapes: Escapes) -> Vec<u8> {
+    let header = format!("{{{DIR},{}}}", members(names, escapes));
     assert!((4000..=4096).contains(&header.len()));
     format!("{}..AA.AQID.Ag", encoded(header.as_bytes())).into_bytes()
 }
@@ -64,17 +64,16 @@ fn beside(reader: &mut Reader, name: &str, hostile: &[u8], plain: &[u8]) {
     reader.compare(name, hostile);
     reader.compare(name, plain);
     let rounds = (0..=FEW).map(|_| (seconds(reader, hostile, 0), seconds(reader, plain, 0))).skip(1);
-    let (hostiles, plains): (Vec<f64>, Vec<f64>) = rounds.unzip();
-    // summary has the largest first: the worst, which is not shown.
-    let best = |times: &[f64]| times.iter().copied().fold(f64::MAX, f64::min);
-    let ((_, hostile_median), (_, plain_median)) = (summary(hostiles.clone()), summary(plains.clone()));
+    let (mut hostiles, mut plains): (Vec<f64>, Vec<f64>) = rounds.unzip();
+    hostiles.sort_by(f64::total_cmp);
+    plains.sort_by(f64::total_cmp);
     println!(
         "{name:<30} {:>11} {:>11.1} {:>11.1} {:>9.2} {:>9.2}",
         hostile.len(),
-        best(&hostiles) * 1e6,
-        best(&plains) * 1e6,
-        best(&hostiles) / best(&plains),
-        hostile_median / plain_median
+        hostiles[0] * 1e6,
+        plains[0] * 1e6,
+        hostiles[0] / plains[0],
+        hostiles[FEW / 2] / plains[FEW / 2]
     );
 }
 
@@ -86,8 +85,9 @@ pub fn measure(reader: &mut Reader) {
     println!();
     println!("{:<30} {:>11} {:>11} {:>11} {:>19}", "", "octets", "one, us", "own, us", "one/own");
     println!("{:<30} {:>11} {:>11} {:>11} {:>9} {:>9}", "", "", "best", "best", "best", "median");
-    let messages: [(&str, &dyn Fn(Names) -> Vec<u8>); 7] = [
-        ("30, header of 4,096 octets", &|names| compact(&names(30, 130))),
+    let messages: [(&str, &dyn Fn(Names) -> Vec<u8>); 8] = [
+        ("30, header of 4,096 octets", &|names| compact(&names(30, 130), Escapes::None)),
+        ("the same, an escape in each", &|names| compact(&names(30, 125), Escapes::First)),
         ("32 of 100 octets, shared", &|names| shared(&names(32, 100), Escapes::None)),
         ("32 of 500,000 octets, shared", &|names| shared(&names(32, 500_000), Escapes::None)),
         ("the same, an escape in each", &|names| shared(&names(32, 500_000), Escapes::First)),
@@ -131,13 +131,12 @@ fn refused(reader: &mut Reader) {
     println!();
     println!("Messages of 16 MiB that are refused, beside accepted ones.");
     println!();
-    println!("{:<30} {:>11} {:>9} {:>9}", "MB/s", "refusal", "best", "median");
+    println!("{:<30} {:>11} {:>11} {:>11}", "microseconds", "refusal", "best", "median");
     for (name, message, recipient) in messages {
         let expected = second::read(&message, &[0], recipient, 4096, 576).refusal;
         assert_eq!(reader.refusal(&message, recipient), expected, "{name}");
-        let speeds: Vec<f64> =
-            (0..=FEW).map(|_| message.len() as f64 / 1e6 / seconds(reader, &message, recipient)).skip(1).collect();
-        let (best, median) = summary(speeds);
-        println!("{name:<30} {expected:>11} {best:>9.0} {median:>9.0}");
+        let mut times: Vec<f64> = (0..=FEW).map(|_| seconds(reader, &message, recipient) * 1e6).skip(1).collect();
+        times.sort_by(f64::total_cmp);
+        println!("{name:<30} {expected:>11} {:>11.1} {:>11.1}", times[0], times[FEW / 2]);
     }
 }
