@@ -2,7 +2,9 @@
 //! judging JSON texts of 16 MiB beside a plain Rust recursive descent, and reading messages beside plain Rust. Deterministic input; ours and the peer take turns, so
 //! that both meet the same machine.
 
+mod hostile;
 mod jwe;
+mod peers;
 mod validator;
 
 use std::hint::black_box;
@@ -152,6 +154,8 @@ fn peer_encode(octets: &[u8], out: &mut [u8]) -> Option<usize> {
 
 const SIZE: usize = 16 << 20;
 const ROUNDS: usize = 25;
+/// Beside named peers and for hostile messages, which take longer.
+const FEW: usize = 9;
 
 /// Octets from the kernel that nobody has touched yet.
 struct Fresh(*mut u8, usize);
@@ -203,12 +207,12 @@ fn summary(mut speeds: Vec<f64>) -> (f64, f64) {
 
 /// One line: ours and the peer in turn. The first round is not counted.
 fn line(name: &str, ours: impl FnMut() -> f64, peer: impl FnMut() -> f64) {
-    line_with(name, ours, peer, "");
+    line_with(name, ROUNDS, ours, peer, "");
 }
 
-/// The same, with more columns.
-fn line_with(name: &str, mut ours: impl FnMut() -> f64, mut peer: impl FnMut() -> f64, more: &str) {
-    let (our_speeds, peer_speeds) = (0..=ROUNDS).map(|_| (ours(), peer())).skip(1).unzip();
+/// The same in so many rounds, with more columns.
+fn line_with(name: &str, rounds: usize, mut ours: impl FnMut() -> f64, mut peer: impl FnMut() -> f64, more: &str) {
+    let (our_speeds, peer_speeds) = (0..=rounds).map(|_| (ours(), peer())).skip(1).unzip();
     let ((our_best, our_median), (peer_best, peer_median)) = (summary(our_speeds), summary(peer_speeds));
     println!(
         "{name:<20} {our_best:>9.0} {our_median:>9.0} {peer_best:>9.0} {peer_median:>9.0} {:>9.2} {:>9.2}{more}",
@@ -324,6 +328,7 @@ fn compare_json(text: &[u8]) {
 }
 
 fn main() {
+    let peers = peers::all(&std::env::args().nth(1).unwrap_or_default());
     let message = octets(SIZE, 7516);
     compare(&message);
     let mut spelled = vec![1; SIZE * 2];
@@ -335,7 +340,7 @@ fn main() {
 
     println!("16 MiB of text (check, decode) or octets (encode, copy). Peer: a plain Rust table loop, opt-level 3.");
     println!("Both for baseline x86-64; their results were compared and are equal.");
-    println!("{ROUNDS} rounds, ours and the peer in turn, after one that is not counted; thread's processor time.");
+    println!("{ROUNDS} rounds, {FEW} with named peers, ours and the peer in turn, after one that is not counted; thread's processor time.");
     println!("All buffers were touched before; in the last line the output is fresh memory in every round.");
     println!();
     println!("{:<20} {:>9} {:>19} {:>19}", "MB/s", "ours", "peer", "ours/peer");
@@ -346,11 +351,20 @@ fn main() {
         || speed(|| decode(black_box(&text), black_box(&mut out)).is_some()),
         || speed(|| peer_decode(black_box(&text), black_box(&mut peer_out)).is_some()),
     );
+    for peer in &peers {
+        peer.decode(&text, &message[..SIZE / 4 * 3], || speed(|| decode(black_box(&text), black_box(&mut out)).is_some()));
+    }
     line(
         "encode",
         || speed(|| encode(black_box(&message), black_box(&mut spelled)).is_some()),
         || speed(|| peer_encode(black_box(&message), black_box(&mut peer_spelled)).is_some()),
     );
+    // An octet less, which makes whole groups: modp_b64 would write padding.
+    let octets = &message[..SIZE / 3 * 3];
+    let expected = spelled[..SIZE / 3 * 4].to_vec();
+    for peer in &peers {
+        peer.encode(octets, &expected, || speed(|| encode(black_box(octets), black_box(&mut spelled)).is_some()));
+    }
     let mut copy = || {
         black_box(&mut out[..]).copy_from_slice(black_box(&message));
         true
@@ -378,10 +392,16 @@ fn main() {
         let best = (0..ROUNDS).map(|_| time(text)).fold(0.0, f64::max);
         line_with(
             name,
+            ROUNDS,
             || speed(|| judge(black_box(text), 12).is_some()),
             || speed(|| peer_judge(black_box(text), 12).is_some()),
             &format!(" {:>9.3} {:>9.2}", 1e3 / best, base / best),
         );
+        for peer in &peers {
+            peer.judge(text, false, || speed(|| judge(black_box(text), 12).is_some()), |work| speed(work));
+        }
     }
-    jwe::measure();
+    let mut reader = jwe::Reader::new();
+    jwe::measure(&mut reader, &peers);
+    hostile::measure(&mut reader);
 }

@@ -1,13 +1,14 @@
-//! Reading messages: those of 16 MiB that are usual, and the worst ones, beside a plain Rust pass over the same octets; and
+//! Reading messages: those of 16 MiB that are usual, and the worst ones, beside one plain Rust pass over the same octets; and
 //! small ones, in messages per second. The peer only validates: JSON by the validator, a compact message by its dots, its
 //! characters and its header's JSON. Ours judges all of document 01 and hands out the list.
 
+use crate::peers::Peer;
 use crate::validator;
-use crate::{encode, line, listed, peer_check, peer_decode, processor_time, repeated, speed, ALPHABET, SIZE};
+use crate::{encode, line, listed, peer_check, peer_decode, processor_time, repeated, speed, value, ALPHABET, BAD, SIZE};
 use std::hint::black_box;
 
 #[path = "../tests/host/second.rs"]
-mod second;
+pub mod second;
 
 extern "C" {
     fn jwe_read(
@@ -26,7 +27,7 @@ extern "C" {
 }
 
 /// Our reader, and what is lent to it.
-struct Reader {
+pub struct Reader {
     header: Vec<u8>,
     list: Vec<u32>,
     result: [u32; 18],
@@ -34,9 +35,13 @@ struct Reader {
 
 impl Reader {
     /// No known names. Answers whether the message is accepted.
-    fn read(&mut self, message: &[u8], recipient: u32) -> bool {
+    pub fn read(&mut self, message: &[u8], recipient: u32) -> bool {
+        self.refusal(message, recipient) == 0
+    }
+
+    pub fn refusal(&mut self, message: &[u8], recipient: u32) -> u32 {
         // SAFETY: the pointers and lengths are those of slices.
-        let refusal = unsafe {
+        unsafe {
             jwe_read(
                 message.as_ptr(),
                 message.len(),
@@ -50,12 +55,11 @@ impl Reader {
                 self.result.as_mut_ptr(),
                 self.result.len(),
             )
-        };
-        refusal == 0
+        }
     }
 
     /// Ours hands out what the second reader of the host tests does.
-    fn compare(&mut self, name: &str, message: &[u8]) {
+    pub fn compare(&mut self, name: &str, message: &[u8]) {
         let answer = second::read(message, &[0], 0, self.header.len(), self.list.len());
         assert_eq!(answer.refusal, 0, "{name}");
         assert!(self.read(message, 0), "{name}");
@@ -67,37 +71,77 @@ impl Reader {
     }
 }
 
-// The peer
+// The peer: one pass
 
 #[inline(never)]
 fn peer_read(message: &[u8]) -> bool {
     if message.first() == Some(&b'{') {
         return validator::judge(message, 12).is_some();
     }
-    let mut parts = message.split(|&c| c == b'.');
-    let (Some(header), 3) = (parts.next(), parts.clone().skip(1).count()) else { return false };
+    peer_compact(message).is_some()
+}
+
+fn peer_compact(message: &[u8]) -> Option<()> {
     let mut octets = [0; 4096];
-    let Some(n) = peer_decode(header, &mut octets) else { return false };
-    validator::judge(&octets[..n], 12).is_some() && parts.all(peer_check)
+    let (mut at, n) = decoded_part(message, &mut octets)?;
+    validator::judge(&octets[..n], 12)?;
+    for _ in 0..4 {
+        if *message.get(at)? != b'.' {
+            return None;
+        }
+        at += 1 + part(&message[at + 1..])?;
+    }
+    (at == message.len()).then_some(())
+}
+
+/// What stands before the next dot, of the last characters that are no whole group.
+fn tail(text: &[u8]) -> &[u8] {
+    &text[..text.iter().take(4).take_while(|&&c| c != b'.').count()]
+}
+
+/// How many characters a text has before its first dot or its end, if they are base64url.
+fn part(text: &[u8]) -> Option<usize> {
+    let bad = |g: &[u8]| (value(g[0]) | value(g[1]) | value(g[2]) | value(g[3])) & BAD != 0;
+    let whole = text.chunks_exact(4).position(bad).unwrap_or(text.len() / 4) * 4;
+    let tail = tail(&text[whole..]);
+    peer_check(tail).then_some(whole + tail.len())
+}
+
+/// The same, decoded: the characters and the octets.
+fn decoded_part(text: &[u8], out: &mut [u8]) -> Option<(usize, usize)> {
+    let mut groups = 0;
+    for (g, place) in text.chunks_exact(4).zip(out.chunks_exact_mut(3)) {
+        let (a, b, c, d) = (value(g[0]), value(g[1]), value(g[2]), value(g[3]));
+        if (a | b | c | d) & BAD != 0 {
+            break;
+        }
+        place[0] = a << 2 | b >> 4;
+        place[1] = b << 4 | c >> 2;
+        place[2] = c << 6 | d;
+        groups += 1;
+    }
+    let tail = tail(&text[groups * 4..]);
+    let n = peer_decode(tail, &mut out[groups * 3..])?;
+    Some((groups * 4 + tail.len(), groups * 3 + n))
 }
 
 // Messages
 
-const DIR: &str = r#""alg":"dir","enc":"A128GCM""#;
+pub const DIR: &str = r#""alg":"dir","enc":"A128GCM""#;
 
-fn encoded(octets: &[u8]) -> String {
+pub fn encoded(octets: &[u8]) -> String {
     let mut text = vec![0; octets.len() * 2];
     let end = encode(octets, &mut text).expect("room");
     text.truncate(end);
     String::from_utf8(text).expect("the alphabet is ASCII")
 }
 
-fn protected() -> String {
+pub fn protected() -> String {
     format!(r#""protected":"{}""#, encoded(format!("{{{DIR}}}").as_bytes()))
 }
 
 /// Four characters of base64url.
-fn letters(i: usize) -> Vec<u8> {
+pub fn letters(i: usize) -> Vec<u8> {
     (0..4).map(|j| ALPHABET[(i * 4 + j) * 7 % 64]).collect()
 }
 
@@ -209,10 +253,30 @@ fn rate(count: usize, mut work: impl FnMut() -> bool) -> f64 {
     count as f64 / seconds
 }
 
-pub fn measure() {
-    let mut reader = Reader { header: vec![1; 4096], list: vec![1; 576], result: [1; 18] };
+impl Reader {
+    pub fn new() -> Self {
+        Reader { header: vec![1; 4096], list: vec![1; 576], result: [1; 18] }
+    }
+}
+
+/// The peer gives the second reader's answer on compact messages with one octet otherwise, where that is 5 or not.
+fn compare_peer() {
+    let (_, message) = small_messages().swap_remove(0);
+    for at in 0..message.len() {
+        for c in *b".=A_B" {
+            let mut damaged = message.clone();
+            damaged[at] = c;
+            let refusal = second::read(&damaged, &[0], 0, 4096, 576).refusal;
+            assert_eq!(peer_read(&damaged), ![4, 5, 6, 7].contains(&refusal), "{}", damaged.escape_ascii());
+        }
+    }
+}
+
+pub fn measure(reader: &mut Reader, peers: &[Peer]) {
+    compare_peer();
     println!();
-    println!("Messages of 16 MiB. Peer: from_utf8 and a plain Rust recursive descent; for compact ones a table loop.");
+    println!("Messages of 16 MiB. Peer: from_utf8 and a plain Rust recursive descent; for compact ones a table loop, one pass.");
+    println!("Named peers as they come: cjose takes messages apart, serde_json and simdjson read the JSON alone.");
     println!();
     println!("{:<20} {:>9} {:>19} {:>19}", "MB/s", "ours", "peer", "ours/peer");
     println!("{:<20}{}", "(MB = 10^6)", "      best    median".repeat(3));
@@ -224,6 +288,9 @@ pub fn measure() {
             || speed(|| reader.read(black_box(message), 0)),
             || speed(|| peer_read(black_box(message))),
         );
+        for peer in peers {
+            peer.judge(message, true, || speed(|| reader.read(black_box(message), 0)), |work| speed(work));
+        }
     }
     println!();
     println!("Small messages, in messages per second.");
@@ -236,5 +303,8 @@ pub fn measure() {
             || rate(count, || reader.read(black_box(message), 0)),
             || rate(count, || peer_read(black_box(message))),
         );
+        for peer in peers {
+            peer.judge(message, true, || rate(count, || reader.read(black_box(message), 0)), |work| rate(count, work));
+        }
     }
 }

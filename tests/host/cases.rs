@@ -32,7 +32,7 @@ pub fn encoded(text: &[u8]) -> String {
 }
 
 /// A compact message of this header, without a key.
-fn compact(header: &str) -> String {
+pub fn compact(header: &str) -> String {
     encoded(header.as_bytes()) + "..AA.AQID.Ag"
 }
 
@@ -78,7 +78,7 @@ pub fn long_header(length: usize) -> String {
 }
 
 /// A list of known names.
-fn known(names: &[&str]) -> Vec<u8> {
+pub fn known(names: &[&str]) -> Vec<u8> {
     let mut list = vec![names.len() as u8];
     list.extend(names.iter().map(|name| name.len() as u8));
     list.extend(names.concat().bytes());
@@ -337,5 +337,6 @@ pub fn all() -> Vec<Case> {
     cases.compact_texts();
     cases.compact_headers();
     cases.json();
+    cases.colliding();
     cases.0
 }

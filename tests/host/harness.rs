@@ -1,6 +1,7 @@
 //! Compares the library with a second base64url, a second reader of JSON, and a second reader and writer of messages on
 //! millions of random and damaged texts and messages, and on all short ones.
-//! Deterministic by seed: `harness [SEED]`. Exits 1 at the first difference.
+//! Deterministic by seed: `harness [SEED]`. With a seed, all short texts and groups, which need no chance, are left out. Exits 1 at
+//! the first difference.
 //!
 //! Every call is judged by its answer, its out-parameter and the whole of its memory: the buffer, the octets beside it
 //! and the input. A stray read or write beyond either stops the program.
@@ -294,7 +295,10 @@ fn main() {
     const LONGEST: usize = 1 << 20;
     const ROOM: usize = LONGEST + 1000;
 
-    let seed = std::env::args().nth(1).map_or(7516, |seed| seed.parse().expect("the seed is a number"));
+    let given = std::env::args().nth(1);
+    let everything = given.is_none();
+    let seed = given.map_or(7516, |seed| seed.parse().expect("the seed is a number"));
+    println!("harness: seed {seed}");
     let mut random = Random(seed);
     let mut tester = Tester {
         reference: Reference::new(),
@@ -312,8 +316,10 @@ fn main() {
     };
 
     let lengths = tester.lengths(&mut random);
-    tester.all_short_texts();
-    tester.all_groups();
+    if everything {
+        tester.all_short_texts();
+        tester.all_groups();
+    }
     tester.all_places(&mut random);
     let exhaustive = tester.calls;
     for _ in 0..SHORT_CASES {
@@ -326,7 +332,8 @@ fn main() {
         tester.random_octets(&mut random, longest);
     }
 
-    println!("all texts and octets of length 0 to 3, a wrong character in every place: {exhaustive} calls");
+    let short = if everything { "all texts and octets of length 0 to 3, " } else { "" };
+    println!("{short}a wrong character in every place: {exhaustive} calls");
     println!("encoded_length: {lengths} numbers");
     let reports = [tester.check.report("check"), tester.decode.report("decode"), tester.encode.report("encode")];
     let json = json::compare(&mut tester, &mut random);
@@ -334,11 +341,12 @@ fn main() {
         println!("FAILED harness: accepted or refused calls are less than a third");
         exit(1);
     }
-    if !jwe::compare(&jwe::ours, &mut random) {
+    // Each refusal has to be met with the fixed seed; with another, a rare one may by chance not come.
+    if !jwe::compare(&jwe::ours, &mut random) && everything {
         println!("FAILED harness: a refusal was never met");
         exit(1);
     }
-    if !exports::compare(&mut random) {
+    if !exports::compare(&mut random) && everything {
         println!("FAILED harness: a refusal was never met by the other functions");
         exit(1);
     }

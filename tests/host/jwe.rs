@@ -5,6 +5,8 @@
 //! each of them, and what was lent to be read only.
 
 mod cases;
+pub mod colliding;
+mod colliding_cases;
 mod json_cases;
 pub mod messages;
 mod parameters;
@@ -110,7 +112,7 @@ fn as_numbers(lent: &mut Lent) -> &mut [u32] {
     unsafe { from_raw_parts_mut(octets.as_mut_ptr().cast(), octets.len() / 4) }
 }
 
-struct Comparer<'a> {
+pub struct Comparer<'a> {
     read: Read<'a>,
     message: Lent,
     known: Lent,
@@ -125,7 +127,7 @@ struct Comparer<'a> {
 }
 
 impl<'a> Comparer<'a> {
-    fn new(read: Read<'a>, random: &mut Random) -> Self {
+    pub fn new(read: Read<'a>, random: &mut Random) -> Self {
         const ROOM: usize = 1 << 14;
         Comparer {
             read,
@@ -186,7 +188,7 @@ impl<'a> Comparer<'a> {
 
     /// Where our reader does not give the second one's answer, the message is made as short as it can be, shown, and the
     /// program ends.
-    fn compare(&mut self, name: &str, call: &Call) -> Answer {
+    pub fn compare(&mut self, name: &str, call: &Call) -> Answer {
         let answer = call.answer();
         if self.difference(call, &answer).is_none() {
             return answer;

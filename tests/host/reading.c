@@ -227,11 +227,11 @@ static void every_number(void)
     CHECK("crit, its name known", judged == JWE_OK);
 }
 
-/* Sizes from both sides: the header (6), members (8), and the message (2). */
+/* Sizes from both sides: the header (6) and members (8). */
 static void sizes(void)
 {
-    const size_t longest = 16777216;
-    uint8_t *text = must(malloc(longest + 1));
+    const size_t longest = 16384;
+    uint8_t *text = must(malloc(longest));
     uint8_t header[4097];
     memset(header, ' ', sizeof header);
     memcpy(header, HEADER, strlen(HEADER));
@@ -267,6 +267,14 @@ static void sizes(void)
             refused("33 members", JWE_MANY_MEMBERS, message);
     }
 
+    free(text);
+}
+
+/* And the message (2). */
+static void long_messages(void)
+{
+    const size_t longest = 16777216;
+    uint8_t *text = must(malloc(longest + 1));
     memset(text, 'A', longest + 1);
     refused("16 MiB without a dot", JWE_NOT_FOUR_DOTS, (struct text){text, longest});
     refused("16 MiB and an octet", JWE_MESSAGE_TOO_LONG, (struct text){text, longest + 1});
@@ -313,13 +321,16 @@ static void no_length_is_cut(void)
     cases += 6;
 }
 
-int main(void)
+int main(int argc, char **argv)
 {
     samples();
     recipients();
     every_number();
     sizes();
-    no_length_is_cut();
+    if (!is_short(argc, argv)) {
+        long_messages();
+        no_length_is_cut();
+    }
     printf("reading: %lu cases, %lu checks, %lu failed\n", cases, checks, failures);
     return failures != 0;
 }

@@ -25,6 +25,12 @@ static inline int check(const char *name, int holds, const char *condition)
     return holds;
 }
 
+/* `PROGRAM short` leaves out texts of 16 MiB and lengths over 2^32, for valgrind, which is some fifty times slower. */
+static inline int is_short(int argc, char **argv)
+{
+    return argc > 1 && strcmp(argv[1], "short") == 0;
+}
+
 /* Lent memory. The sanitizers do not see what the archive's code does, so a buffer also stands against pages that
  * nothing may touch: an octet read or written beyond its end, or before its start, stops the program. */
 enum place { BEFORE_FENCE, AFTER_FENCE, MALLOC, PLACES };
