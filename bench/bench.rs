@@ -1,6 +1,7 @@
-//! Measures check, decode and encode of 16 MiB beside plain Rust table loops in the same process, and a copy for scale; then
-//! judging JSON texts of 16 MiB beside a plain Rust recursive descent, and reading messages beside plain Rust. Deterministic input; ours and the peer take turns, so
-//! that both meet the same machine.
+//! Measures check, decode and encode of 16 MiB beside plain Rust table loops in the same process, and a copy for scale; judging JSON
+//! texts of 16 MiB beside a plain Rust recursive descent; reading messages beside plain Rust; and each beside the peers of the
+//! directory that is given, where it is there. Last, messages that are meant to cost time. Deterministic input; ours and the peer
+//! take turns, so that both meet the same machine.
 
 mod hostile;
 mod jwe;
@@ -340,7 +341,7 @@ fn main() {
 
     println!("16 MiB of text (check, decode) or octets (encode, copy). Peer: a plain Rust table loop, opt-level 3.");
     println!("Both for baseline x86-64; their results were compared and are equal.");
-    println!("{ROUNDS} rounds, {FEW} with named peers, ours and the peer in turn, after one that is not counted; thread's processor time.");
+    println!("{ROUNDS} rounds, {FEW} with named peers, after one that is not counted, ours and the peer in turn; processor time.");
     println!("All buffers were touched before; in the last line the output is fresh memory in every round.");
     println!();
     println!("{:<20} {:>9} {:>19} {:>19}", "MB/s", "ours", "peer", "ours/peer");

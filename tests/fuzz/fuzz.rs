@@ -1,10 +1,12 @@
 //! A fuzzer: changes messages, keeps those that make a block of the archive run for the first time or that reach an answer of
-//! a new kind, and goes on from them. Now and then a message of the host tests' maker is the one that is changed. Every answer is compared with the second reader's, by the comparer of the host tests,
-//! which looks at all lent memory too; a difference is shown, its message cut down, and ends the program with status 1.
+//! a new kind, and goes on from them. Now and then a message of the host tests' maker is the one that is changed. Every answer
+//! is compared with the second reader's, by the comparer of the host tests, which looks at all lent memory too; a difference is
+//! shown, its message cut down, and ends the program with status 1.
 //!
 //!     fuzz SECONDS SEED BLOCKS MESSAGE..
 //!
-//! BLOCKS is what tests/fuzz/blocks lists; those that did not run are written beside it. With the same seed the same inputs come in the same order, however fast.
+//! BLOCKS is what tests/fuzz/blocks lists; those that did not run are written beside it. With the same seed the same inputs
+//! come in the same order, however fast.
 #![allow(dead_code)]
 
 mod cover;
@@ -22,10 +24,9 @@ mod reference;
 #[path = "../host/writer.rs"]
 mod writer;
 
-use jwe::colliding::names;
 use jwe::messages::made;
 use jwe::second::Answer;
-use jwe::{Call, Comparer};
+use jwe::{cases, Call, Comparer};
 use mutate::Mutator;
 use reference::Reference;
 use std::collections::{BTreeMap, HashSet};
@@ -95,17 +96,9 @@ fn writer_agrees(call: &Call, refusal: u32, reference: &Reference) -> bool {
     written && library::write_compact(inputs, &mut out[..short], &mut octets) == 1 && octets == 0
 }
 
-/// Names with one fingerprint, which chance does not make: only then are names compared that differ.
-fn colliding_messages() -> [Call; 2] {
-    let [one, other, third, fourth] = &names(4, 40)[..] else { panic!("four names") };
-    let header = format!(r#"{{"alg":"dir","enc":"A128GCM","{one}":0,"{other}":1}}"#);
-    let encoded = String::from_utf8(Reference::new().encode(header.as_bytes())).expect("the alphabet is ASCII");
-    [
-        Call::new(format!("{encoded}..AA.AQID.Ag")),
-        Call::new(format!(
-            r#"{{"protected":"{encoded}","unprotected":{{"{third}":0}},"ciphertext":"","recipients":[{{"header":{{"{fourth}":0}}}}]}}"#
-        )),
-    ]
+/// The host tests' messages by hand that are short. Some have names with one fingerprint, which chance does not make.
+fn by_hand() -> impl Iterator<Item = Call> {
+    cases::all().into_iter().map(|case| case.call).filter(|call| call.message.len() <= mutate::LONGEST)
 }
 
 fn main() {
@@ -127,7 +120,7 @@ fn main() {
     let mut mutator = Mutator::new(seed);
     let mut comparer = Comparer::new(&jwe::ours, &mut mutator.random);
     let mut corpus: Vec<Call> = messages.iter().map(|path| Call::new(std::fs::read(path).expect(path))).collect();
-    corpus.extend(colliding_messages());
+    corpus.extend(by_hand());
     let mut leading: Vec<usize> = Vec::new();
     let (mut kinds, mut numbers) = (HashSet::new(), [0u64; 20]);
     cover::watch(&blocks);

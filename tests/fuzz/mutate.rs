@@ -5,10 +5,10 @@ use crate::random::Random;
 use crate::reference::Reference;
 
 /// Messages grow no longer than this, so that many can be tried.
-const LONGEST: usize = 6_000;
+pub const LONGEST: usize = 6_000;
 
 /// What means something in a message or in a header.
-const WORDS: [&str; 98] = [
+const WORDS: [&str; 100] = [
     "protected", "unprotected", "header", "encrypted_key", "recipients", "iv", "aad", "ciphertext", "tag", "alg", "enc", "zip",
     "kid", "typ", "cty", "jku", "jwk", "x5u", "x5c", "x5t", "x5t#S256", "crit", "epk", "apu", "apv", "p2s", "p2c", "x", "exp",
     "RSA1_5", "RSA-OAEP", "RSA-OAEP-256", "A128KW", "A192KW", "A256KW", "A128GCMKW", "A192GCMKW", "A256GCMKW",
@@ -17,7 +17,7 @@ const WORDS: [&str; 98] = [
     "\"alg\":\"dir\"", "\"enc\":\"A128GCM\"", "\"crit\":[\"x\"]", "\"x\":1", "\"zip\":\"DEF\"", "\"recipients\":[{},{}]",
     "\"header\":{\"kid\":\"1\"}", "\"unprotected\":{\"alg\":\"dir\"}", "\"encrypted_key\":\"AA\"", "\"iv\":\"AA\"", "\"tag\":\"AAA\"",
     "{}", "[]", "{\"a\":0}", "[[[[[[", "]]]]]]", "\"\"", "\"", ",", ":", ".", "true", "false", "null", "0", "-1.5e+3", "1E", "-",
-    "\\u0061", "\\ud834\\udd1e", "\\ud834", "\\udd1e", "\\\"", "\\\\", "\\n", "\\/", "\u{e9}", "\u{20ac}", "\u{1d11e}", " ", "\t\r\n",
+    "\\u0061", "\\u00e9", "\\u20ac", "\\ud834\\udd1e", "\\ud834", "\\udd1e", "\\\"", "\\\\", "\\n", "\\/", "\u{e9}", "\u{20ac}", "\u{1d11e}", " ", "\t\r\n",
     "AA", "AB", "A", "\u{7f}",
 ];
 

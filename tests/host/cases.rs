@@ -330,6 +330,47 @@ impl Cases {
     }
 }
 
+impl Cases {
+    /// Escapes for code points of one to four octets, in place of a listed value and at its start, its middle and its end.
+    fn escaped_values(&mut self) {
+        let escapes = [r"\u0061", r"\u00e9", r"\u20ac", r"\ud834\udd1e", r"\n"];
+        let listed = [(15, "alg", "dir"), (15, "alg", "RSA-OAEP-256"), (15, "enc", "A128GCM"), (15, "enc", "A128CBC-HS256"), (15, "zip", "DEF")];
+        for escape in escapes {
+            for (number, name, value) in listed {
+                for at in [0, 1, 2, value.len()] {
+                    let (start, end) = value.split_at(at);
+                    let others = DIR.split(',').filter(|member| !member.contains(name)).collect::<Vec<_>>().join(",");
+                    let message = |value: &str| compact(&format!(r#"{{{others},"{name}":"{value}"}}"#));
+                    self.refused(number, &format!("{name} with {escape} at {at}"), message(&format!("{start}{escape}{end}")));
+                    self.refused(number, &format!("{name} cut at {at} by {escape}"), message(&format!("{start}{escape}")));
+                }
+            }
+            let crit = |name: &str, member: &str| compact(&format!(r#"{{{DIR},"crit":["{name}"],"{member}":0}}"#));
+            self.knowing_x(Expected::Refused(17), &format!("crit of {escape}"), crit(escape, "x"));
+            self.knowing_x(Expected::Refused(17), &format!("crit of x and {escape}"), crit(&format!("x{escape}"), "x"));
+            self.knowing_x(Expected::Accepted(0, 1, 5), &format!("crit beside {escape}"), crit(r"\u0078", &format!("{escape}\":1,\"x")));
+        }
+        for (said, escape) in [("a", r"\u0061"), ("\u{e9}", r"\u00E9"), ("\u{20ac}", r"\u20aC"), ("\u{1d11e}", r"\uD834\udd1E")] {
+            let message = |critical: &str| compact(&format!(r#"{{{DIR},"crit":[{critical}],"{said}b":0,"b{said}":0}}"#));
+            let (before, behind) = (format!("{said}b"), format!("b{said}"));
+            let (first, last) = (format!(r#""{escape}b""#), format!(r#""b{escape}""#));
+            let both = format!("{first},{last}");
+            let knowing = |names: &[&str], critical: &str| Call { known: known(names), ..Call::new(message(critical)) };
+            self.call(Expected::Accepted(0, 1, 5), &format!("crit of {escape}, known"), knowing(&["x", &before, &behind], &both));
+            self.call(Expected::Refused(17), &format!("crit of {escape}, the last not known"), knowing(&["x", &before, "b"], &both));
+            for other in ["x", "b", &before[..before.len() - 1], &format!("{before}c"), "\u{e9}b", "\u{20ad}b", "\u{1d11f}b"] {
+                let name = format!("crit of {escape} first, known {other}");
+                let expected = if *other == before { Expected::Accepted(0, 1, 5) } else { Expected::Refused(17) };
+                self.call(expected, &name, knowing(&[other], &first));
+            }
+            let twice = format!(r#"{first},"{before}""#);
+            self.call(Expected::Refused(17), &format!("crit of {escape} twice"), knowing(&[&before], &twice));
+            let twice = format!("{last},{last}");
+            self.call(Expected::Refused(17), &format!("crit of {escape} last, twice"), knowing(&[&behind], &twice));
+        }
+    }
+}
+
 pub fn all() -> Vec<Case> {
     let mut cases = Cases::default();
     cases.samples();
@@ -338,5 +379,6 @@ pub fn all() -> Vec<Case> {
     cases.compact_headers();
     cases.json();
     cases.colliding();
+    cases.escaped_values();
     cases.0
 }

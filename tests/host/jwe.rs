@@ -4,8 +4,8 @@
 //! Every call is judged by its answer and the whole of its memory: the numbers, the header, the list, the octets beside
 //! each of them, and what was lent to be read only.
 
-mod cases;
-pub mod colliding;
+pub mod cases;
+mod colliding;
 mod colliding_cases;
 mod json_cases;
 pub mod messages;
