@@ -1,0 +1,1 @@
+// The recipients that the JSON writer is given, contents first.
