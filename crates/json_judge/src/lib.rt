@@ -1,0 +1,308 @@
+// The pieces that the JSON writer is given, judged before anything is written: what the reader will say of the message that
+// they make. What is asked, and in which order, stands in json_message's specs/Inner.
+ghost use mathlib.Core.Path.{_≡_};
+ghost use mathlib.Core.Bool.{true, false};
+ghost use mathlib.Core.List.{_++_};
+ghost use Prim.Native.Nat.{_+_, _*_, _≤_};
+ghost use lib.ListN.{length};
+ghost use Rattle.prelude.specs.Any.{any};
+ghost use Rattle.prelude.specs.Limits.{levels, longest};
+ghost use Rattle.prelude.specs.Refusals.{first, stageOf};
+ghost use Rattle.names.specs.Names.{names, filled};
+ghost use Rattle.rows.specs.Tables.{headerTable, recipientTable, width};
+ghost use Rattle.rows.specs.Inner.Prints.{collectedTable};
+ghost use Rattle.headers.specs.Headers.{objectOrder};
+ghost use Rattle.recipients.specs.Parsed.{recipientsIn, saidCount, soundTable};
+ghost use Rattle.json_message.specs.Handed.{textEntries};
+ghost use Rattle.json_message.specs.WriteOrder.{unreadWithin};
+ghost use Rattle.json_message.specs.Inner.Judged.{ownLevels};
+ghost use Rattle.json_message.specs.Inner.PiecesOrder.{hollowText};
+ghost use Rattle.jwe.specs.Answers.{refusedBy};
+ghost use Rattle.json_judge.specs.Inner.Asked.{Readable, OwnReadable, OwnShort, Front, recipientsTests, parametersTests};
+ghost use Rattle.json_judge.specs.Inner.Asked.{unreadTexts, hollowTexts, overTests, withinTests};
+use jose::Sizes;
+use json::Found;
+use json::Position;
+use prelude::Stage;
+use prelude::limits::HEADER_ROOM;
+use prelude::limits::LEVELS;
+
+// 7 on a text within so many levels; an absent one is not judged.
+fn unread_within(levels: u32, text: &[u8]) -> bool
+    ensures { λ r. ⌜ r ≡ unreadWithin levels (now (text .entry)) ⌝ }
+{
+    if text.len() == 0 {
+        return false;
+    }
+    let judged = json::judge(text, levels);
+    let Found::Value(_, _) = judged else {
+        return true;
+    };
+    false
+}
+
+// 7 on the own headers.
+fn own_unread(levels: u32, recipients: &[u8], n: usize) -> bool
+    requires { ⌜ soundTable (now recipients) ≡ true ⌝ }
+    requires { ⌜ n ≡ saidCount (now recipients) ⌝ }
+    ensures { λ r. ⌜ r ≡ any (λ q. unreadWithin levels (q .header)) (recipientsIn (now (recipients .entry))) ⌝ }
+{
+    let mut start = 1 + 8 * n;
+    let mut i: usize = 0;
+    while i < n {
+        let body = recipients::recipient(recipients, i, start);
+        if unread_within(levels, parts::part(recipients, body.header.start, body.header.len)) {
+            return true;
+        }
+        start = body.key.start + body.key.len;
+        i += 1;
+    }
+    false
+}
+
+// Whether a text that reads has no member; an absent one has no such fault.
+fn hollow_text(text: &[u8]) -> bool
+    requires { ⌜ Readable (now text) ⌝ }
+    ensures { λ r. ⌜ r ≡ hollowText (now (text .entry)) ⌝ }
+{
+    if text.len() == 0 {
+        return false;
+    }
+    let first = Position { at: 0 }.skip_space(text).inside(text).at;
+    if first < text.len() {
+        return text[first] == 125;
+    }
+    false
+}
+
+// 10 on the own headers, which read.
+fn own_hollow(recipients: &[u8], n: usize) -> bool
+    requires { ⌜ soundTable (now recipients) ≡ true ⌝ }
+    requires { ⌜ n ≡ saidCount (now recipients) ⌝ }
+    requires { ⌜ OwnReadable (recipientsIn (now recipients)) ⌝ }
+    ensures { λ r. ⌜ r ≡ any (λ q. hollowText (q .header)) (recipientsIn (now (recipients .entry))) ⌝ }
+{
+    let mut start = 1 + 8 * n;
+    let mut i: usize = 0;
+    while i < n {
+        let body = recipients::recipient(recipients, i, start);
+        if hollow_text(parts::part(recipients, body.header.start, body.header.len)) {
+            return true;
+        }
+        start = body.key.start + body.key.len;
+        i += 1;
+    }
+    false
+}
+
+// 8 and 9 on a text that reads: its parameters as entries of the table from the entry `from` on, and how many they are.
+fn text_entries(text: &[u8], origin: u32, table: &mut [u32], from: usize) -> Stage
+    requires { ⌜ Readable (now text) ⌝ }
+    requires { ⌜ from * width + headerTable ≤ length (now table) ⌝ }
+    ensures { λ r. ⌜ r ≡ stageOf (first (objectOrder (now (text .entry)) (textEntries origin (now (text .entry))))) (length (textEntries origin (now (text .entry)))) ⌝ }
+    ensures { λ _. ⌜ now (table .exit) ≡ collectedTable from (now (text .entry)) (textEntries origin (now (text .entry))) (now (table .entry)) ⌝ }
+{
+    if text.len() == 0 {
+        return Stage::Passed(0);
+    }
+    let list = jose::lists::REGISTERED;
+    let at = Position { at: 0 }.skip_space(text).at;
+    headers::object(text, at, origin, &list, table, from, true)
+}
+
+// The refusal of a stage, 0 where it passed.
+fn number(stage: Stage) -> u32
+    ensures { λ r. ⌜ r ≡ refusedBy stage ⌝ }
+{
+    let Stage::Refused(n) = stage else {
+        return 0;
+    };
+    n
+}
+
+// 8 and 9 on each recipient's own header, and 12 to 18 on each recipient. The first entries of the table are all recipients'; what
+// stands behind them afterwards is free: the table is the caller's own. Each own header is collected once: while the later ones
+// are asked for 8 and 9, the first refusal of an earlier recipient waits.
+fn judge_recipients(
+    header: &[u8],
+    shared: &[u8],
+    known: &[u8],
+    recipients: &[u8],
+    n: usize,
+    sizes: Sizes,
+    table: &mut [u32],
+    front: usize,
+) -> Stage
+    requires { ⌜ filled (now known) ≡ true ⌝ }
+    requires { ⌜ soundTable (now recipients) ≡ true ⌝ }
+    requires { ⌜ n ≡ saidCount (now recipients) ⌝ }
+    requires { ⌜ OwnReadable (recipientsIn (now recipients)) ⌝ }
+    requires { ⌜ front * width + headerTable ≤ length (now table) ⌝ }
+    requires { ⌜ Front (now header) (now shared) front (now table) ⌝ }
+    ensures { λ r. ⌜ r ≡ stageOf (first (recipientsTests (names (now (known .entry))) (now (header .entry)) (now (shared .entry)) sizes (recipientsIn (now (recipients .entry))))) n ⌝ }
+    ensures { λ _. ⌜ length (now (table .exit)) ≡ length (now (table .entry)) ⌝ }
+{
+    let mut broken: u32 = 0;
+    let mut start = 1 + 8 * n;
+    let mut i: usize = 0;
+    while i < n {
+        let body = recipients::recipient(recipients, i, start);
+        let own = parts::part(recipients, body.header.start, body.header.len);
+        let collected = text_entries(own, 2, table, front);
+        let Stage::Passed(count) = collected else {
+            return collected;
+        };
+        if broken == 0 {
+            let all = Sizes {
+                key: body.key.len,
+                iv: sizes.iv,
+                ciphertext: sizes.ciphertext,
+                tag: sizes.tag,
+            };
+            broken = number(jose::judge::judge(
+                header,
+                shared,
+                own,
+                known,
+                table,
+                front + count,
+                all,
+            ));
+        }
+        start = body.key.start + body.key.len;
+        i += 1;
+    }
+    if broken != 0 {
+        return Stage::Refused(broken);
+    }
+    Stage::Passed(n)
+}
+
+// 8 and 9 on all texts, and 12 to 18 on each recipient.
+fn judge_parameters(
+    header: &[u8],
+    shared: &[u8],
+    known: &[u8],
+    recipients: &[u8],
+    n: usize,
+    sizes: Sizes,
+) -> Stage
+    requires { ⌜ filled (now known) ≡ true ⌝ }
+    requires { ⌜ soundTable (now recipients) ≡ true ⌝ }
+    requires { ⌜ n ≡ saidCount (now recipients) ⌝ }
+    requires { ⌜ length (now header) ≤ longest ⌝ }
+    requires { ⌜ Readable (now shared) ⌝ }
+    requires { ⌜ OwnReadable (recipientsIn (now recipients)) ⌝ }
+    ensures { λ r. ⌜ r ≡ stageOf (first (parametersTests (names (now (known .entry))) (now (header .entry)) (now (shared .entry)) sizes (recipientsIn (now (recipients .entry))))) n ⌝ }
+{
+    let mut table = [0u32; rows::layout::RECIPIENT_TABLE];
+    let protected = headers::protected_entries(header, &mut table);
+    let Stage::Passed(p) = protected else {
+        return protected;
+    };
+    let common = text_entries(shared, 1, &mut table, p);
+    let Stage::Passed(s) = common else {
+        return common;
+    };
+    judge_recipients(
+        header,
+        shared,
+        known,
+        recipients,
+        n,
+        sizes,
+        &mut table,
+        p + s,
+    )
+}
+
+// 7 on all texts: the shared one within `outer` levels, the own ones within `inner`.
+fn unread_texts(
+    outer: u32,
+    inner: u32,
+    header: &[u8],
+    shared: &[u8],
+    recipients: &[u8],
+    n: usize,
+) -> bool
+    requires { ⌜ soundTable (now recipients) ≡ true ⌝ }
+    requires { ⌜ n ≡ saidCount (now recipients) ⌝ }
+    ensures { λ r. ⌜ r ≡ unreadTexts outer inner (now (header .entry)) (now (shared .entry)) (recipientsIn (now (recipients .entry))) ⌝ }
+{
+    if unread_within(LEVELS, header) {
+        return true;
+    }
+    if unread_within(outer, shared) {
+        return true;
+    }
+    own_unread(inner, recipients, n)
+}
+
+// 10 on all texts, which read.
+fn hollow_texts(header: &[u8], shared: &[u8], recipients: &[u8], n: usize) -> bool
+    requires { ⌜ soundTable (now recipients) ≡ true ⌝ }
+    requires { ⌜ n ≡ saidCount (now recipients) ⌝ }
+    requires { ⌜ Readable (now header) ⌝ }
+    requires { ⌜ Readable (now shared) ⌝ }
+    requires { ⌜ OwnReadable (recipientsIn (now recipients)) ⌝ }
+    ensures { λ r. ⌜ r ≡ hollowTexts (now (header .entry)) (now (shared .entry)) (recipientsIn (now (recipients .entry))) ⌝ }
+{
+    if hollow_text(header) {
+        return true;
+    }
+    if hollow_text(shared) {
+        return true;
+    }
+    own_hollow(recipients, n)
+}
+
+// The levels that are left to an own header where it will stand.
+fn own_levels(general: bool) -> u32
+    ensures { λ r. ⌜ r ≡ ownLevels general ⌝ }
+{
+    if general { LEVELS - 3 } else { LEVELS - 1 }
+}
+
+// The pieces of a message that would be too long.
+fn judge_over(header: &[u8], shared: &[u8], recipients: &[u8], n: usize) -> Stage
+    requires { ⌜ soundTable (now recipients) ≡ true ⌝ }
+    requires { ⌜ n ≡ saidCount (now recipients) ⌝ }
+    ensures { λ r. ⌜ r ≡ stageOf (first (overTests (now (header .entry)) (now (shared .entry)) (recipientsIn (now (recipients .entry))))) n ⌝ }
+{
+    if HEADER_ROOM < header.len() {
+        return Stage::Refused(6);
+    }
+    if unread_texts(LEVELS, LEVELS, header, shared, recipients, n) {
+        return Stage::Refused(7);
+    }
+    Stage::Refused(2)
+}
+
+// The pieces of one that would not.
+fn judge_within(
+    general: bool,
+    header: &[u8],
+    shared: &[u8],
+    known: &[u8],
+    recipients: &[u8],
+    n: usize,
+    sizes: Sizes,
+) -> Stage
+    requires { ⌜ filled (now known) ≡ true ⌝ }
+    requires { ⌜ soundTable (now recipients) ≡ true ⌝ }
+    requires { ⌜ n ≡ saidCount (now recipients) ⌝ }
+    requires { ⌜ length (now shared) ≤ longest ⌝ }
+    requires { ⌜ OwnShort (recipientsIn (now recipients)) ⌝ }
+    ensures { λ r. ⌜ r ≡ stageOf (first (withinTests general (names (now (known .entry))) (now (header .entry)) (now (shared .entry)) sizes (recipientsIn (now (recipients .entry))))) n ⌝ }
+{
+    if HEADER_ROOM < header.len() {
+        return Stage::Refused(6);
+    }
+    if unread_texts(LEVELS - 1, own_levels(general), header, shared, recipients, n) {
+        return Stage::Refused(7);
+    }
+    if hollow_texts(header, shared, recipients, n) {
+        return Stage::Refused(10);
+    }
+    judge_parameters(header, shared, known, recipients, n, sizes)
+}
