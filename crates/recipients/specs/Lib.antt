@@ -1,1 +1,3 @@
+-- The table of recipients as it is put together, and as it is read.
 pub mod Table
+pub mod Parsed
