@@ -92,7 +92,7 @@ module _ {A B : Type 0} (R : A → B → Type 0) where
       let no = none-of (u x) (any u xs) n in
       ap₂ _||_ (e x y (z .0) (no .0)) (any-beside-where u f g e xs ys (z .1) (no .1))
 
-  pair-beside : (f : A → A → Bool) (g : B → B → Bool) →
+  pub pair-beside : (f : A → A → Bool) (g : B → B → Bool) →
       ((x x′ : A) (y y′ : B) → R x y → R x′ y′ → f x x′ ≡ g y y′) → (xs : List A) (ys : List B) →
       Beside R xs ys → anyPair f xs ≡ anyPair g ys
   unfolding anyPair
@@ -161,7 +161,7 @@ module _ (ts us : Texts) (es fs : List Entry) (z : Beside (Alike ts us) es fs) w
   unfolding present
   present-same n = any-beside (Alike ts us) (numbered n) (numbered n) (numbered-same n) es fs z
 
-  repeated-same : (across : Bool) → repeated across ts es ≡ repeated across us fs
+  pub repeated-same : (across : Bool) → repeated across ts es ≡ repeated across us fs
   unfolding repeated
   repeated-same across =
       pair-beside (Alike ts us) (same across ts) (same across us)

@@ -1,0 +1,15 @@
+pub mod Fields
+pub mod Readable
+pub mod Moving
+pub mod Hollow
+pub mod Trimmed
+pub mod Agree
+pub mod Parameters
+pub mod FieldEntries
+pub mod Located
+pub mod Names
+pub mod Own
+pub mod Elements
+pub mod Top
+pub mod Unread
+pub mod Stages
