@@ -13,3 +13,8 @@ pub mod Elements
 pub mod Top
 pub mod Unread
 pub mod Stages
+pub mod Judging
+pub mod Handing
+pub mod Asking
+pub mod Lengths
+pub mod Theorems

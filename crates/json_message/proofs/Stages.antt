@@ -153,7 +153,7 @@ module _ (general : Bool) (c : RawMessage) (o : MessageOctets c) (j : TextsJudge
   pub S : ℕ
   S = shared-at general c o j .from
 
-  shared-stands : StandsIf W S (c .shared)
+  pub shared-stands : StandsIf W S (c .shared)
   unfolding S
   shared-stands = shared-at general c o j .stands
 
