@@ -1,23 +1,24 @@
 -- The rules on a recipient's parameters depend only on what each entry shows: its origin, its number, its kind, the octets of its
--- name and of its value, and of `crit` the octets of its elements; and on the sizes.
+-- name and of its value, and of a protected `crit` the octets of its elements; and on the sizes. Outside protection the elements of
+-- `crit` do not matter: 16 refuses it before 17 asks them.
 use mathlib.Core.Path.{_≡_, refl, ap, ap₂, sym, _∙_}
-use mathlib.Core.Bool.{Bool, true, false, not, _&&_, _||_, cond}
-use mathlib.Core.List.{List, [], _∷_, map}
+use mathlib.Core.Bool.{Bool, true, false, not, _&&_, _||_, cond, true≢false}
+use mathlib.Core.List.{List, [], _∷_, _++_, map}
 use Prim.Native.Nat.{ℕ}
 use lib.Dec.{eqb}
-use borrow.Author.Tests.{eqb-true}
+use borrow.Author.Tests.{eqb-true, not-false}
 use Rattle.names.specs.Names.{numberIn}
 use Rattle.grammar.specs.Places.{Element}
 use Rattle.grammar.specs.Reader.{elementsAt}
 use Rattle.grammar.specs.Spellings.{alike}
 use Rattle.prelude.specs.Any.{any, anyPair}
-use Rattle.prelude.specs.Refusals.{Test, _if_}
+use Rattle.prelude.specs.Refusals.{Test, _if_, first}
 use Rattle.rows.specs.Rows.{Entry, Texts, textOf, nameIn, valueIn, nameSays, numbered, present, apart, same, repeated}
 use Rattle.algorithms.specs.Algorithms.{algs, algNames, encNames, zipNames, nth, modeOf}
 use Rattle.jose.specs.Registered.{registered, alg, enc, zip, crit, string, anyKind, kindAsked}
 use Rattle.jose.specs.HeaderRules.{levels, incomplete, wrongKind, unlisted, unprotected, spelledElement, unknown}
 use Rattle.jose.specs.HeaderRules.{sameElement, misplaced, isEmpty, wrongCrit, critical, wrongKey, modeIn, breaks}
-use Rattle.jose.specs.HeaderRules.{testsOf, rulesOrder}
+use Rattle.jose.specs.HeaderRules.{testsOf, rulesOrder, recipientRules, recipientOrder}
 use Rattle.jose.specs.declared.Sizes.{Sizes}
 
 -- What an element shows: its kind, and what stands between its first and its last octet.
@@ -40,7 +41,7 @@ pub record Alike (ts us : Texts) (e f : Entry) : Type 0 where
   pub kind : e .member .kind ≡ f .member .kind
   pub name : nameIn ts e ≡ nameIn us f
   pub value : valueIn ts e ≡ valueIn us f
-  pub elements : e .number ≡ crit → elementsShown ts e ≡ elementsShown us f
+  pub elements : e .number ≡ crit → e .origin ≡ 0 → elementsShown ts e ≡ elementsShown us f
 
 -- Two lists of which each of one is in a relation to that of the other.
 abbrev pub Beside : {A B : Type 0} → (A → B → Type 0) → List A → List B → Type 0
@@ -67,6 +68,10 @@ unfolding anyPair
 pair-made h f [] = refl
 pair-made h f (x ∷ xs) = ap₂ _||_ (any-made h (f (h x)) xs) (pair-made h f xs)
 
+none-of : (a b : Bool) → (a || b) ≡ false → (a ≡ false) × (b ≡ false)
+none-of true b e = absurd (true≢false e)
+none-of false b e = (refl, e)
+
 module _ {A B : Type 0} (R : A → B → Type 0) where
   any-beside : (f : A → Bool) (g : B → Bool) → ((x : A) (y : B) → R x y → f x ≡ g y) → (xs : List A) (ys : List B) →
       Beside R xs ys → any f xs ≡ any g ys
@@ -76,7 +81,18 @@ module _ {A B : Type 0} (R : A → B → Type 0) where
   any-beside f g e (x ∷ xs) [] z = absurd z
   any-beside f g e (x ∷ xs) (y ∷ ys) z = ap₂ _||_ (e x y (z .0)) (any-beside f g e xs ys (z .1))
 
-  pair-beside : (f : A → A → Bool) (g : B → B → Bool) →
+  -- Where a third question is answered by no of all.
+  any-beside-where : (u f : A → Bool) (g : B → Bool) → ((x : A) (y : B) → R x y → u x ≡ false → f x ≡ g y) →
+      (xs : List A) (ys : List B) → Beside R xs ys → any u xs ≡ false → any f xs ≡ any g ys
+  unfolding any
+  any-beside-where u f g e [] [] z n = refl
+  any-beside-where u f g e [] (y ∷ ys) z n = absurd z
+  any-beside-where u f g e (x ∷ xs) [] z n = absurd z
+  any-beside-where u f g e (x ∷ xs) (y ∷ ys) z n =
+      let no = none-of (u x) (any u xs) n in
+      ap₂ _||_ (e x y (z .0) (no .0)) (any-beside-where u f g e xs ys (z .1) (no .1))
+
+  pub pair-beside : (f : A → A → Bool) (g : B → B → Bool) →
       ((x x′ : A) (y y′ : B) → R x y → R x′ y′ → f x x′ ≡ g y y′) → (xs : List A) (ys : List B) →
       Beside R xs ys → anyPair f xs ≡ anyPair g ys
   unfolding anyPair
@@ -129,6 +145,12 @@ wrong-named known f g e ys =
     (any-same (misplacedShown f) (misplacedShown g)
     (λ y. ap (λ (b : Bool). not (eqb (numberIn registered (y .spelled)) 0) || not b) (e (y .spelled))) ys)
 
+-- A `crit` that 16 does not refuse is protected.
+protected-crit : (a b z : Bool) → b ≡ true → ((a || b) && not z) ≡ false → z ≡ true
+protected-crit true b z n e = not-false z e
+protected-crit false true z n e = not-false z e
+protected-crit false false z n e = absurd (true≢false (sym n))
+
 -- The rules
 
 module _ (ts us : Texts) (es fs : List Entry) (z : Beside (Alike ts us) es fs) where
@@ -139,7 +161,7 @@ module _ (ts us : Texts) (es fs : List Entry) (z : Beside (Alike ts us) es fs) w
   unfolding present
   present-same n = any-beside (Alike ts us) (numbered n) (numbered n) (numbered-same n) es fs z
 
-  repeated-same : (across : Bool) → repeated across ts es ≡ repeated across us fs
+  pub repeated-same : (across : Bool) → repeated across ts es ≡ repeated across us fs
   unfolding repeated
   repeated-same across =
       pair-beside (Alike ts us) (same across ts) (same across us)
@@ -187,15 +209,17 @@ module _ (ts us : Texts) (es fs : List Entry) (z : Beside (Alike ts us) es fs) w
         ∙ ap (wrongShown known (λ w. any (nameSays us w) fs)) same
         ∙ sym (wrong-shown known us fs t (elementsAt levels t (f .member .valueStart)))
 
-    critical-one : (e f : Entry) → Alike ts us e f → critical known ts es e ≡ critical known us fs f
-    critical-one e f r = cases (numbered crit e) refl (numbered-same crit e f r)
+    critical-one : (e f : Entry) → Alike ts us e f → unprotected e ≡ false → critical known ts es e ≡ critical known us fs f
+    critical-one e f r guarded = cases (numbered crit e) refl (numbered-same crit e f r)
       where
         cases : (b : Bool) → numbered crit e ≡ b → numbered crit e ≡ numbered crit f →
             (numbered crit e && wrongCrit known ts es (textOf ts (e .origin))
             (elementsAt levels (textOf ts (e .origin)) (e .member .valueStart)))
             ≡ (numbered crit f && wrongCrit known us fs (textOf us (f .origin))
             (elementsAt levels (textOf us (f .origin)) (f .member .valueStart)))
-        cases true is both = ap₂ _&&_ both (crit-same e f (r .elements (eqb-true (e .number) crit is)))
+        cases true is both =
+            let inside = protected-crit (numbered zip e) (numbered crit e) (eqb (e .origin) 0) is guarded in
+            ap₂ _&&_ both (crit-same e f (r .elements (eqb-true (e .number) crit is) (eqb-true (e .origin) 0 inside)))
         cases false is both =
             neither
             (wrongCrit known ts es (textOf ts (e .origin))
@@ -204,19 +228,30 @@ module _ (ts us : Texts) (es fs : List Entry) (z : Beside (Alike ts us) es fs) w
             (elementsAt levels (textOf us (f .origin)) (f .member .valueStart)))
             is (sym both ∙ is)
 
-    critical-same : any (critical known ts es) es ≡ any (critical known us fs) fs
-    critical-same = any-beside (Alike ts us) (critical known ts es) (critical known us fs) critical-one es fs z
+    critical-same : any unprotected es ≡ false → any (critical known ts es) es ≡ any (critical known us fs) fs
+    critical-same =
+        any-beside-where (Alike ts us) unprotected (critical known ts es) (critical known us fs) critical-one es fs z
 
-    breaks-same : (badKey : Bool) (n : ℕ) → breaks known ts es badKey n ≡ breaks known us fs badKey n
-    breaks-same badKey n =
-        rw (repeated-same true, incomplete-same, kinds-same, listed-same, protected-same, critical-same)
+    breaks-same : any unprotected es ≡ false → (badKey : Bool) (n : ℕ) →
+        breaks known ts es badKey n ≡ breaks known us fs badKey n
+    breaks-same guarded badKey n =
+        rw (repeated-same true, incomplete-same, kinds-same, listed-same, protected-same, critical-same guarded)
 
-    tests-same : (badKey : Bool) (rules : List ℕ) → testsOf known ts es badKey rules ≡ testsOf known us fs badKey rules
-    tests-same badKey [] = refl
-    tests-same badKey (n ∷ rules) =
-        ap₂ (λ (b : Bool) (l : List Test). n if b ∷ l) (breaks-same badKey n) (tests-same badKey rules)
+    tests-same : any unprotected es ≡ false → (badKey : Bool) (rules : List ℕ) →
+        testsOf known ts es badKey rules ≡ testsOf known us fs badKey rules
+    tests-same guarded badKey [] = refl
+    tests-same guarded badKey (n ∷ rules) =
+        ap₂ (λ (b : Bool) (l : List Test). n if b ∷ l) (breaks-same guarded badKey n) (tests-same guarded badKey rules)
 
--- The mode, and the tests of any list of rules.
+    -- Where 16 fails, nothing behind it is asked.
+    sixteen-stops : any unprotected es ≡ true → (sizes : Sizes) (behind : List Test) →
+        first (recipientOrder known ts es sizes ++ behind) ≡ first (recipientOrder known us fs sizes ++ behind)
+    unfolding first recipientOrder
+    sixteen-stops bare sizes behind =
+        let there : any unprotected fs ≡ true = sym protected-same ∙ bare in
+        rw (repeated-same true, incomplete-same, kinds-same, listed-same, bare, there)
+
+-- The mode, the tests of any list of rules where 16 does not fail, and the refusal of a recipient, whatever is asked behind.
 
 pub mode-same : (ts us : Texts) (es fs : List Entry) → Beside (Alike ts us) es fs → modeIn ts es ≡ modeIn us fs
 unfolding modeIn
@@ -228,7 +263,20 @@ mode-same ts us (e ∷ es) (f ∷ fs) z =
     rw (z .0 .number, z .0 .value, later)
 
 pub rules-same : (known : List (List ℕ)) (ts us : Texts) (es fs : List Entry) (sizes : Sizes) →
-    Beside (Alike ts us) es fs → (rules : List ℕ) → rulesOrder known ts es sizes rules ≡ rulesOrder known us fs sizes rules
-rules-same known ts us es fs sizes z rules =
+    Beside (Alike ts us) es fs → any unprotected es ≡ false → (rules : List ℕ) →
+    rulesOrder known ts es sizes rules ≡ rulesOrder known us fs sizes rules
+rules-same known ts us es fs sizes z guarded rules =
     ap (λ (m : ℕ). testsOf known ts es (wrongKey m sizes) rules) (mode-same ts us es fs z)
-    ∙ tests-same ts us es fs z known (wrongKey (modeIn us fs) sizes) rules
+    ∙ tests-same ts us es fs z known guarded (wrongKey (modeIn us fs) sizes) rules
+
+pub order-same : (known : List (List ℕ)) (ts us : Texts) (es fs : List Entry) (sizes : Sizes) →
+    Beside (Alike ts us) es fs → (behind : List Test) →
+    first (recipientOrder known ts es sizes ++ behind) ≡ first (recipientOrder known us fs sizes ++ behind)
+unfolding recipientOrder
+order-same known ts us es fs sizes z behind = cases (any unprotected es) refl
+  where
+    cases : (b : Bool) → any unprotected es ≡ b →
+        first (recipientOrder known ts es sizes ++ behind) ≡ first (recipientOrder known us fs sizes ++ behind)
+    cases true bare = sixteen-stops ts us es fs z known bare sizes behind
+    cases false guarded =
+        ap (λ (tests : List Test). first (tests ++ behind)) (rules-same known ts us es fs sizes z guarded recipientRules)

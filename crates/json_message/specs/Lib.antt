@@ -1,1 +1,5 @@
+-- The JSON serialization as it is written, the writer's refusals, and what the reader hands out of it.
 pub mod JsonText
+pub mod WriteOrder
+pub mod Handed
+pub mod Inner

@@ -49,7 +49,7 @@ module _ (header : List ℕ) where
       Beside (Alike (readTexts header message) (oneText header)) (map entry ms) (map entry ms)
   shows-same message [] = tt
   shows-same message (m ∷ ms) = (
-    record { origin = refl; number = refl; kind = refl; name = refl; value = refl; elements = λ c. refl },
+    record { origin = refl; number = refl; kind = refl; name = refl; value = refl; elements = λ c o. refl },
     shows-same message ms,
   )
 
@@ -62,5 +62,6 @@ header-rules known header message sizes =
     let ms = outermost header in
     let es = map (entryOf registered header 0) ms in
     ap first
-    (rules-same known (readTexts header message) (oneText header) es es sizes (shows-same header message ms) recipientRules)
+    (rules-same known (readTexts header message) (oneText header) es es sizes (shows-same header message ms)
+    (all-protected header ms) recipientRules)
     ∙ rw (no-repeat header ms, all-protected header ms)

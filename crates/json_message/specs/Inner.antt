@@ -1,0 +1,4 @@
+-- What only inner contracts cite: nothing that has to be believed imports these (.ci/believed).
+pub mod Judged
+pub mod PiecesOrder
+pub mod AskedOrder
