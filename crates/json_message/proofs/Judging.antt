@@ -16,7 +16,7 @@ use Rattle.json_message.specs.JsonText.{RawMessage, jsonText}
 use Rattle.json_message.specs.Handed.{MessageOctets}
 use Rattle.json_message.specs.Inner.Judged.{sharedLevels, TextsJudged}
 use Rattle.json_message.specs.Inner.PiecesOrder.{unreadInside, piecesOrder}
-use Rattle.json_message.proofs.Fields.{topFields, json-text}
+use Rattle.json_message.proofs.Tables.{topFields, json-text}
 use Rattle.json_message.proofs.Readable.{Counts, top-deepest, json-reads}
 use Rattle.json_message.proofs.Agree.{Agree}
 use Rattle.json_message.proofs.Unread.{reads-iff, inside-iff}

@@ -32,7 +32,7 @@ use Rattle.json_message.specs.Handed.{MessageOctets, JsonHanded}
 use Rattle.json_message.specs.Inner.Judged.{sharedLevels, ownLevels, TextsJudged}
 use Rattle.json_message.specs.Inner.PiecesOrder.{piecesOrder}
 use Rattle.json_message.specs.Inner.AskedOrder.{askedOrder}
-use Rattle.json_message.proofs.Fields.{json-text}
+use Rattle.json_message.proofs.Tables.{json-text}
 use Rattle.json_message.proofs.Readable as Readable
 use Rattle.json_message.proofs.Readable.{counted}
 use Rattle.json_message.proofs.Agree.{Agree, agreed}
