@@ -1,7 +1,7 @@
 -- The recipients of a written message: the elements of `recipients`, each an object of what a recipient has of its own.
 use mathlib.Core.Path.{_≡_, refl, sym, ap, ap₂, subst, _∙_}
 use mathlib.Core.List.{List, [], _∷_, _++_, map, flatMap}
-use mathlib.Core.Bool.{Bool, true, false, not, _||_}
+use mathlib.Core.Bool.{false, not, _||_}
 use Prim.Native.Nat.{ℕ, suc, _+_, _≤_}
 use native.Mathlib.Omega.{arith}
 use native.Mathlib.Nat.{add-zero}
@@ -184,7 +184,8 @@ module _ (s : List ℕ) where
       (agree-any 10 (λ r. hollowText (r .header)) rs)
 
   -- 10 and 11 on `recipients` itself.
-  pub elements-objects : (xs : List places.Element) (rs : List RawRecipient) → Beside (ElementIs s) xs rs → any noObject xs ≡ false
+  pub elements-objects : (xs : List places.Element) (rs : List RawRecipient) → Beside (ElementIs s) xs rs →
+      any noObject xs ≡ false
   unfolding any
   elements-objects [] [] z = refl
   elements-objects [] (r ∷ rs) z = absurd z

@@ -24,7 +24,8 @@ character-plain v h = below (λ n. isPlain (character n)) 64 tt v h
 characters-plain : (vs : List ℕ) → AllBelow 64 vs → T (plain (map character vs))
 unfolding plain
 characters-plain [] h = tt
-characters-plain (v ∷ vs) h = both (isPlain (character v)) (plain (map character vs)) (character-plain v (h .0)) (characters-plain vs (h .1))
+characters-plain (v ∷ vs) h =
+    both (isPlain (character v)) (plain (map character vs)) (character-plain v (h .0)) (characters-plain vs (h .1))
 
 pub encoded-plain : (xs : List ℕ) → AllBelow 256 xs → T (plain (encoded xs))
 unfolding encoded

@@ -1,5 +1,5 @@
 -- What the reader hands out of a written message that passes, for each of its recipients.
-use mathlib.Core.Path.{_≡_, ap, ap₂, _∙_}
+use mathlib.Core.Path.{ap, ap₂, _∙_}
 use mathlib.Core.List.{List, [], _∷_, _++_}
 use mathlib.Core.Bool.{Bool, cond}
 use Prim.Native.Nat.{ℕ, zero, suc, _≤_, _<_}
@@ -12,7 +12,7 @@ use Rattle.headers.specs.Components.{octetsAt, flattenedForm, generalForm}
 use Rattle.headers.specs.Headers.{protectedEntries}
 use Rattle.shape.specs.Shape as shape
 use Rattle.shape.specs.Shape.{component}
-use Rattle.shape.specs.Recipients.{topEntries, recipientsIn, componentsIn}
+use Rattle.shape.specs.Recipients.{componentsIn}
 use Rattle.jwe.specs.General.{parameters}
 use Rattle.jwe.specs.Judge.{asked}
 use Rattle.jwe.specs.Inner.Outcomes.{outcomeOf, jsonOutcome}

@@ -76,6 +76,8 @@ module _ (general : Bool) (c : RawMessage) (o : MessageOctets c) (j : TextsJudge
     where
       cases : (b : Bool) → unreadInside general c ≡ b → deepestField (topFields general c o j) ≤ sharedLevels
       cases true e =
-          absurd (omega (arith,
-          sym (seven-pieces general known c [] e) ∙ ap first (append-nil (piecesOrder general known c)) ∙ passes))
+          absurd (omega (
+            arith,
+            sym (seven-pieces general known c [] e) ∙ ap first (append-nil (piecesOrder general known c)) ∙ passes,
+          ))
       cases false e = top-deepest general c o j k .1 (inside-iff general c .0 e)

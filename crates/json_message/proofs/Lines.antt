@@ -1,10 +1,10 @@
--- The members that an object may be written with as a table, one line each: its name, its number and what it holds. What is shown of a
--- table here is shown by its lines: the texts of its members, its levels, and which members are there.
+-- The members that an object may be written with as a table, one line each: its name, its number and what it holds. What is
+-- shown of a table here is shown by its lines: the texts of its members, its levels, and which members are there.
 use mathlib.Core.Path.{_≡_, refl, sym, ap, ap₂, _∙_}
 use mathlib.Core.List.{List, [], _∷_, _++_, map, map-append, append-assoc}
 use mathlib.Core.Bool.{Bool, true, false, _&&_, _||_}
 use mathlib.Core.Logic.{_↔_}
-use Prim.Native.Nat.{ℕ, suc, max, _+_, _≤_}
+use Prim.Native.Nat.{ℕ, suc, max, _≤_}
 use native.Mathlib.Omega.{arith}
 use lib.Dec.{T, eqb}
 use Rattle.prelude.specs.Any.{any}
@@ -12,7 +12,6 @@ use Rattle.prelude.specs.Buffer.{AllBelow}
 use Rattle.prelude.specs.Limits.{levels}
 use Rattle.base64url.specs.Base64url.{encoded}
 use Rattle.grammar.specs.Bounds.{Every}
-use Rattle.grammar.specs.Places as places
 use Rattle.names.specs.Names.{numberIn}
 use Rattle.shape.specs.Shape as shape
 use Rattle.shape.specs.Shape.{memberNames}
@@ -23,13 +22,14 @@ use Rattle.json_text.proofs.Fields.{arrayText}
 use Rattle.json_message.specs.JsonText.{headerMember, componentMember}
 use Rattle.json_message.specs.Inner.Judged.{Judged}
 use Rattle.json_message.specs.Inner.PiecesOrder.{hollowText}
-use Rattle.json_message.proofs.Fields.{encoded-plain, stringField, componentFields, headerFields, component-texts, header-texts}
+use Rattle.json_message.proofs.Fields.{encoded-plain, stringField, componentFields, headerFields, component-texts}
+use Rattle.json_message.proofs.Fields.{header-texts}
 use Rattle.json_message.proofs.FieldEntries.{hasNumber, any-append, or-false}
 use Rattle.json_message.proofs.Located.{isComponent}
 use Rattle.json_message.proofs.Names.{Known, Sub, none, keep, skip, nameOf}
 
--- What a member holds: a component, left out where it is empty; the ciphertext, which never is; a header's text, left out where it is
--- absent; an array.
+-- What a member holds: a component, left out where it is empty; the ciphertext, which never is; a header's text, left out
+-- where it is absent; an array.
 pub data Content : Type 0 where
   aComponent : (xs : List ℕ) → AllBelow 256 xs → Content
   aCiphertext : (xs : List ℕ) → AllBelow 256 xs → Content
@@ -135,8 +135,7 @@ table-deepest n [] = ((λ h. tt), (λ h. omega arith))
 table-deepest n (l ∷ ls) =
     let e = deepest-append (lineFields l) (tableFields ls) in
     let x = content-deepest n (l .name) (l .known .plainly) (l .content) in
-    let y = table-deepest n ls in
-    (
+    let y = table-deepest n ls in (
       (λ h. (x .0 (omega arith), y .0 (omega arith))),
       (λ h. let a = x .1 (h .0) in let b = y .1 (h .1) in omega arith),
     )
@@ -190,7 +189,8 @@ sameNumber l q = eqb (q .number) (l .number)
 pub line-without : (k : ℕ) (l : Line) → eqb (l .number) k ≡ false → any (hasNumber k) (lineFields l) ≡ false
 line-without k l e = line-has k l ∙ ap (λ b. b && there (l .content)) e
 
-pub table-without : (k : ℕ) (ls : List Line) → any (λ q. eqb (q .number) k) ls ≡ false → any (hasNumber k) (tableFields ls) ≡ false
+pub table-without : (k : ℕ) (ls : List Line) → any (λ q. eqb (q .number) k) ls ≡ false →
+    any (hasNumber k) (tableFields ls) ≡ false
 unfolding any tableFields
 table-without k [] e = refl
 table-without k (l ∷ ls) e =

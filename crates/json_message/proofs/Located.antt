@@ -1,5 +1,5 @@
--- Where the components and the headers of a written object stand, by their numbers, and that it keeps the rules on its shape but for
--- headers without a member.
+-- Where the components and the headers of a written object stand, by their numbers, and that it keeps the rules on its shape
+-- but for headers without a member.
 use mathlib.Core.Path.{_≡_, refl, sym, ap, ap₂, subst, _∙_}
 use mathlib.Core.List.{List, [], _∷_, _++_, append-assoc}
 use mathlib.Core.Bool.{Bool, true, false, not, _&&_, _||_, cond, true≢false}
@@ -281,7 +281,8 @@ module _ (name : List ℕ) (p : T (plain name)) where
         }
 
     -- It is wrong exactly where it has no member.
-    pub header-right : eqb k 0 ≡ false → (eqb k 2 || eqb k 3) ≡ true → (w : List ℕ) (r : Judged levels w) → FieldsStand s n (headerFields name p w r) →
+    pub header-right : eqb k 0 ≡ false → (eqb k 2 || eqb k 3) ≡ true → (w : List ℕ) (r : Judged levels w) →
+        FieldsStand s n (headerFields name p w r) →
         any (wrongMember s) (entriesFrom n (headerFields name p w r)) ≡ hollowText w
     unfolding any headerFields entriesFrom FieldsStand wrongMember
     header-right z c [] r h = refl

@@ -1,8 +1,8 @@
--- The names that are written: plain characters, each with its number; and refusals 8 and 9 on an object with some of a few names that
--- say different things.
+-- The names that are written: plain characters, each with its number; and refusals 8 and 9 on an object with some of a few
+-- names that say different things.
 use mathlib.Core.Path.{_≡_, refl, ap, ap₂, _∙_}
 use mathlib.Core.List.{List, [], _∷_, map}
-use mathlib.Core.Bool.{Bool, true, false, _&&_, _||_}
+use mathlib.Core.Bool.{Bool, false, _&&_, _||_}
 use Prim.Native.Nat.{ℕ, suc, _≤_}
 use native.Mathlib.Omega.{arith}
 use lib.ListN.{length}

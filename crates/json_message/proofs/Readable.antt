@@ -1,5 +1,5 @@
 -- A written message reads exactly where the given texts read within the levels that are left to them where they stand.
-use mathlib.Core.Path.{_≡_, sym, subst}
+use mathlib.Core.Path.{sym, subst}
 use mathlib.Core.List.{List, [], _∷_, _++_}
 use mathlib.Core.Bool.{Bool, true, false}
 use mathlib.Core.Logic.{_↔_}
@@ -64,8 +64,7 @@ elements-within n (r ∷ rs) o j =
     let e = object-levels (ownFields r (o .0) (j .0)) in
     let m = table-deepest n (ownLines r (o .0) (j .0)) in
     let t = own-within n r (o .0) (j .0) in
-    let k = elements-within n rs (o .1) (j .1) in
-    (
+    let k = elements-within n rs (o .1) (j .1) in (
       (λ h. (t .0 (m .0 (omega arith)), k .0 (omega arith))),
       (λ h. let a = m .1 (t .1 (h .0)) in let b = k .1 (h .1) in omega arith),
     )
@@ -86,7 +85,8 @@ last-within : (n : ℕ) (c : RawMessage) (o : MessageOctets c) → LinesWithin n
 unfolding lastLines
 last-within n c o = (tt, (tt, (tt, (tt, tt))))
 
-module _ (general : Bool) (c : RawMessage) (o : MessageOctets c) (j : TextsJudged levels levels c) (n : Counts general (c .recipients)) where
+module _ (general : Bool) (c : RawMessage) (o : MessageOctets c) (j : TextsJudged levels levels c)
+    (n : Counts general (c .recipients)) where
   abbrev R : List Line
   R = recipientLines general (c .recipients) (o .keys) (j .own)
 
@@ -97,8 +97,8 @@ module _ (general : Bool) (c : RawMessage) (o : MessageOctets c) (j : TextsJudge
       let r = recipients-within general (c .recipients) (o .keys) (j .own) n in
       let P : Line → Type 0 = λ l. Within sharedLevels (l .content) in (
         (λ k.
-        let h = m .0 k in
-        record { shared = h .1 .0; own = r .0 (every-front P R (lastLines c o) (h .1 .1)) }),
+            let h = m .0 k in
+            record { shared = h .1 .0; own = r .0 (every-front P R (lastLines c o) (h .1 .1)) }),
         (λ k. m .1 (tt, (k .shared, every-append P R (lastLines c o) (r .1 (k .own)) (last-within sharedLevels c o)))),
       )
 

@@ -29,7 +29,7 @@ use Rattle.headers.specs.Headers.{headerText, unread, textOrder, outermost, pro
 use Rattle.headers.specs.Headers.{objectOrder}
 use Rattle.shape.specs.Shape as shape
 use Rattle.shape.specs.Shape.{component, wrongTop, wrongElements}
-use Rattle.shape.specs.Recipients.{Top, topOf, topEntries, topOrder, elementsIn, elementOrder, elementsOrder, recipientsIn}
+use Rattle.shape.specs.Recipients.{topOf, topEntries, topOrder, elementsIn, elementOrder, elementsOrder, recipientsIn}
 use Rattle.shape.specs.Recipients.{componentsIn}
 use Rattle.jwe.specs.General.{sharedEntries, ownEntries, parameters, allPlaces, anyMisspelled, isHollow, protectedOrder}
 use Rattle.jwe.specs.General.{headersOrder, recipientsOrder, jsonSpelled, jsonLater, jsonOrder}
@@ -38,7 +38,7 @@ use Rattle.json_text.proofs.Made.{deepestField}
 use Rattle.json_message.specs.JsonText.{RawMessage}
 use Rattle.json_message.specs.Handed.{MessageOctets, textEntries, movedEntry, memberLists}
 use Rattle.json_message.specs.Inner.Judged.{Judged, sharedLevels, TextsJudged}
-use Rattle.json_message.specs.Inner.PiecesOrder.{unreadInside, hollowText, hollowInside, protectedTests, piecesEntries}
+use Rattle.json_message.specs.Inner.PiecesOrder.{unreadInside, hollowText, hollowInside, protectedTests}
 use Rattle.json_message.specs.Inner.PiecesOrder.{rawSizes, objectsOrder, rulesOf, parametersOrder, piecesOrder}
 use Rattle.json_message.proofs.Readable.{Counts}
 use Rattle.json_message.proofs.Agree.{Agree, agree-refl, agree-same, agree-trans, agree-append, agree-before, agree-pass}
@@ -46,7 +46,7 @@ use Rattle.json_message.proofs.Agree.{agree-test, agree-each, agree-or}
 use Rattle.json_message.proofs.Moving.{header-moved}
 use Rattle.json_message.proofs.FieldEntries.{or-none}
 use Rattle.json_message.proofs.Parameters.{StandsIf, order-moved, recipient-pieces}
-use Rattle.json_message.proofs.Located.{ComponentAt, startIf}
+use Rattle.json_message.proofs.Located.{startIf}
 use Rattle.json_message.proofs.Tables.{topFields}
 use Rattle.json_message.proofs.Lines.{isThere}
 use Rattle.json_message.proofs.Elements.{RecipientIs, recipients-are, ElementIs, elements-agree, elements-objects}

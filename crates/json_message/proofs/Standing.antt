@@ -1,32 +1,31 @@
--- A table of members where its object stands in a message: each line's member is found by its number, since no two lines have the same,
--- and what is wrong with the object's shape is a header without a member.
+-- A table of members where its object stands in a message: each line's member is found by its number, since no two lines have
+-- the same, and what is wrong with the object's shape is a header without a member.
 use mathlib.Core.Path.{_≡_, refl, sym, ap, ap₂, _∙_}
-use mathlib.Core.List.{List, [], _∷_, _++_, map}
+use mathlib.Core.List.{List, [], _∷_, _++_}
 use mathlib.Core.Bool.{Bool, true, false, not, _&&_, _||_, cond, true≢false}
 use Prim.Native.Nat.{ℕ, _+_}
-use native.Mathlib.Omega.{arith}
 use native.Mathlib.Nat.{add-zero}
 use lib.Dec.{T, eqb}
-use borrow.Author.Tests.{eq-eqb, ne-eqb, eqb-true}
+use borrow.Author.Tests.{eq-eqb, ne-eqb}
 use Rattle.prelude.specs.Any.{any, anyPair}
 use Rattle.prelude.specs.Buffer.{AllBelow}
 use Rattle.grammar.specs.Bounds.{Every}
 use Rattle.grammar.specs.Places.{Place, placed, startOf, kindOf}
-use Rattle.grammar.specs.Spellings.{alike}
 use Rattle.names.specs.Names.{numberIn}
 use Rattle.rows.specs.Rows.{valueOf, numbered}
 use Rattle.shape.specs.Shape as shape
 use Rattle.shape.specs.Shape.{memberNames, wrongMember, wrongHeader, wrongComponent, wrongInElement}
 use Rattle.json_text.proofs.Embedded.{Stands}
 use Rattle.json_text.proofs.Made.{plain, given, Field, Element, array}
-use Rattle.json_text.proofs.Fields.{arrayText, array-placed, valueFrom, behindField, FieldsStand}
+use Rattle.json_text.proofs.Fields.{arrayText, array-placed, valueFrom, FieldsStand}
 use Rattle.json_message.proofs.Fields.{stringField, componentFields, headerFields}
-use Rattle.json_message.proofs.FieldEntries.{numberOf, entryFrom, entriesFrom, past, entries-append, stand-front, stand-past}
-use Rattle.json_message.proofs.FieldEntries.{hasNumber, any-append, or-false, or-none, value-past, value-here}
+use Rattle.json_message.proofs.FieldEntries.{numberOf, entryFrom, entriesFrom, past, entries-append, stand-front}
+use Rattle.json_message.proofs.FieldEntries.{stand-past}
+use Rattle.json_message.proofs.FieldEntries.{hasNumber, any-append, or-false, value-past, value-here}
 use Rattle.json_message.proofs.Located.{ComponentAt, component-past, component-here, component-right, string-here}
 use Rattle.json_message.proofs.Located.{string-right, HeaderAt, header-past, header-here, header-right}
-use Rattle.json_message.proofs.Names.{Known}
-use Rattle.json_message.proofs.Lines.{Content, aComponent, aCiphertext, aHeader, anArray, Suits, Line, contentFields, lineFields}
+use Rattle.json_message.proofs.Lines.{Content, aComponent, aCiphertext, aHeader, anArray, Suits, Line, contentFields}
+use Rattle.json_message.proofs.Lines.{lineFields}
 use Rattle.json_message.proofs.Lines.{tableFields, sameNumber, line-without, table-without, hollowContent, hollowLine}
 
 -- An array, where the member with a number has it.

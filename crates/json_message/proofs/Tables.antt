@@ -1,4 +1,5 @@
--- The tables of a written message: the members of a recipient, and those of the top level; and that the text is put together of them.
+-- The tables of a written message: the members of a recipient, and those of the top level; and that the text is put together
+-- of them.
 use mathlib.Core.Path.{_≡_, refl, ap, ap₂, _∙_}
 use mathlib.Core.List.{List, [], _∷_, _++_, map, append-nil}
 use mathlib.Core.Bool.{Bool, true, false}
@@ -11,7 +12,7 @@ use Rattle.grammar.specs.Bounds.{Every}
 use Rattle.grammar.specs.Grammar.{curly, square}
 use Rattle.shape.specs.Shape as shape
 use Rattle.json_text.specs.Pieces.{quoted, memberText, bracketed}
-use Rattle.json_text.proofs.Made.{Field, Element, fieldText, object}
+use Rattle.json_text.proofs.Made.{Field, Element, object}
 use Rattle.json_text.proofs.Fields.{objectText}
 use Rattle.recipients.specs.Table.{RawRecipient}
 use Rattle.json_message.specs.JsonText.{RawMessage, headerMember, componentMember, ownMembers, elementText}
@@ -20,7 +21,8 @@ use Rattle.json_message.specs.Handed.{MessageOctets}
 use Rattle.json_message.specs.Inner.Judged.{Judged, OwnJudged, TextsJudged}
 use Rattle.json_message.proofs.Names.{protected-known, shared-known, header-known, key-known, recipients-known, iv-known}
 use Rattle.json_message.proofs.Names.{aad-known, ciphertext-known, tag-known}
-use Rattle.json_message.proofs.Lines.{aComponent, aCiphertext, aHeader, anArray, Line, tableFields, contentTexts, tableTexts}
+use Rattle.json_message.proofs.Lines.{aComponent, aCiphertext, aHeader, anArray, Line, tableFields, contentTexts}
+use Rattle.json_message.proofs.Lines.{tableTexts}
 use Rattle.json_message.proofs.Lines.{table-texts, texts-append}
 
 -- A recipient
@@ -46,7 +48,8 @@ ownLines r o j =
 abbrev pub ownFields : (r : RawRecipient) → AllBelow 256 (r .key) → Judged levels (r .header) → List Field
 ownFields r o j = tableFields (ownLines r o j)
 
-own-texts : (r : RawRecipient) (o : AllBelow 256 (r .key)) (j : Judged levels (r .header)) → tableTexts (ownLines r o j) ≡ ownMembers r
+own-texts : (r : RawRecipient) (o : AllBelow 256 (r .key)) (j : Judged levels (r .header)) →
+    tableTexts (ownLines r o j) ≡ ownMembers r
 unfolding ownLines tableTexts contentTexts ownMembers
 own-texts r o j =
     ap (λ (z : List (List ℕ)). headerMember (ascii "header") (r .header) ++ z)
@@ -56,7 +59,8 @@ own-texts r o j =
 unfoldable pub elementOf : (r : RawRecipient) → AllBelow 256 (r .key) → Judged levels (r .header) → Element
 elementOf r o j = record { text = objectText (ownFields r o j); made = object (ownFields r o j) }
 
-element-text : (r : RawRecipient) (o : AllBelow 256 (r .key)) (j : Judged levels (r .header)) → elementOf r o j .text ≡ elementText r
+element-text : (r : RawRecipient) (o : AllBelow 256 (r .key)) (j : Judged levels (r .header)) →
+    elementOf r o j .text ≡ elementText r
 unfolding elementOf elementText
 element-text r o j = ap (bracketed curly) (table-texts (ownLines r o j) ∙ own-texts r o j)
 

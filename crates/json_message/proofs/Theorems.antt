@@ -1,5 +1,5 @@
--- What is shown of a written message, on one page: the writer can judge it by its pieces before it writes anything, and the reader gives
--- back what was written.
+-- What is shown of a written message, on one page: the writer can judge it by its pieces before it writes anything, and the
+-- reader gives back what was written.
 use mathlib.Core.Path.{_≡_, refl, sym, ap, ap₂, subst, _∙_}
 use mathlib.Core.List.{List, [], _∷_, _++_}
 use mathlib.Core.Bool.{Bool, true, false, not, _||_, cond}
@@ -150,8 +150,8 @@ accepted message known recipient headerLent listLent a b size list object passes
     ∙ ap (λ b. first (cond b (jsonOrder message (names known) recipient) (compactOrder message (names known) recipient))) object
     ∙ passes
 
--- What the writer does not refuse the reader accepts for each recipient, given room and the same known names, and it hands out what was
--- written.
+-- What the writer does not refuse the reader accepts for each recipient, given room and the same known names, and it hands
+-- out what was written.
 pub written-reads-back : (general : Bool) (c : RawMessage) → MessageOctets c → 1 ≤ length (c .recipients) →
     length (c .recipients) ≤ mostFor general → (known : List ℕ) (room : ℕ) → sound known ≡ true →
     first (messageOrder general c (names known) room) ≡ 0 → (recipient headerLent listLent : ℕ) →

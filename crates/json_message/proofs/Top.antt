@@ -28,10 +28,11 @@ use Rattle.json_message.specs.Handed.{MessageOctets, memberLists}
 use Rattle.json_message.specs.Inner.Judged.{OwnJudged, sharedLevels, TextsJudged}
 use Rattle.json_message.specs.Inner.PiecesOrder.{hollowText}
 use Rattle.json_message.proofs.Agree.{Agree}
-use Rattle.json_message.proofs.FieldEntries.{entriesFrom, object-entries, present-from, any-append, or-none}
+use Rattle.json_message.proofs.FieldEntries.{entriesFrom, object-entries, present-from, or-none}
 use Rattle.json_message.proofs.Located.{ComponentAt, HeaderAt}
 use Rattle.json_message.proofs.Names.{object-passes}
-use Rattle.json_message.proofs.Lines.{Line, Within, isThere, has, table-has, sameNumber, lineName, table-sub, hollowLine, table-deepest}
+use Rattle.json_message.proofs.Lines.{Line, Within, isThere, has, table-has, sameNumber, lineName, table-sub}
+use Rattle.json_message.proofs.Lines.{hollowLine, table-deepest}
 use Rattle.json_message.proofs.Standing.{ArrayAt, LineAt, table-at, table-wrong}
 use Rattle.json_message.proofs.Tables.{ownLines, EveryOctets, elementsOf, recipientLines, protectedLine, sharedLine}
 use Rattle.json_message.proofs.Tables.{lastLines, topLines, topFields}

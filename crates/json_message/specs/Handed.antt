@@ -1,5 +1,5 @@
--- What the reader hands out of a written message, for each of its recipients: what was written, the shared and the own header without
--- the space around them.
+-- What the reader hands out of a written message, for each of its recipients: what was written, the shared and the own header
+-- without the space around them.
 use mathlib.Core.Path.{_≡_}
 use mathlib.Core.List.{List, [], _∷_, _++_, map, reverse}
 use mathlib.Core.Bool.{Bool, cond}
@@ -74,7 +74,8 @@ numberedList (es ∷ ess) zero = es
 numberedList (es ∷ ess) (suc n) = numberedList ess n
 
 -- What is handed out for the recipient r, whose members stand among the entries `own`.
-pub record HandedTo (general : Bool) (c : RawMessage) (r : RawRecipient) (own : List Entry) (message : List ℕ) (x : Outcome) : Type 0 where
+pub record HandedTo (general : Bool) (c : RawMessage) (r : RawRecipient) (own : List Entry) (message : List ℕ)
+    (x : Outcome) : Type 0 where
   pub form : x .form ≡ cond general generalForm flattenedForm
   pub recipients : x .recipients ≡ length (c .recipients)
   -- The components decode to what was given.

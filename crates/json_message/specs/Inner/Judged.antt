@@ -12,8 +12,8 @@ use Rattle.json_message.specs.JsonText.{RawMessage}
 abbrev pub sharedLevels : ℕ
 sharedLevels = levels - 1
 
--- Those left to an own header, general or flattened: the top level, the array `recipients` and its element stand around it, or the top
--- level alone.
+-- Those left to an own header, general or flattened: the top level, the array `recipients` and its element stand around it,
+-- or the top level alone.
 abbrev pub ownLevels : Bool → ℕ
 ownLevels true = levels - 3
 ownLevels false = levels - 1
