@@ -19,4 +19,5 @@ pub mod Judging
 pub mod Handing
 pub mod Asking
 pub mod Lengths
+pub mod ReadsBack
 pub mod Theorems

@@ -29,17 +29,18 @@ pub record MessageOctets (c : RawMessage) : Type 0 where
   pub ciphertext : AllBelow 256 (c .ciphertext)
   pub tag : AllBelow 256 (c .tag)
 
--- The recipient with a number.
+-- The n-th recipient, counted from 0.
 unfoldable pub numberedRecipient : List RawRecipient → ℕ → RawRecipient
 numberedRecipient [] n = record { header = []; key = [] }
 numberedRecipient (r ∷ rs) zero = r
 numberedRecipient (r ∷ rs) (suc n) = numberedRecipient rs n
 
--- A text without the space before it, and without that on both sides.
+-- A text without the space before it.
 unfoldable pub dropSpace : List ℕ → List ℕ
 dropSpace [] = []
 dropSpace (c ∷ w) = let rest = dropSpace w in cond (isSpace c) rest (c ∷ w)
 
+-- A text without the space around it: without that before it, and, turned round, without that behind it.
 unfoldable pub trimmed : List ℕ → List ℕ
 trimmed w = reverse (dropSpace (reverse (dropSpace w)))
 
@@ -67,7 +68,7 @@ memberLists message =
     let es = topEntries message in
     cond (present shape.recipients es) (map (λ x. elementEntries message (x .start)) (elementsIn message es)) (es ∷ [])
 
--- The list with a number.
+-- The n-th of them.
 unfoldable pub numberedList : List (List Entry) → ℕ → List Entry
 numberedList [] n = []
 numberedList (es ∷ ess) zero = es
@@ -98,6 +99,7 @@ pub record HandedTo (general : Bool) (c : RawMessage) (r : RawRecipient) (own : 
       ≡ protectedEntries (c .protected)
       ++ (map (movedEntry sharedFrom) (textEntries 1 (c .shared)) ++ map (movedEntry ownFrom) (textEntries 2 (r .header)))
 
+-- What is handed out for the n-th recipient.
 abbrev pub JsonHanded : Bool → RawMessage → ℕ → List ℕ → Outcome → Type 0
 JsonHanded general c n message x =
     HandedTo general c (numberedRecipient (c .recipients) n) (numberedList (memberLists message) n) message x
