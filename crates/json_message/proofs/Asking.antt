@@ -1,9 +1,8 @@
 -- The writer's refusals from 6 on are those asked by the pieces, and in the order in which the code asks them.
-use mathlib.Core.Path.{_≡_, refl, sym, ap, ap₂, _∙_}
+use mathlib.Core.Path.{_≡_, refl, sym, ap, _∙_}
 use mathlib.Core.List.{List, [], _∷_, _++_, append-assoc}
 use mathlib.Core.Bool.{Bool, true, false, _||_, cond, true≢false}
-use Prim.Native.Nat.{ℕ, _≤_}
-use native.Mathlib.Omega.{arith}
+use Prim.Native.Nat.{ℕ}
 use lib.ListN.{length}
 use lib.Dec.{ltb}
 use Rattle.prelude.specs.Limits.{longest, levels}
@@ -16,7 +15,8 @@ use Rattle.json_message.specs.WriteOrder.{unreadWithin, unreadAlone, mes
 use Rattle.json_message.specs.Inner.PiecesOrder.{unreadInside, hollowText, hollowInside, protectedTests, parametersOrder}
 use Rattle.json_message.specs.Inner.PiecesOrder.{piecesOrder}
 use Rattle.json_message.specs.Inner.AskedOrder.{overOrder, laterOrder, withinOrder, askedOrder}
-use Rattle.json_message.proofs.Agree.{Agree, step-first, agree-refl, agree-trans, agree-append, agree-pass, agree-test, agree-or}
+use Rattle.json_message.proofs.Agree.{Agree, step-first, agree-refl, agree-trans, agree-append, agree-pass, agree-test}
+use Rattle.json_message.proofs.Agree.{agree-or}
 use Rattle.json_message.proofs.Unread.{inside-iff, alone-iff, inside-alone}
 
 -- Where the protected header is neither too long nor unread, only its members are asked.
@@ -52,8 +52,8 @@ module _ (general : Bool) (c : RawMessage) (known : List (List ℕ)) (room : ℕ
       ∙ ap (λ (ts : List Test). first (10 if hollowInside c ∷ ts)) (append-assoc (protectedTests (c .protected)) rest last)
       ∙ one .before (rest ++ last) (rest ++ last) refl
 
-  -- Where the message is not too long: the first 7 is one of the texts alone, the second one where they will stand, and the first
-  -- implies the second.
+  -- Where the message is not too long: the first 7 is one of the texts alone, the second one where they will stand, and the
+  -- first implies the second.
   module _ (judged : unreadAlone c ≡ false → Agree (jsonOrder (jsonText general c) known 0) (piecesOrder general known c)) where
     abbrev unreadHere : Bool
     unreadHere = unreadWithin levels (c .protected) || unreadInside general c
@@ -95,7 +95,8 @@ module _ (general : Bool) (c : RawMessage) (known : List (List ℕ)) (room : ℕ
         step-first 7 _ _ refl (λ _. first-passes (2 if ltb longest (length (jsonText general c))) _ fits)
         ∙ seven short (unreadAlone c) unreadHere refl refl)
 
-    over-first : ltb longest (length (jsonText general c)) ≡ true → first (messageOrder general c known room) ≡ first (overOrder c)
+    over-first : ltb longest (length (jsonText general c)) ≡ true →
+        first (messageOrder general c known room) ≡ first (overOrder c)
     unfolding messageOrder overOrder
     over-first over =
         step-first 6 _ _ refl (λ _.

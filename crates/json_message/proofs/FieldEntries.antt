@@ -8,6 +8,7 @@ use native.Mathlib.Omega.{arith}
 use lib.ListN.{length, length-append, length-drop, take, drop}
 use lib.Seq.{take-append-seam}
 use lib.Dec.{eqb, leb}
+use Rattle.prelude.specs.Limits.{levels}
 use Rattle.parts.specs.Parts.{part}
 use Rattle.parts.proofs.Laws.{part-fits}
 use Rattle.grammar.specs.Reader.{membersAt}
@@ -59,11 +60,11 @@ entries-are s n (f ∷ fs) h =
     }) (part-stands (h .0 .name))) (entries-are s (behindField n f) fs (h .1))
 
 -- An object of the message.
-pub object-entries : {s : List ℕ} {m : ℕ} (fs : List Field) → Stands s m (objectText fs) → suc (deepestField fs) ≤ 12 →
-    memberEntries s (membersAt 12 s m) ≡ entriesFrom (m + 1) fs
+pub object-entries : {s : List ℕ} {m : ℕ} (fs : List Field) → Stands s m (objectText fs) → suc (deepestField fs) ≤ levels →
+    memberEntries s (membersAt levels s m) ≡ entriesFrom (m + 1) fs
 unfolding memberEntries
 object-entries {s} {m} fs h d =
-    ap (entriesIn memberNames s 1) (object-members 12 fs h d) ∙ entries-are s (m + 1) fs (object-fields fs h)
+    ap (entriesIn memberNames s 1) (object-members levels fs h d) ∙ entries-are s (m + 1) fs (object-fields fs h)
 
 -- Fields one behind the other.
 
@@ -105,6 +106,10 @@ present-from k n (f ∷ fs) = ap (λ b. hasNumber k f || b) (present-from k (beh
 pub or-false : (a b : Bool) → (a || b) ≡ false → (a ≡ false) × (b ≡ false)
 or-false true b e = (e, cc)
 or-false false b e = (refl, e)
+
+pub or-none : (b : Bool) → (b || false) ≡ b
+or-none true = refl
+or-none false = refl
 
 pub value-past : (k n : ℕ) (xs ys : List Field) → any (hasNumber k) xs ≡ false →
     valueOf k (entriesFrom n (xs ++ ys)) ≡ valueOf k (entriesFrom (past n xs) ys)

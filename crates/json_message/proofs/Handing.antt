@@ -1,5 +1,5 @@
 -- What the reader hands out of a written message that passes, for each of its recipients.
-use mathlib.Core.Path.{_≡_, ap, ap₂, _∙_}
+use mathlib.Core.Path.{ap, ap₂, _∙_}
 use mathlib.Core.List.{List, [], _∷_, _++_}
 use mathlib.Core.Bool.{Bool, cond}
 use Prim.Native.Nat.{ℕ, zero, suc, _≤_, _<_}
@@ -12,7 +12,7 @@ use Rattle.headers.specs.Components.{octetsAt, flattenedForm, generalForm}
 use Rattle.headers.specs.Headers.{protectedEntries}
 use Rattle.shape.specs.Shape as shape
 use Rattle.shape.specs.Shape.{component}
-use Rattle.shape.specs.Recipients.{topEntries, recipientsIn, componentsIn}
+use Rattle.shape.specs.Recipients.{componentsIn}
 use Rattle.jwe.specs.General.{parameters}
 use Rattle.jwe.specs.Judge.{asked}
 use Rattle.jwe.specs.Inner.Outcomes.{outcomeOf, jsonOutcome}
@@ -21,12 +21,12 @@ use Rattle.json_text.proofs.Made.{deepestField}
 use Rattle.json_message.specs.JsonText.{RawMessage}
 use Rattle.json_message.specs.Handed.{MessageOctets, numberedRecipient, Given, memberLists, numberedList, JsonHanded}
 use Rattle.json_message.specs.Inner.Judged.{sharedLevels, TextsJudged}
-use Rattle.json_message.proofs.Fields.{topFields}
+use Rattle.json_message.proofs.Tables.{topFields}
 use Rattle.json_message.proofs.Readable.{Counts}
 use Rattle.json_message.proofs.Parameters.{StandsIf}
-use Rattle.json_message.proofs.Elements.{RecipientIs, OwnText}
+use Rattle.json_message.proofs.Elements.{RecipientIs, MembersAre}
 use Rattle.json_message.proofs.Top.{whole, protected-at, shared-at, aad-at, iv-at, ciphertext-at, tag-at, general-there}
-use Rattle.json_message.proofs.Top.{top-entries, own-found}
+use Rattle.json_message.proofs.Top.{top-entries, recipients-found}
 use Rattle.json_message.proofs.Stages.{beside-length, Q, found, header-is, S, shared-stands, shared-is, own-is}
 
 -- The recipient with a number, and its members.
@@ -40,14 +40,14 @@ asked-is s (q ∷ qs) [] n z l = absurd z
 asked-is s (q ∷ qs) (r ∷ rs) zero z l = z .0
 asked-is s (q ∷ qs) (r ∷ rs) (suc n) z l = asked-is s qs rs n (z .1) (omega arith)
 
-own-text : (s : List ℕ) (ess : List (List Entry)) (rs : List RawRecipient) (n : ℕ) → Beside (OwnText s) ess rs →
-    n < length rs → OwnText s (numberedList ess n) (numberedRecipient rs n)
+members-of : (s : List ℕ) (ess : List (List Entry)) (rs : List RawRecipient) (n : ℕ) → Beside (MembersAre s) ess rs →
+    n < length rs → MembersAre s (numberedList ess n) (numberedRecipient rs n)
 unfolding numberedList numberedRecipient
-own-text s [] [] n z l = absurd (omega arith)
-own-text s [] (r ∷ rs) n z l = absurd z
-own-text s (es ∷ ess) [] n z l = absurd z
-own-text s (es ∷ ess) (r ∷ rs) zero z l = z .0
-own-text s (es ∷ ess) (r ∷ rs) (suc n) z l = own-text s ess rs n (z .1) (omega arith)
+members-of s [] [] n z l = absurd (omega arith)
+members-of s [] (r ∷ rs) n z l = absurd z
+members-of s (es ∷ ess) [] n z l = absurd z
+members-of s (es ∷ ess) (r ∷ rs) zero z l = z .0
+members-of s (es ∷ ess) (r ∷ rs) (suc n) z l = members-of s ess rs n (z .1) (omega arith)
 
 given-if : (s : List ℕ) (m : ℕ) (w : List ℕ) → StandsIf s m w → Given s m w
 given-if s m [] h = tt
@@ -66,21 +66,21 @@ written-handed general c o j k d recipient below =
     let a = asked-is s (Q general c o j k d) (c .recipients) recipient z below in
     let h = shared-at general c o j in
     record {
-      form = ap (λ b. cond b generalForm flattenedForm) (ap (present 5) e ∙ general-there general c o j);
+      form = ap (λ b. cond b generalForm flattenedForm) (ap (present shape.recipients) e ∙ general-there general c o j);
       recipients = beside-length (RecipientIs s) (Q general c o j k d) (c .recipients) z;
-      protected = ap (λ es. octetsAt s (component 1 es)) e ∙ protected-at general c o j .spelled;
+      protected = ap (λ es. octetsAt s (component shape.protected es)) e ∙ protected-at general c o j .spelled;
       key = a .key;
-      iv = ap (λ es. octetsAt s (component 6 es)) e ∙ iv-at general c o j .spelled;
-      aad = ap (λ es. octetsAt s (component 7 es)) e ∙ aad-at general c o j .spelled;
-      ciphertext = ap (λ es. octetsAt s (component 8 es)) e ∙ ciphertext-at general c o j .spelled;
-      tag = ap (λ es. octetsAt s (component 9 es)) e ∙ tag-at general c o j .spelled;
+      iv = ap (λ es. octetsAt s (component shape.iv es)) e ∙ iv-at general c o j .spelled;
+      aad = ap (λ es. octetsAt s (component shape.aad es)) e ∙ aad-at general c o j .spelled;
+      ciphertext = ap (λ es. octetsAt s (component shape.ciphertext es)) e ∙ ciphertext-at general c o j .spelled;
+      tag = ap (λ es. octetsAt s (component shape.tag es)) e ∙ tag-at general c o j .spelled;
       header = header-is general c o j k d;
       sharedFrom = S general c o j k d;
       ownFrom = a .from;
       sharedGiven = given-if s (S general c o j k d) (c .shared) (shared-stands general c o j k d);
       ownGiven = given-if s (a .from) (r .header) (a .stands);
-      sharedText = ap (λ es. octetsAt s (valueOf 2 es)) e ∙ h .text;
-      ownText = own-text s (memberLists s) (c .recipients) recipient (own-found general c o j d k) below .text;
+      sharedText = ap (λ es. octetsAt s (valueOf shape.unprotected es)) e ∙ h .text;
+      ownText = members-of s (memberLists s) (c .recipients) recipient (recipients-found general c o j d k) below .text;
       entries =
           ap₂ (λ p q. protectedEntries p ++ q) (header-is general c o j k d)
           (ap₂ _++_ (shared-is general c o j k d) (own-is general c o j k d _ r a));

@@ -6,6 +6,7 @@ use Prim.Native.Nat.{ℕ, suc, _+_}
 use native.Mathlib.Omega.{arith}
 use lib.ListN.{length}
 use borrow.Author.Tests.{eq-eqb}
+use Rattle.prelude.specs.Limits.{levels}
 use Rattle.grammar.specs.Grammar.{isSpace, octets, Sign, leavesSign, curly, square, Value, nested}
 use Rattle.grammar.specs.Grammar.{empty, string, number, literal, literal-true, literal-false, literal-null, Entries}
 use Rattle.grammar.specs.Grammar.{last, more, leavesValue}
@@ -23,7 +24,7 @@ use Rattle.headers.specs.Headers.{outermost}
 use Rattle.shape.specs.Shape.{hollow}
 use Rattle.jwe.specs.General.{isHollow}
 use Rattle.json_text.specs.Moved.{moved, movedMember}
-use Rattle.json_text.proofs.Embedded.{Stands, here, shown-members, embedded-members}
+use Rattle.json_text.proofs.Embedded.{Stands, stands-whole, here, shown-members, embedded-members}
 use Rattle.json_text.proofs.Made.{given, given-kind, given-levels, made-placed}
 use Rattle.json_text.proofs.Fields.{made-shows, placed-from}
 
@@ -95,7 +96,7 @@ moved-start : (m : ℕ) (p : Placed) → startOf (moved m p) ≡ m + startOf p
 unfolding moved
 moved-start m (item k q ps) = refl
 
-pub header-hollow : {s : List ℕ} {m : ℕ} {w : List ℕ} → Stands s m w → Reading 12 w →
+pub header-hollow : {s : List ℕ} {m : ℕ} {w : List ℕ} → Stands s m w → Reading levels w →
     hollow curly s (m + skipSpace w 0) ≡ isHollow (outermost w)
 unfolding outermost
 header-hollow {s} {m} {w} h r =
@@ -104,12 +105,18 @@ header-hollow {s} {m} {w} h r =
     let starts : startOf (placed m v) ≡ m + skipSpace w 0 =
     ap startOf (placed-from m v ∙ ap (moved m) (made-placed x r))
     ∙ moved-start m (placedText (r .text))
-    ∙ ap (λ k. m + k) (read-complete 12 w r .1) in
-    let shows = made-shows 12 x h (omega (arith, given-levels r, r .within)) in
-    let there = hollow-is 12 s v m (h .after) (record { is = h .is ∙ ap (λ z. z ++ h .after) (sym (x .spelled)) }) shows
+    ∙ ap (λ k. m + k) (read-complete levels w r .1) in
+    let shows = made-shows levels x h (omega (arith, given-levels r, r .within)) in
+    let there = hollow-is levels s v m (h .after) (record { is = h .is ∙ ap (λ z. z ++ h .after) (sym (x .spelled)) }) shows
     (given-kind r) in
     ap (hollow curly s) (sym starts)
     ∙ there
-    ∙ ap (λ k. isHollow (membersAt 12 s k)) starts
-    ∙ ap isHollow (embedded-members 12 r h)
-    ∙ map-hollow (movedMember m) (membersAt 12 w (skipSpace w 0))
+    ∙ ap (λ k. isHollow (membersAt levels s k)) starts
+    ∙ ap isHollow (embedded-members levels r h)
+    ∙ map-hollow (movedMember m) (membersAt levels w (skipSpace w 0))
+
+-- Of a text alone.
+pub text-hollow : (w : List ℕ) → Reading levels w → hollow curly w (skipSpace w 0) ≡ isHollow (outermost w)
+text-hollow w r =
+    let e : skipSpace w 0 ≡ 0 + skipSpace w 0 = omega arith in
+    ap (hollow curly w) e ∙ header-hollow (stands-whole w) r

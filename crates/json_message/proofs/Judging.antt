@@ -2,22 +2,25 @@
 use mathlib.Core.Path.{_≡_, refl, sym, ap, subst, _∙_}
 use mathlib.Core.List.{List, [], _++_, append-nil}
 use mathlib.Core.Bool.{Bool, true, false}
+use mathlib.Core.Logic.{_↔_}
 use Prim.Native.Nat.{ℕ, _≤_, _<_}
 use native.Mathlib.Omega.{arith}
 use lib.ListN.{length}
 use Rattle.prelude.specs.Limits.{levels, mostRecipients}
 use Rattle.prelude.specs.Refusals.{Test, _if_, first}
 use Rattle.prelude.proofs.Refusals.{first-fails}
+use Rattle.grammar.specs.Readings.{Reading}
 use Rattle.headers.specs.Headers.{unread}
 use Rattle.shape.specs.Recipients.{topOrder}
 use Rattle.jwe.specs.General.{jsonSpelled, jsonOrder}
 use Rattle.json_text.proofs.Made.{deepestField}
 use Rattle.json_message.specs.JsonText.{RawMessage, jsonText}
-use Rattle.json_message.specs.Handed.{MessageOctets}
-use Rattle.json_message.specs.Inner.Judged.{sharedLevels, TextsJudged}
+use Rattle.json_message.specs.WriteOrder.{mostFor}
+use Rattle.json_message.specs.Inner.Judged.{sharedLevels, ownLevels, TextsJudged, Ready}
 use Rattle.json_message.specs.Inner.PiecesOrder.{unreadInside, piecesOrder}
-use Rattle.json_message.proofs.Fields.{topFields, json-text}
-use Rattle.json_message.proofs.Readable.{Counts, top-deepest, json-reads}
+use Rattle.json_message.proofs.Tables.{topFields, json-text}
+use Rattle.json_message.proofs.Readable as Readable
+use Rattle.json_message.proofs.Readable.{Counts, counted, top-deepest}
 use Rattle.json_message.proofs.Agree.{Agree}
 use Rattle.json_message.proofs.Unread.{reads-iff, inside-iff}
 use Rattle.json_message.proofs.Stages.{reader-agrees}
@@ -39,21 +42,29 @@ seven-pieces : (general : Bool) (known : List (List ℕ)) (c : RawMessage) (ts :
 unfolding piecesOrder
 seven-pieces general known c ts e = first-fails (7 if unreadInside general c) _ e
 
-module _ (general : Bool) (c : RawMessage) (o : MessageOctets c) (j : TextsJudged levels levels c)
-    (k : Counts general (c .recipients)) where
+most : (general : Bool) → mostFor general ≤ mostRecipients
+most true = omega arith
+most false = omega arith
+
+module _ (general : Bool) (c : RawMessage) (h : Ready general c) where
+  pub counts : Counts general (c .recipients)
+  counts = counted general (c .recipients) (h .some) (h .few)
+
+  -- The message reads exactly where each text reads within the levels that are left to it.
+  pub json-reads : Reading levels (jsonText general c) ↔ TextsJudged sharedLevels (ownLevels general) c
+  json-reads = Readable.json-reads general c (h .octets) (h .texts) counts
+
   -- 7 on the whole.
   unread-pieces : unread (jsonText general c) ≡ unreadInside general c
   unfolding unread
   unread-pieces =
       let r = reads-iff levels (jsonText general c) in
-      let m = json-reads general c o j k in
       let i = inside-iff general c in
-      false-same _ _ (λ e. i .1 (m .0 (r .0 e))) (λ e. r .1 (m .1 (i .0 e)))
+      false-same _ _ (λ e. i .1 (json-reads .0 (r .0 e))) (λ e. r .1 (json-reads .1 (i .0 e)))
 
-  pub judged-in-pieces : 1 ≤ length (c .recipients) → length (c .recipients) ≤ mostRecipients → (known : List (List ℕ))
-      (recipient : ℕ) → recipient < length (c .recipients) →
+  pub judged-in-pieces : (known : List (List ℕ)) (recipient : ℕ) → recipient < length (c .recipients) →
       Agree (jsonOrder (jsonText general c) known recipient) (piecesOrder general known c)
-  judged-in-pieces some few known recipient below = cases (unread (jsonText general c)) refl
+  judged-in-pieces known recipient below = cases (unread (jsonText general c)) refl
     where
       cases : (b : Bool) → unread (jsonText general c) ≡ b →
           Agree (jsonOrder (jsonText general c) known recipient) (piecesOrder general known c)
@@ -63,19 +74,22 @@ module _ (general : Bool) (c : RawMessage) (o : MessageOctets c) (j : TextsJudge
             ∙ sym (seven-pieces general known c us (sym unread-pieces ∙ e));
       }
       cases false e =
-          let h = inside-iff general c .0 (sym unread-pieces ∙ e) in
-          let d = top-deepest general c o j k .1 h in
-          let w = json-text general c o j in
+          let d = top-deepest general c (h .octets) (h .texts) counts .1 (inside-iff general c .0 (sym unread-pieces ∙ e)) in
+          let w = json-text general c (h .octets) (h .texts) in
           subst (λ z. Agree (jsonOrder z known recipient) (piecesOrder general known c)) w
-          (reader-agrees general c o j k d known some few recipient below (ap unread w ∙ unread-pieces))
+          (reader-agrees general c (h .octets) (h .texts) counts d known (h .some) (omega (arith, h .few, most general))
+          recipient below (ap unread w ∙ unread-pieces))
 
   -- Where no test fails, each text is within its levels.
   pub passed-deepest : (known : List (List ℕ)) → first (piecesOrder general known c) ≡ 0 →
-      deepestField (topFields general c o j) ≤ sharedLevels
+      deepestField (topFields general c (h .octets) (h .texts)) ≤ sharedLevels
   passed-deepest known passes = cases (unreadInside general c) refl
     where
-      cases : (b : Bool) → unreadInside general c ≡ b → deepestField (topFields general c o j) ≤ sharedLevels
+      cases : (b : Bool) → unreadInside general c ≡ b →
+          deepestField (topFields general c (h .octets) (h .texts)) ≤ sharedLevels
       cases true e =
-          absurd (omega (arith,
-          sym (seven-pieces general known c [] e) ∙ ap first (append-nil (piecesOrder general known c)) ∙ passes))
-      cases false e = top-deepest general c o j k .1 (inside-iff general c .0 e)
+          absurd (omega (
+            arith,
+            sym (seven-pieces general known c [] e) ∙ ap first (append-nil (piecesOrder general known c)) ∙ passes,
+          ))
+      cases false e = top-deepest general c (h .octets) (h .texts) counts .1 (inside-iff general c .0 e)

@@ -1,5 +1,6 @@
--- Each given text is a part of the message, and no longer: what the message may not exceed, no text of a message that is written does.
-use mathlib.Core.Path.{_≡_, refl, ap}
+-- Each given text is a part of the message, and no longer: what the message may not exceed, no text of a message that is
+-- written does.
+use mathlib.Core.Path.{_≡_}
 use mathlib.Core.List.{List, [], _∷_, _++_, map}
 use mathlib.Core.Bool.{Bool, true, false}
 use Prim.Native.Nat.{ℕ, zero, suc, _+_, _≤_, _<_}

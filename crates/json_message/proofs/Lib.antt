@@ -1,5 +1,4 @@
 pub mod Fields
-pub mod Readable
 pub mod Moving
 pub mod Hollow
 pub mod Trimmed
@@ -8,7 +7,10 @@ pub mod Parameters
 pub mod FieldEntries
 pub mod Located
 pub mod Names
-pub mod Own
+pub mod Lines
+pub mod Standing
+pub mod Tables
+pub mod Readable
 pub mod Elements
 pub mod Top
 pub mod Unread
@@ -17,4 +19,5 @@ pub mod Judging
 pub mod Handing
 pub mod Asking
 pub mod Lengths
+pub mod ReadsBack
 pub mod Theorems

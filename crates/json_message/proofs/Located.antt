@@ -1,7 +1,7 @@
--- Where the components and the headers of a written object stand, by their numbers, and that it keeps the rules on its shape but for
--- headers without a member.
+-- Where the components and the headers of a written object stand, by their numbers, and that it keeps the rules on its shape
+-- but for headers without a member.
 use mathlib.Core.Path.{_≡_, refl, sym, ap, ap₂, subst, _∙_}
-use mathlib.Core.List.{List, [], _∷_, _++_, append-assoc, append-nil}
+use mathlib.Core.List.{List, [], _∷_, _++_, append-assoc}
 use mathlib.Core.Bool.{Bool, true, false, not, _&&_, _||_, cond, true≢false}
 use Prim.Native.Nat.{ℕ, suc, _+_, _-_, _≤_}
 use native.Mathlib.Omega.{arith}
@@ -10,6 +10,7 @@ use lib.ListN.{length, length-append, drop}
 use lib.Dec.{T, eqb, leb}
 use borrow.Author.Tests.{eq-eqb, ne-eqb}
 use Rattle.prelude.specs.Buffer.{AllBelow}
+use Rattle.prelude.specs.Limits.{levels}
 use Rattle.base64url.specs.Base64url.{encoded}
 use Rattle.base64url.proofs.Laws.{encoded-length}
 use Rattle.parts.specs.Parts.{part, holds}
@@ -26,7 +27,7 @@ use Rattle.rows.specs.Rows.{valueOf, spelledValue}
 use Rattle.headers.specs.Components.{octetsAt}
 use Rattle.shape.specs.Shape.{memberNames, component, inner, hollow, wrongMember}
 use Rattle.json_text.specs.Pieces.{quoted}
-use Rattle.json_text.proofs.Embedded.{Stands, text-kind, embedded-end}
+use Rattle.json_text.proofs.Embedded.{Stands, stands-whole, text-kind, embedded-end}
 use Rattle.json.proofs.Within.{value-within}
 use Rattle.json_message.specs.Handed.{trimmed}
 use Rattle.json_message.proofs.Moving.{part-moved}
@@ -182,12 +183,6 @@ module _ (s : List ℕ) (n : ℕ) (name xs : List ℕ) (p : T (plain name)) (b :
 -- A component's member, present or not.
 
 module _ (name : List ℕ) (p : T (plain name)) where
-  pub component-without : (k : ℕ) → eqb (numberIn memberNames name) k ≡ false → (xs : List ℕ) (b : AllBelow 256 xs) →
-      any (hasNumber k) (componentFields name p xs b) ≡ false
-  unfolding any componentFields stringField
-  component-without k e [] b = refl
-  component-without k e (x ∷ xs) b = ap (λ z. z || false) e
-
   module _ (s : List ℕ) (n : ℕ) (k : ℕ) (e : numberIn memberNames name ≡ k) where
     pub component-here : (xs : List ℕ) (b : AllBelow 256 xs) (ys : List Field) → any (hasNumber k) ys ≡ false →
         FieldsStand s n (componentFields name p xs b ++ ys) → ComponentAt s n (componentFields name p xs b ++ ys) k xs
@@ -210,9 +205,6 @@ header-cases false false k h y z e f g i = absurd (true≢false (sym f))
 header-cases false true false h y z e f g i = absurd (true≢false (sym g))
 header-cases false true true true y z e f g i = i
 header-cases false true true false y z e f g i = i
-
-stands-whole : (s : List ℕ) → Stands s 0 s
-stands-whole s = record { after = []; is = sym (append-nil s); ends = tt }
 
 -- A header
 
@@ -248,34 +240,28 @@ header-none s n fs k e = record {
 }
 
 module _ (name : List ℕ) (p : T (plain name)) where
-  pub header-without : (k : ℕ) → eqb (numberIn memberNames name) k ≡ false → (w : List ℕ) (r : Judged 12 w) →
-      any (hasNumber k) (headerFields name p w r) ≡ false
-  unfolding any headerFields
-  header-without k e [] r = refl
-  header-without k e (c ∷ w) r = ap (λ z. z || false) e
-
   -- The row of a given text.
-  given-start : (w : List ℕ) (r : Reading 12 w) → startOf (placed 0 (given r .value)) ≡ skipSpace w 0
-  given-start w r = ap startOf (made-placed (given r) r) ∙ read-complete 12 w r .1
+  given-start : (w : List ℕ) (r : Reading levels w) → startOf (placed 0 (given r .value)) ≡ skipSpace w 0
+  given-start w r = ap startOf (made-placed (given r) r) ∙ read-complete levels w r .1
 
-  given-size : (w : List ℕ) (r : Reading 12 w) → sizeOf (placed 0 (given r .value)) ≡ sizeOf (placedText (r .text))
+  given-size : (w : List ℕ) (r : Reading levels w) → sizeOf (placed 0 (given r .value)) ≡ sizeOf (placedText (r .text))
   given-size w r = ap sizeOf (made-placed (given r) r)
 
   -- Its object, where it stands, is the text without the space around it.
-  text-there : {s : List ℕ} {m : ℕ} (c : ℕ) (w : List ℕ) (r : Reading 12 (c ∷ w)) → Stands s m (c ∷ w) →
+  text-there : {s : List ℕ} {m : ℕ} (c : ℕ) (w : List ℕ) (r : Reading levels (c ∷ w)) → Stands s m (c ∷ w) →
       part s (m + skipSpace (c ∷ w) 0) (sizeOf (placedText (r .text))) ≡ trimmed (c ∷ w)
   text-there {s} {m} c w r h =
       let v = placedText (r .text) in
-      let found-at = embedded-end 12 r (stands-whole (c ∷ w)) in
-      let within = value-within 12 (c ∷ w) (0 + skipSpace (c ∷ w) 0) (0 + skipSpace (c ∷ w) 0 + sizeOf v) 0 found-at in
+      let found-at = embedded-end levels r (stands-whole (c ∷ w)) in
+      let within = value-within levels (c ∷ w) (0 + skipSpace (c ∷ w) 0) (0 + skipSpace (c ∷ w) 0 + sizeOf v) 0 found-at in
       part-moved h (skipSpace (c ∷ w) 0) (sizeOf v) (omega arith) (omega (arith, within .ends))
-      ∙ reading-trimmed 12 (c ∷ w) r
+      ∙ reading-trimmed levels (c ∷ w) r
 
-  given-kinds : (w : List ℕ) (r : Reading 12 w) → kindOf (placed 0 (given r .value)) ≡ 0
-  given-kinds w r = ap kindOf (made-placed (given r) r) ∙ text-kind 12 w r
+  given-kinds : (w : List ℕ) (r : Reading levels w) → kindOf (placed 0 (given r .value)) ≡ 0
+  given-kinds w r = ap kindOf (made-placed (given r) r) ∙ text-kind levels w r
 
   module _ (s : List ℕ) (n : ℕ) (k : ℕ) (e : numberIn memberNames name ≡ k) where
-    pub header-here : (w : List ℕ) (r : Judged 12 w) (ys : List Field) → any (hasNumber k) ys ≡ false →
+    pub header-here : (w : List ℕ) (r : Judged levels w) (ys : List Field) → any (hasNumber k) ys ≡ false →
         FieldsStand s n (headerFields name p w r ++ ys) → HeaderAt s n (headerFields name p w r ++ ys) k w
     unfolding headerFields FieldsStand
     header-here [] r ys o h = header-none s n ys k o
@@ -295,7 +281,8 @@ module _ (name : List ℕ) (p : T (plain name)) where
         }
 
     -- It is wrong exactly where it has no member.
-    pub header-right : eqb k 0 ≡ false → (eqb k 2 || eqb k 3) ≡ true → (w : List ℕ) (r : Judged 12 w) → FieldsStand s n (headerFields name p w r) →
+    pub header-right : eqb k 0 ≡ false → (eqb k 2 || eqb k 3) ≡ true → (w : List ℕ) (r : Judged levels w) →
+        FieldsStand s n (headerFields name p w r) →
         any (wrongMember s) (entriesFrom n (headerFields name p w r)) ≡ hollowText w
     unfolding any headerFields entriesFrom FieldsStand wrongMember
     header-right z c [] r h = refl

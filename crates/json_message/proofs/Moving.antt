@@ -6,6 +6,7 @@ use Prim.Native.Nat.{ℕ, _+_, _-_, _≤_}
 use native.Mathlib.Omega.{arith}
 use native.Mathlib.Nat.{add-assoc}
 use lib.ListN.{length, length-append, length-drop}
+use Rattle.prelude.specs.Limits.{levels}
 use Rattle.parts.specs.Parts.{part}
 use Rattle.parts.proofs.Laws.{part-fits}
 use Rattle.grammar.specs.Bounds.{Every, Inside}
@@ -59,9 +60,9 @@ module _ {s : List ℕ} {m : ℕ} {w : List ℕ} (h : Stands s m w) where
   entries-moved names o (x ∷ ms) i = ap₂ _∷_ (entry-moved names o x (i .0)) (entries-moved names o ms (i .1))
 
   -- Of the header that begins past the space of w.
-  pub header-moved : (names : List (List ℕ)) (o : ℕ) → Reading 12 w →
-      entriesIn names s o (membersAt 12 s (m + skipSpace w 0)) ≡ map (movedEntry m) (entriesIn names w o (outermost w))
+  pub header-moved : (names : List (List ℕ)) (o : ℕ) → Reading levels w →
+      entriesIn names s o (membersAt levels s (m + skipSpace w 0)) ≡ map (movedEntry m) (entriesIn names w o (outermost w))
   unfolding outermost
   header-moved names o r =
-      ap (entriesIn names s o) (embedded-members 12 r h)
-      ∙ entries-moved names o (membersAt 12 w (skipSpace w 0)) (members-within 12 w (skipSpace w 0))
+      ap (entriesIn names s o) (embedded-members levels r h)
+      ∙ entries-moved names o (membersAt levels w (skipSpace w 0)) (members-within levels w (skipSpace w 0))

@@ -1,11 +1,12 @@
--- The numbers of the names that are written, and that no two of them say the same.
+-- The names that are written: plain characters, each with its number; and refusals 8 and 9 on an object with some of a few
+-- names that say different things.
 use mathlib.Core.Path.{_≡_, refl, ap, ap₂, _∙_}
 use mathlib.Core.List.{List, [], _∷_, map}
-use mathlib.Core.Bool.{Bool, true, false, _&&_, _||_}
+use mathlib.Core.Bool.{Bool, false, _&&_, _||_}
 use Prim.Native.Nat.{ℕ, suc, _≤_}
 use native.Mathlib.Omega.{arith}
 use lib.ListN.{length}
-use lib.Dec.{eqb}
+use lib.Dec.{T, eqb}
 use borrow.Author.Tests.{le-ltb}
 use Rattle.prelude.specs.Ascii.{ascii}
 use Rattle.grammar.specs.Spellings.{adds, next, undoFrom, undo, equal, alike, has}
@@ -14,48 +15,54 @@ use Rattle.prelude.specs.Any.{any, anyPair}
 use Rattle.rows.specs.Rows.{Entry, oneText, textOf, spelledName, same, repeated}
 use Rattle.prelude.specs.Limits.{mostMembers}
 use Rattle.headers.specs.Headers.{objectOrder}
+use Rattle.shape.specs.Shape as shape
 use Rattle.shape.specs.Shape.{memberNames}
-use Rattle.json_text.proofs.Made.{Field}
+use Rattle.json_text.proofs.Made.{plain, Field}
 use Rattle.json_text.proofs.Fields.{behindField, FieldsStand}
 use Rattle.jose.proofs.Alike.{Beside, pair-beside}
 use Rattle.json_message.proofs.Agree.{Agree, agree-append, agree-pass}
 use Rattle.json_message.proofs.FieldEntries.{entriesFrom, part-stands, or-false}
 
-pub protected-number : numberIn memberNames (ascii "protected") ≡ 1
-unfolding ascii adds next undoFrom undo equal has numberIn memberNames
-protected-number = refl
+-- A name of plain characters, with its number.
+pub record Known (name : List ℕ) (number : ℕ) : Type 0 where
+  pub plainly : T (plain name)
+  pub numbered : numberIn memberNames name ≡ number
 
-pub unprotected-number : numberIn memberNames (ascii "unprotected") ≡ 2
-unfolding ascii adds next undoFrom undo equal has numberIn memberNames
-unprotected-number = refl
+pub protected-known : Known (ascii "protected") shape.protected
+unfolding ascii plain adds next undoFrom undo equal has numberIn memberNames
+protected-known = record { plainly = tt; numbered = refl }
 
-pub header-number : numberIn memberNames (ascii "header") ≡ 3
-unfolding ascii adds next undoFrom undo equal has numberIn memberNames
-header-number = refl
+pub shared-known : Known (ascii "unprotected") shape.unprotected
+unfolding ascii plain adds next undoFrom undo equal has numberIn memberNames
+shared-known = record { plainly = tt; numbered = refl }
 
-pub key-number : numberIn memberNames (ascii "encrypted_key") ≡ 4
-unfolding ascii adds next undoFrom undo equal has numberIn memberNames
-key-number = refl
+pub header-known : Known (ascii "header") shape.header
+unfolding ascii plain adds next undoFrom undo equal has numberIn memberNames
+header-known = record { plainly = tt; numbered = refl }
 
-pub recipients-number : numberIn memberNames (ascii "recipients") ≡ 5
-unfolding ascii adds next undoFrom undo equal has numberIn memberNames
-recipients-number = refl
+pub key-known : Known (ascii "encrypted_key") shape.encryptedKey
+unfolding ascii plain adds next undoFrom undo equal has numberIn memberNames
+key-known = record { plainly = tt; numbered = refl }
 
-pub iv-number : numberIn memberNames (ascii "iv") ≡ 6
-unfolding ascii adds next undoFrom undo equal has numberIn memberNames
-iv-number = refl
+pub recipients-known : Known (ascii "recipients") shape.recipients
+unfolding ascii plain adds next undoFrom undo equal has numberIn memberNames
+recipients-known = record { plainly = tt; numbered = refl }
 
-pub aad-number : numberIn memberNames (ascii "aad") ≡ 7
-unfolding ascii adds next undoFrom undo equal has numberIn memberNames
-aad-number = refl
+pub iv-known : Known (ascii "iv") shape.iv
+unfolding ascii plain adds next undoFrom undo equal has numberIn memberNames
+iv-known = record { plainly = tt; numbered = refl }
 
-pub ciphertext-number : numberIn memberNames (ascii "ciphertext") ≡ 8
-unfolding ascii adds next undoFrom undo equal has numberIn memberNames
-ciphertext-number = refl
+pub aad-known : Known (ascii "aad") shape.aad
+unfolding ascii plain adds next undoFrom undo equal has numberIn memberNames
+aad-known = record { plainly = tt; numbered = refl }
 
-pub tag-number : numberIn memberNames (ascii "tag") ≡ 9
-unfolding ascii adds next undoFrom undo equal has numberIn memberNames
-tag-number = refl
+pub ciphertext-known : Known (ascii "ciphertext") shape.ciphertext
+unfolding ascii plain adds next undoFrom undo equal has numberIn memberNames
+ciphertext-known = record { plainly = tt; numbered = refl }
+
+pub tag-known : Known (ascii "tag") shape.tag
+unfolding ascii plain adds next undoFrom undo equal has numberIn memberNames
+tag-known = record { plainly = tt; numbered = refl }
 
 -- Lists of names, some left out.
 
@@ -106,7 +113,7 @@ entries-length n [] = refl
 entries-length n (f ∷ fs) = ap suc (entries-length (behindField n f) fs)
 
 pub object-passes : (s : List ℕ) (n : ℕ) (fs : List Field) (us : List (List ℕ)) → FieldsStand s n fs →
-    Sub (map nameOf fs) us → length us ≤ 32 → anyPair alike us ≡ false → Agree (objectOrder s (entriesFrom n fs)) []
+    Sub (map nameOf fs) us → length us ≤ mostMembers → anyPair alike us ≡ false → Agree (objectOrder s (entriesFrom n fs)) []
 unfolding objectOrder repeated
 object-passes s n fs us h sub few apart =
     agree-append
@@ -119,31 +126,3 @@ object-passes s n fs us h sub few apart =
     (x .origin) (y .origin)
     ∙ ap₂ alike (x .name) (y .name)) (entriesFrom n fs) (map nameOf fs) (called-zip s n fs h)
     ∙ sub-pair alike sub apart))
-
--- The names of an element, and of the top level.
-
-abbrev pub ownNames : List (List ℕ)
-ownNames = ascii "header" ∷ ascii "encrypted_key" ∷ []
-
-pub own-apart : anyPair alike ownNames ≡ false
-unfolding ascii adds next undoFrom undo equal alike any anyPair
-own-apart = refl
-
-abbrev pub lastNames : List (List ℕ)
-lastNames = ascii "aad" ∷ ascii "iv" ∷ ascii "ciphertext" ∷ ascii "tag" ∷ []
-
-abbrev pub middleNames : Bool → List (List ℕ)
-middleNames true = ascii "recipients" ∷ lastNames
-middleNames false = ascii "header" ∷ ascii "encrypted_key" ∷ lastNames
-
-abbrev pub topNames : Bool → List (List ℕ)
-topNames general = ascii "protected" ∷ ascii "unprotected" ∷ middleNames general
-
-pub top-few : (general : Bool) → length (topNames general) ≤ 32
-top-few true = omega arith
-top-few false = omega arith
-
-pub top-apart : (general : Bool) → anyPair alike (topNames general) ≡ false
-unfolding ascii adds next undoFrom undo equal alike any anyPair
-top-apart true = refl
-top-apart false = refl

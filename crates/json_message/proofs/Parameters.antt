@@ -36,7 +36,8 @@ text-read : (header s : List ℕ) (o : ℕ) → textOf (readTexts header s) (suc
 text-read header s zero = refl
 text-read header s (suc o) = refl
 
--- The parameters of a header's text show the same where it stands. A `crit` in it is not protected, so its elements are not asked.
+-- The parameters of a header's text show the same where it stands. A `crit` in it is not protected, so its elements are not
+-- asked.
 
 module _ (ts us : Texts) (o : ℕ) {s : List ℕ} {m : ℕ} {w : List ℕ} (h : Stands s m w) (there : textOf ts (suc o) ≡ s)
     (alone : textOf us (suc o) ≡ w) where

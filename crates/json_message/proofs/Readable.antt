@@ -1,28 +1,24 @@
 -- A written message reads exactly where the given texts read within the levels that are left to them where they stand.
-use mathlib.Core.Path.{_≡_, refl, sym, ap, subst, _∙_}
+use mathlib.Core.Path.{sym, subst}
 use mathlib.Core.List.{List, [], _∷_, _++_}
 use mathlib.Core.Bool.{Bool, true, false}
 use mathlib.Core.Logic.{_↔_}
-use Prim.Native.Nat.{ℕ, suc, max, _≤_}
+use Prim.Native.Nat.{ℕ, suc, _≤_}
 use native.Mathlib.Omega.{arith}
 use lib.ListN.{length}
-use lib.Dec.{T}
-use Rattle.prelude.specs.Ascii.{ascii}
 use Rattle.prelude.specs.Buffer.{AllBelow}
-use Rattle.base64url.specs.Base64url.{encoded}
-use Rattle.grammar.specs.Places.{levels}
+use Rattle.prelude.specs.Limits.{levels}
+use Rattle.grammar.specs.Bounds.{Every}
 use Rattle.grammar.specs.Readings.{Reading}
-use Rattle.json_text.proofs.Made.{plain, made-reads, given, given-kind, string-levels, Field}
-use Rattle.json_text.proofs.Made.{object-levels, array-levels, deepestField, deepestElement, object-reads}
+use Rattle.json_text.proofs.Made.{deepestField, deepestElement, object-levels, object-reads}
 use Rattle.recipients.specs.Table.{RawRecipient}
 use Rattle.json_message.specs.JsonText.{RawMessage, jsonText}
 use Rattle.json_message.specs.WriteOrder.{mostFor}
 use Rattle.json_message.specs.Handed.{MessageOctets}
 use Rattle.json_message.specs.Inner.Judged.{Judged, OwnJudged, sharedLevels, ownLevels, TextsJudged}
-use Rattle.json_message.proofs.Fields.{encoded-plain, EveryOctets, stringField}
-use Rattle.json_message.proofs.Fields.{componentFields, headerFields, ownFields, elementOf, elementsOf}
-use Rattle.json_message.proofs.Fields.{recipientFields, topFields, json-text, header-plain, key-plain, protected-plain}
-use Rattle.json_message.proofs.Fields.{unprotected-plain, aad-plain, iv-plain, ciphertext-plain, tag-plain}
+use Rattle.json_message.proofs.Lines.{Line, Within, table-deepest}
+use Rattle.json_message.proofs.Tables.{ownLines, ownFields, elementOf, EveryOctets, elementsOf, recipientLines}
+use Rattle.json_message.proofs.Tables.{protectedLine, sharedLine, lastLines, topLines, topFields, json-text}
 
 -- Flattened is for one recipient.
 abbrev pub Counts : Bool → List RawRecipient → Type 0
@@ -37,104 +33,80 @@ counted false [] some few = absurd (omega arith)
 counted false (r ∷ []) some few = tt
 counted false (r ∷ s ∷ rs) some few = absurd (omega arith)
 
-pub deepest-append : (fs gs : List Field) → deepestField (fs ++ gs) ≡ max (deepestField fs) (deepestField gs)
-unfolding deepestField
-deepest-append [] gs = omega arith
-deepest-append (f ∷ fs) gs = let e = deepest-append fs gs in omega arith
+-- Of one list behind another.
 
-flat-append : (fs gs : List Field) → deepestField fs ≡ 0 → deepestField (fs ++ gs) ≡ deepestField gs
-flat-append fs gs e = let f = deepest-append fs gs in omega arith
+pub every-append : {A : Type 0} (P : A → Type 0) (xs ys : List A) → Every P xs → Every P ys → Every P (xs ++ ys)
+every-append P [] ys a b = b
+every-append P (x ∷ xs) ys a b = (a .0, every-append P xs ys (a .1) b)
 
-flat-one : (f : Field) (fs : List Field) → levels (f .made .value) ≡ 0 → deepestField fs ≡ 0 → deepestField (f ∷ fs) ≡ 0
-unfolding deepestField
-flat-one f fs a b = omega arith
+pub every-front : {A : Type 0} (P : A → Type 0) (xs ys : List A) → Every P (xs ++ ys) → Every P xs
+every-front P [] ys h = tt
+every-front P (x ∷ xs) ys h = (h .0, every-front P xs ys (h .1))
 
-max-zero : (n : ℕ) → max n 0 ≡ n
-max-zero n = omega arith
+pub every-back : {A : Type 0} (P : A → Type 0) (xs ys : List A) → Every P (xs ++ ys) → Every P ys
+every-back P [] ys h = h
+every-back P (x ∷ xs) ys h = every-back P xs ys (h .1)
 
-component-deepest : (name : List ℕ) (n : T (plain name)) (xs : List ℕ) (h : AllBelow 256 xs) →
-    deepestField (componentFields name n xs h) ≡ 0
-unfolding deepestField componentFields stringField
-component-deepest name n [] h = refl
-component-deepest name n (x ∷ xs) h =
-    omega (arith, string-levels (encoded (x ∷ xs)) (encoded-plain (x ∷ xs) h))
+-- A table within some levels.
+abbrev pub LinesWithin : ℕ → List Line → Type 0
+LinesWithin n ls = Every (λ l. Within n (l .content)) ls
 
-header-deepest : (l : ℕ) (name : List ℕ) (n : T (plain name)) (w : List ℕ) (r : Judged 12 w) →
-    (deepestField (headerFields name n w r) ≤ l) ↔ Judged l w
-unfolding deepestField headerFields
-header-deepest l name n [] r = ((λ h. tt), (λ h. omega arith))
-header-deepest l name n (c ∷ w) r =
-    let m = made-reads l (c ∷ w) (given r) (given-kind r) in
-    ((λ h. m .1 (omega arith)), (λ h. let k = m .0 h in omega arith))
+own-within : (n : ℕ) (r : RawRecipient) (o : AllBelow 256 (r .key)) (j : Judged levels (r .header)) →
+    LinesWithin n (ownLines r o j) ↔ Judged n (r .header)
+unfolding ownLines
+own-within n r o j = ((λ h. h .0), (λ h. (h, (tt, tt))))
 
-own-deepest : (l : ℕ) (r : RawRecipient) (o : AllBelow 256 (r .key)) (j : Judged 12 (r .header)) →
-    (deepestField (ownFields r o j) ≤ l) ↔ Judged l (r .header)
-unfolding ownFields
-own-deepest l r o j =
-    let H = headerFields (ascii "header") header-plain (r .header) j in
-    let K = componentFields (ascii "encrypted_key") key-plain (r .key) o in
-    let e = deepest-append H K in
-    let f = component-deepest (ascii "encrypted_key") key-plain (r .key) o in
-    let m = header-deepest l (ascii "header") header-plain (r .header) j in
-    ((λ h. m .0 (omega arith)), (λ h. let k = m .1 h in omega arith))
-
-elements-deepest : (l : ℕ) (rs : List RawRecipient) (o : EveryOctets rs) (j : OwnJudged 12 rs) →
-    (deepestElement (elementsOf rs o j) ≤ suc l) ↔ OwnJudged l rs
+elements-within : (n : ℕ) (rs : List RawRecipient) (o : EveryOctets rs) (j : OwnJudged levels rs) →
+    (deepestElement (elementsOf rs o j) ≤ suc n) ↔ OwnJudged n rs
 unfolding deepestElement elementsOf elementOf
-elements-deepest l [] o j = ((λ h. tt), (λ h. omega arith))
-elements-deepest l (r ∷ rs) o j =
+elements-within n [] o j = ((λ h. tt), (λ h. omega arith))
+elements-within n (r ∷ rs) o j =
     let e = object-levels (ownFields r (o .0) (j .0)) in
-    let m = own-deepest l r (o .0) (j .0) in
-    let k = elements-deepest l rs (o .1) (j .1) in
-    ((λ h. (m .0 (omega arith), k .0 (omega arith))), (λ h. let a = m .1 (h .0) in let b = k .1 (h .1) in omega arith))
+    let m = table-deepest n (ownLines r (o .0) (j .0)) in
+    let t = own-within n r (o .0) (j .0) in
+    let k = elements-within n rs (o .1) (j .1) in (
+      (λ h. (t .0 (m .0 (omega arith)), k .0 (omega arith))),
+      (λ h. let a = m .1 (t .1 (h .0)) in let b = k .1 (h .1) in omega arith),
+    )
 
-recipients-deepest : (general : Bool) (rs : List RawRecipient) (o : EveryOctets rs) (j : OwnJudged 12 rs) → Counts general rs →
-    (deepestField (recipientFields general rs o j) ≤ 11) ↔ OwnJudged (ownLevels general) rs
-unfolding deepestField recipientFields
-recipients-deepest true rs o j n =
-    let e = array-levels (elementsOf rs o j) in
-    let m = elements-deepest 9 rs o j in
-    ((λ h. m .0 (omega arith)), (λ h. let k = m .1 h in omega arith))
-recipients-deepest false [] o j n = absurd n
-recipients-deepest false (r ∷ []) o j n =
-    let m = own-deepest 11 r (o .0) (j .0) in
+recipients-within : (general : Bool) (rs : List RawRecipient) (o : EveryOctets rs) (j : OwnJudged levels rs) → Counts general rs →
+    LinesWithin sharedLevels (recipientLines general rs o j) ↔ OwnJudged (ownLevels general) rs
+unfolding recipientLines
+recipients-within true rs o j n =
+    let m = elements-within (ownLevels true) rs o j in
+    ((λ h. m .0 (omega (arith, h .0))), (λ h. let k = m .1 h in (omega arith, tt)))
+recipients-within false [] o j n = absurd n
+recipients-within false (r ∷ []) o j n =
+    let m = own-within sharedLevels r (o .0) (j .0) in
     ((λ h. (m .0 h, tt)), (λ h. m .1 (h .0)))
-recipients-deepest false (r ∷ s ∷ rs) o j n = absurd n
+recipients-within false (r ∷ s ∷ rs) o j n = absurd n
 
-module _ (general : Bool) (c : RawMessage) (o : MessageOctets c) (j : TextsJudged 12 12 c) (n : Counts general (c .recipients)) where
-  pub top-deepest : (deepestField (topFields general c o j) ≤ 11) ↔ TextsJudged 11 (ownLevels general) c
-  unfolding topFields deepestField stringField
+last-within : (n : ℕ) (c : RawMessage) (o : MessageOctets c) → LinesWithin n (lastLines c o)
+unfolding lastLines
+last-within n c o = (tt, (tt, (tt, (tt, tt))))
+
+module _ (general : Bool) (c : RawMessage) (o : MessageOctets c) (j : TextsJudged levels levels c)
+    (n : Counts general (c .recipients)) where
+  abbrev R : List Line
+  R = recipientLines general (c .recipients) (o .keys) (j .own)
+
+  pub top-deepest : (deepestField (topFields general c o j) ≤ sharedLevels) ↔ TextsJudged sharedLevels (ownLevels general) c
+  unfolding topLines protectedLine sharedLine
   top-deepest =
-      let P = componentFields (ascii "protected") protected-plain (c .protected) (o .protected) in
-      let H = headerFields (ascii "unprotected") unprotected-plain (c .shared) (j .shared) in
-      let R = recipientFields general (c .recipients) (o .keys) (j .own) in
-      let A = componentFields (ascii "aad") aad-plain (c .aad) (o .aad) in
-      let I = componentFields (ascii "iv") iv-plain (c .iv) (o .iv) in
-      let C = stringField (ascii "ciphertext") (c .ciphertext) ciphertext-plain (o .ciphertext) in
-      let G = componentFields (ascii "tag") tag-plain (c .tag) (o .tag) in
-      let last : deepestField (C ∷ G) ≡ 0 =
-      flat-one C G (string-levels (encoded (c .ciphertext)) (encoded-plain (c .ciphertext) (o .ciphertext)))
-      (component-deepest (ascii "tag") tag-plain (c .tag) (o .tag)) in
-      let rest : deepestField (A ++ (I ++ (C ∷ G))) ≡ 0 =
-      flat-append A (I ++ (C ∷ G)) (component-deepest (ascii "aad") aad-plain (c .aad) (o .aad))
-      ∙ flat-append I (C ∷ G) (component-deepest (ascii "iv") iv-plain (c .iv) (o .iv))
-      ∙ last in
-      let whole : deepestField (P ++ (H ++ (R ++ (A ++ (I ++ (C ∷ G)))))) ≡ max (deepestField H) (deepestField R) =
-      flat-append P (H ++ (R ++ (A ++ (I ++ (C ∷ G)))))
-      (component-deepest (ascii "protected") protected-plain (c .protected) (o .protected))
-      ∙ deepest-append H (R ++ (A ++ (I ++ (C ∷ G))))
-      ∙ ap (max (deepestField H)) (deepest-append R (A ++ (I ++ (C ∷ G))) ∙ ap (max (deepestField R)) rest ∙ max-zero (deepestField R)) in
-      let h = header-deepest 11 (ascii "unprotected") unprotected-plain (c .shared) (j .shared) in
-      let r = recipients-deepest general (c .recipients) (o .keys) (j .own) n in (
-        (λ k. record { shared = h .0 (omega (arith, whole, k)); own = r .0 (omega (arith, whole, k)) }),
-        (λ k. let x = h .1 (k .shared) in let y = r .1 (k .own) in omega (arith, whole, x, y)),
+      let m = table-deepest sharedLevels (topLines general c o j) in
+      let r = recipients-within general (c .recipients) (o .keys) (j .own) n in
+      let P : Line → Type 0 = λ l. Within sharedLevels (l .content) in (
+        (λ k.
+            let h = m .0 k in
+            record { shared = h .1 .0; own = r .0 (every-front P R (lastLines c o) (h .1 .1)) }),
+        (λ k. m .1 (tt, (k .shared, every-append P R (lastLines c o) (r .1 (k .own)) (last-within sharedLevels c o)))),
       )
 
   -- Refusal 7 on the whole, by its pieces.
-  pub json-reads : Reading 12 (jsonText general c) ↔ TextsJudged 11 (ownLevels general) c
+  pub json-reads : Reading levels (jsonText general c) ↔ TextsJudged sharedLevels (ownLevels general) c
   json-reads =
-      let m = object-reads 11 (topFields general c o j) in
+      let m = object-reads sharedLevels (topFields general c o j) in
       let e = json-text general c o j in (
-        (λ r. top-deepest .0 (m .0 (subst (Reading 12) (sym e) r))),
-        (λ k. subst (Reading 12) e (m .1 (top-deepest .1 k))),
+        (λ r. top-deepest .0 (m .0 (subst (Reading levels) (sym e) r))),
+        (λ k. subst (Reading levels) e (m .1 (top-deepest .1 k))),
       )

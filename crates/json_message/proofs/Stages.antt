@@ -29,28 +29,30 @@ use Rattle.headers.specs.Headers.{headerText, unread, textOrder, outermost, pro
 use Rattle.headers.specs.Headers.{objectOrder}
 use Rattle.shape.specs.Shape as shape
 use Rattle.shape.specs.Shape.{component, wrongTop, wrongElements}
-use Rattle.shape.specs.Recipients.{Top, topOf, topEntries, topOrder, elementsIn, elementOrder, elementsOrder, recipientsIn}
+use Rattle.shape.specs.Recipients.{topOf, topEntries, topOrder, elementsIn, elementOrder, elementsOrder, recipientsIn}
 use Rattle.shape.specs.Recipients.{componentsIn}
 use Rattle.jwe.specs.General.{sharedEntries, ownEntries, parameters, allPlaces, anyMisspelled, isHollow, protectedOrder}
 use Rattle.jwe.specs.General.{headersOrder, recipientsOrder, jsonSpelled, jsonLater, jsonOrder}
 use Rattle.recipients.specs.Table.{RawRecipient}
 use Rattle.json_text.proofs.Made.{deepestField}
 use Rattle.json_message.specs.JsonText.{RawMessage}
-use Rattle.json_message.specs.Handed.{MessageOctets, textEntries, movedEntry}
+use Rattle.json_message.specs.Handed.{MessageOctets, textEntries, movedEntry, memberLists}
 use Rattle.json_message.specs.Inner.Judged.{Judged, sharedLevels, TextsJudged}
-use Rattle.json_message.specs.Inner.PiecesOrder.{unreadInside, hollowText, hollowInside, protectedTests, piecesEntries}
+use Rattle.json_message.specs.Inner.PiecesOrder.{unreadInside, hollowText, hollowInside, protectedTests}
 use Rattle.json_message.specs.Inner.PiecesOrder.{rawSizes, objectsOrder, rulesOf, parametersOrder, piecesOrder}
-use Rattle.json_message.proofs.Fields.{topFields}
 use Rattle.json_message.proofs.Readable.{Counts}
 use Rattle.json_message.proofs.Agree.{Agree, agree-refl, agree-same, agree-trans, agree-append, agree-before, agree-pass}
 use Rattle.json_message.proofs.Agree.{agree-test, agree-each, agree-or}
 use Rattle.json_message.proofs.Moving.{header-moved}
+use Rattle.json_message.proofs.FieldEntries.{or-none}
 use Rattle.json_message.proofs.Parameters.{StandsIf, order-moved, recipient-pieces}
-use Rattle.json_message.proofs.Located.{ComponentAt, startIf}
-use Rattle.json_message.proofs.Elements.{RecipientIs, ElementIs, elements-agree, elements-objects}
-use Rattle.json_message.proofs.Top.{topHollow, isThere, whole, protected-at, shared-at, aad-at, iv-at, ciphertext-at, tag-at}
+use Rattle.json_message.proofs.Located.{startIf}
+use Rattle.json_message.proofs.Tables.{topFields}
+use Rattle.json_message.proofs.Lines.{isThere}
+use Rattle.json_message.proofs.Elements.{RecipientIs, recipients-are, ElementIs, elements-agree, elements-objects}
+use Rattle.json_message.proofs.Top.{topHollow, whole, protected-at, shared-at, aad-at, iv-at, ciphertext-at, tag-at}
 use Rattle.json_message.proofs.Top.{protected-there, general-there, top-passes, top-shape, top-entries, elements-there}
-use Rattle.json_message.proofs.Top.{recipients-found}
+use Rattle.json_message.proofs.Top.{recipients-found, recipients-listed}
 
 -- A header's entries, where it stands
 
@@ -96,10 +98,6 @@ abbrev elementTests : Bool → List RawRecipient → List Test
 elementTests true rs = 10 if any (λ r. hollowText (r .header)) rs ∷ []
 elementTests false rs = []
 
-or-none : (b : Bool) → (b || false) ≡ b
-or-none true = refl
-or-none false = refl
-
 -- All tens in one.
 tens : (g : Bool) (h : Bool) (rs : List RawRecipient) → Counts g rs →
     Agree (10 if (h || topHollow g rs) ∷ elementTests g rs) (10 if (h || any (λ r. hollowText (r .header)) rs) ∷ [])
@@ -141,12 +139,14 @@ module _ (general : Bool) (c : RawMessage) (o : MessageOctets c) (j : TextsJudge
   Q = recipientsIn W E
 
   pub found : Beside (RecipientIs W) Q (c .recipients)
-  found = recipients-found general c o j d k
+  found =
+      subst (λ qs. Beside (RecipientIs W) qs (c .recipients)) (sym (recipients-listed W))
+      (recipients-are W (memberLists W) (c .recipients) (recipients-found general c o j d k))
 
   pub header-is : headerText W (topOf E .components .protected) ≡ c .protected
   unfolding headerText
   header-is =
-      ap (λ es. decoded (octetsAt W (component 1 es))) (top-entries general c o j d)
+      ap (λ es. decoded (octetsAt W (component shape.protected es))) (top-entries general c o j d)
       ∙ ap decoded (protected-at general c o j .spelled)
       ∙ decode-encode (c .protected) (o .protected)
 
@@ -160,7 +160,7 @@ module _ (general : Bool) (c : RawMessage) (o : MessageOctets c) (j : TextsJudge
   pub shared-is : sharedEntries W (topOf E) ≡ map (movedEntry S) (textEntries 1 (c .shared))
   unfolding sharedEntries S
   shared-is =
-      ap (λ es. headerEntries W 1 (valueOf 2 es .start)) (top-entries general c o j d)
+      ap (λ es. headerEntries W 1 (valueOf shape.unprotected es .start)) (top-entries general c o j d)
       ∙ ap (headerEntries W 1) (shared-at general c o j .starts)
       ∙ header-entries W (shared-at general c o j .from) 1 (c .shared) (shared-at general c o j .later)
       (shared-at general c o j .stands) (j .shared)
@@ -173,8 +173,8 @@ module _ (general : Bool) (c : RawMessage) (o : MessageOctets c) (j : TextsJudge
 
   -- 7 to 11
 
-  present-general : present 5 E ≡ general
-  present-general = ap (present 5) (top-entries general c o j d) ∙ general-there general c o j
+  present-general : present shape.recipients E ≡ general
+  present-general = ap (present shape.recipients) (top-entries general c o j d) ∙ general-there general c o j
 
   stage-top : Agree (topOrder W)
       (7 if unread W ∷ 10 if (hollowText (c .shared) || topHollow general (c .recipients)) ∷ [])
@@ -183,7 +183,7 @@ module _ (general : Bool) (c : RawMessage) (o : MessageOctets c) (j : TextsJudge
       agree-append (agree-refl {xs = 7 if unread W ∷ []})
       (subst (λ es. Agree (objectOrder W es ++ (10 if wrongTop W es ∷ []))
       (10 if (hollowText (c .shared) || topHollow general (c .recipients)) ∷ [])) (sym (top-entries general c o j d))
-      (agree-append (top-passes general c o j k) (agree-test 10 (top-shape general c o j))))
+      (agree-append (top-passes general c o j) (agree-test 10 (top-shape general c o j))))
 
   module _ (some : 1 ≤ length (c .recipients)) (few : length (c .recipients) ≤ mostRecipients) where
     stage-elements : Agree (elementsOrder W E) (elementTests general (c .recipients))
@@ -223,11 +223,11 @@ module _ (general : Bool) (c : RawMessage) (o : MessageOctets c) (j : TextsJudge
   unfolding anyMisspelled allPlaces any
   stage-spelled =
       let e = top-entries general c o j d in
-      ap₂ _||_ (spelled-at 1 (c .protected) e (o .protected) (protected-at general c o j .spelled))
-      (ap₂ _||_ (spelled-at 6 (c .iv) e (o .iv) (iv-at general c o j .spelled))
-      (ap₂ _||_ (spelled-at 7 (c .aad) e (o .aad) (aad-at general c o j .spelled))
-      (ap₂ _||_ (spelled-at 8 (c .ciphertext) e (o .ciphertext) (ciphertext-at general c o j .spelled))
-      (ap₂ _||_ (spelled-at 9 (c .tag) e (o .tag) (tag-at general c o j .spelled))
+      ap₂ _||_ (spelled-at shape.protected (c .protected) e (o .protected) (protected-at general c o j .spelled))
+      (ap₂ _||_ (spelled-at shape.iv (c .iv) e (o .iv) (iv-at general c o j .spelled))
+      (ap₂ _||_ (spelled-at shape.aad (c .aad) e (o .aad) (aad-at general c o j .spelled))
+      (ap₂ _||_ (spelled-at shape.ciphertext (c .ciphertext) e (o .ciphertext) (ciphertext-at general c o j .spelled))
+      (ap₂ _||_ (spelled-at shape.tag (c .tag) e (o .tag) (tag-at general c o j .spelled))
       (keys-spelled W Q (c .recipients) found)))))
 
   -- 6, 7 and 10 on the protected header
@@ -236,7 +236,7 @@ module _ (general : Bool) (c : RawMessage) (o : MessageOctets c) (j : TextsJudge
   unfolding protectedOrder
   stage-protected =
       ap (λ b. cond b (textOrder (c .protected) ++ (10 if isHollow (outermost (c .protected)) ∷ [])) [])
-      (ap (present 1) (top-entries general c o j d) ∙ protected-there general c o j)
+      (ap (present shape.protected) (top-entries general c o j d) ∙ protected-there general c o j)
       ∙ protected-tests (c .protected)
 
   -- 8 and 9 on each header
@@ -262,9 +262,9 @@ module _ (general : Bool) (c : RawMessage) (o : MessageOctets c) (j : TextsJudge
   sizes-are q r h =
       let e = top-entries general c o j d in
       let key = size-back (q .key .size) (r .key) (h .size) in
-      let iv = size-at 6 (c .iv) e (iv-at general c o j .size) in
-      let ciphertext = size-at 8 (c .ciphertext) e (ciphertext-at general c o j .size) in
-      let tag = size-at 9 (c .tag) e (tag-at general c o j .size) in
+      let iv = size-at shape.iv (c .iv) e (iv-at general c o j .size) in
+      let ciphertext = size-at shape.ciphertext (c .ciphertext) e (ciphertext-at general c o j .size) in
+      let tag = size-at shape.tag (c .tag) e (tag-at general c o j .size) in
       λ i. record { key = key i; iv = iv i; ciphertext = ciphertext i; tag = tag i }
 
   module _ (known : List (List ℕ)) where

@@ -4,7 +4,7 @@ use mathlib.Core.List.{List, [], _∷_, _++_, append-assoc, reverse, reverseAux,
 use mathlib.Core.Bool.{Bool, false, cond}
 use Prim.Native.Nat.{ℕ, _+_, _-_}
 use native.Mathlib.Omega.{arith}
-use lib.ListN.{length, length-append, take, drop}
+use lib.ListN.{length, length-append, take}
 use lib.Seq.{drop-append-seam, take-append-seam}
 use Rattle.parts.specs.Parts.{part}
 use Rattle.parts.proofs.Laws.{part-fits}
@@ -80,7 +80,8 @@ module _ (a : Space) (u : List ℕ) (b : Space) (v : Value) (k : kind v ≡ 0)
       ap trimmed is
       ∙ trimmed-between a 123 u 125 b refl refl
       ∙ sym (part-between (octets a) (123 ∷ (u ++ (125 ∷ []))) (octets b))
-      ∙ sym (ap₂ (λ (w : List ℕ) (n : ℕ). part w n (length w - (n + length (octets b)))) is (ap (λ (z : Space). length (octets z)) before))
+      ∙ sym (ap₂ (λ (w : List ℕ) (n : ℕ). part w n (length w - (n + length (octets b)))) is
+      (ap (λ (z : Space). length (octets z)) before))
       ∙ sym (ap (λ (z : Space). part (leavesValue v) (length (octets (leading v)))
       (length (leavesValue v) - (length (octets (leading v)) + length (octets z)))) behind)
 
@@ -93,7 +94,8 @@ value-trimmed (nested curly x es y) k =
     (simp append-assoc) refl refl
 value-trimmed (nested square x es y) k = absurd (omega arith)
 value-trimmed (empty curly x y) k =
-    object-trimmed (x .before) (octets (x .after) ++ octets (y .before)) (y .after) (empty curly x y) k (simp append-assoc) refl refl
+    object-trimmed (x .before) (octets (x .after) ++ octets (y .before)) (y .after) (empty curly x y) k (simp append-assoc)
+    refl refl
 value-trimmed (empty square x y) k = absurd (omega arith)
 value-trimmed (string x) k = absurd (omega arith)
 value-trimmed (number x) k = absurd (omega arith)

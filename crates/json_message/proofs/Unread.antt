@@ -1,5 +1,5 @@
 -- Refusal 7 by the texts: none is refused exactly where each reads within the levels that are left to it.
-use mathlib.Core.Path.{_≡_, refl, sym, ap}
+use mathlib.Core.Path.{_≡_, refl, ap}
 use mathlib.Core.List.{List, [], _∷_}
 use mathlib.Core.Bool.{Bool, true, false, _||_, true≢false}
 use mathlib.Core.Logic.{_↔_}
@@ -71,7 +71,7 @@ alone-iff c =
 
 -- What reads within fewer levels reads within more.
 
-text-more : (l m : ℕ) → l ≤ m → (w : List ℕ) → Judged l w → Judged m w
+pub text-more : (l m : ℕ) → l ≤ m → (w : List ℕ) → Judged l w → Judged m w
 text-more l m h [] j = tt
 text-more l m h (c ∷ w) j = record {
   text = j .text;
@@ -90,7 +90,8 @@ own-fewer : (general : Bool) → ownLevels general ≤ levels
 own-fewer true = omega arith
 own-fewer false = omega arith
 
-pub inside-alone : (general : Bool) (c : RawMessage) → TextsJudged sharedLevels (ownLevels general) c → TextsJudged levels levels c
+pub inside-alone : (general : Bool) (c : RawMessage) → TextsJudged sharedLevels (ownLevels general) c →
+    TextsJudged levels levels c
 inside-alone general c j = record {
   shared = text-more sharedLevels levels (omega arith) (c .shared) (j .shared);
   own = own-more (ownLevels general) levels (own-fewer general) (c .recipients) (j .own);

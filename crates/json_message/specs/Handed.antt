@@ -1,5 +1,5 @@
--- What the reader hands out of a written message, for each of its recipients: what was written, the shared and the own header without
--- the space around them.
+-- What the reader hands out of a written message, for each of its recipients: what was written, the shared and the own header
+-- without the space around them.
 use mathlib.Core.Path.{_≡_}
 use mathlib.Core.List.{List, [], _∷_, _++_, map, reverse}
 use mathlib.Core.Bool.{Bool, cond}
@@ -29,17 +29,18 @@ pub record MessageOctets (c : RawMessage) : Type 0 where
   pub ciphertext : AllBelow 256 (c .ciphertext)
   pub tag : AllBelow 256 (c .tag)
 
--- The recipient with a number.
+-- The n-th recipient, counted from 0.
 unfoldable pub numberedRecipient : List RawRecipient → ℕ → RawRecipient
 numberedRecipient [] n = record { header = []; key = [] }
 numberedRecipient (r ∷ rs) zero = r
 numberedRecipient (r ∷ rs) (suc n) = numberedRecipient rs n
 
--- A text without the space before it, and without that on both sides.
+-- A text without the space before it.
 unfoldable pub dropSpace : List ℕ → List ℕ
 dropSpace [] = []
 dropSpace (c ∷ w) = let rest = dropSpace w in cond (isSpace c) rest (c ∷ w)
 
+-- A text without the space around it: without that before it, and, turned round, without that behind it.
 unfoldable pub trimmed : List ℕ → List ℕ
 trimmed w = reverse (dropSpace (reverse (dropSpace w)))
 
@@ -67,14 +68,15 @@ memberLists message =
     let es = topEntries message in
     cond (present shape.recipients es) (map (λ x. elementEntries message (x .start)) (elementsIn message es)) (es ∷ [])
 
--- The list with a number.
+-- The n-th of them.
 unfoldable pub numberedList : List (List Entry) → ℕ → List Entry
 numberedList [] n = []
 numberedList (es ∷ ess) zero = es
 numberedList (es ∷ ess) (suc n) = numberedList ess n
 
 -- What is handed out for the recipient r, whose members stand among the entries `own`.
-pub record HandedTo (general : Bool) (c : RawMessage) (r : RawRecipient) (own : List Entry) (message : List ℕ) (x : Outcome) : Type 0 where
+pub record HandedTo (general : Bool) (c : RawMessage) (r : RawRecipient) (own : List Entry) (message : List ℕ)
+    (x : Outcome) : Type 0 where
   pub form : x .form ≡ cond general generalForm flattenedForm
   pub recipients : x .recipients ≡ length (c .recipients)
   -- The components decode to what was given.
@@ -97,6 +99,7 @@ pub record HandedTo (general : Bool) (c : RawMessage) (r : RawRecipient) (own : 
       ≡ protectedEntries (c .protected)
       ++ (map (movedEntry sharedFrom) (textEntries 1 (c .shared)) ++ map (movedEntry ownFrom) (textEntries 2 (r .header)))
 
+-- What is handed out for the n-th recipient.
 abbrev pub JsonHanded : Bool → RawMessage → ℕ → List ℕ → Outcome → Type 0
 JsonHanded general c n message x =
     HandedTo general c (numberedRecipient (c .recipients) n) (numberedList (memberLists message) n) message x

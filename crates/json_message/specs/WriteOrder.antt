@@ -1,5 +1,5 @@
--- The JSON writer's refusals in order (request 1/12), from 6 on: 6; 7 on each text; 2; then the reader's from 7 on; 1 last. Before them
--- 3 is asked of the known names and 20 of the table of recipients.
+-- The JSON writer's refusals in order (request 1/12), from 6 on: 6; 7 on each text; 2; then the reader's from 7 on; 1 last.
+-- Before them 3 is asked of the known names and 20 of the table of recipients.
 use mathlib.Core.List.{List, [], _∷_, _++_}
 use mathlib.Core.Bool.{Bool, true, false, _||_}
 use Prim.Native.Nat.{ℕ}
@@ -29,8 +29,8 @@ unreadAlone c =
     unreadWithin levels (c .protected)
     || (unreadWithin levels (c .shared) || any (λ r. unreadWithin levels (r .header)) (c .recipients))
 
--- The refusals from 6 on, by the known names and the length of the lent output. That the number of a recipient is not below their
--- count (19) cannot be refused of the first.
+-- The refusals from 6 on, by the known names and the length of the lent output. The reader is asked for the first recipient: its
+-- refusals are the same for each.
 unfoldable pub messageOrder : Bool → RawMessage → List (List ℕ) → ℕ → List Test
 messageOrder general c known room =
     let message = jsonText general c in

@@ -1,7 +1,7 @@
 -- What reads alone reads the same where it stands in a larger text: w between a and b. Of b it matters only that it does not
 -- go on with an octet of a number, as a comma and a closing bracket do not.
 use mathlib.Core.Path.{_≡_, refl, sym, ap, ap₂, subst, _∙_}
-use mathlib.Core.List.{List, _++_, map, append-assoc}
+use mathlib.Core.List.{List, [], _++_, map, append-assoc, append-nil}
 use Prim.Native.Nat.{ℕ, _+_, _≤_}
 use native.Mathlib.Omega.{arith}
 use lib.ListN.{length, length-append, take, drop}
@@ -31,6 +31,10 @@ pub record Stands (s : List ℕ) (m : ℕ) (w : List ℕ) : Type 0 where
 -- Between a and b.
 pub between : (a w b : List ℕ) → T (halts isNumber b) → Stands (a ++ (w ++ b)) (length a) w
 between a w b h = record { after = b; is = drop-append-seam a (w ++ b); ends = h }
+
+-- Alone.
+pub stands-whole : (s : List ℕ) → Stands s 0 s
+stands-whole s = record { after = []; is = sym (append-nil s); ends = tt }
 
 -- The octets at a place of w are those at the place moved.
 pub octets-moved : {s : List ℕ} {m : ℕ} {w : List ℕ} → Stands s m w → (q : Place) → q .start + q .size ≤ length w →

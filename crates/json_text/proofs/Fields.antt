@@ -24,7 +24,8 @@ use Rattle.json_text.proofs.Embedded.{Stands, here, shown-members, show
 use Rattle.json_text.proofs.Assembled.{slotText, assembled-placed, partsFrom}
 use Rattle.json_text.proofs.Made.{Made, Field, Element, fieldText, fieldSlot, elementSlot, field-leaves}
 use Rattle.json_text.proofs.Made.{element-leaves, fields-leaves, elements-leaves, object, array, object-levels}
-use Rattle.json_text.proofs.Made.{object-is, array-is, array-levels, deepestField, deepestElement, str-leaves, chars-leaves, strOf}
+use Rattle.json_text.proofs.Made.{object-is, array-is, array-levels, deepestField, deepestElement, str-leaves}
+use Rattle.json_text.proofs.Made.{chars-leaves, strOf}
 
 -- The reader shows everything in a made text where it stands.
 pub made-shows : (l : ℕ) {s : List ℕ} {m : ℕ} {w : List ℕ} (x : Made w) → Stands s m w → levels (x .value) ≤ l →

@@ -3,9 +3,10 @@ use mathlib.Core.Path.{_≡_, refl, sym, ap, ap₂, _∙_}
 use mathlib.Core.List.{List, [], _∷_, _++_, append-nil, append-assoc}
 use mathlib.Core.Bool.{Bool, true, false}
 use Prim.Native.Nat.{ℕ, _+_}
+use native.Mathlib.Omega.{arith}
 use lib.ListN.{length, length-append}
-use Rattle.grammar.specs.Grammar.{comma}
-use Rattle.json_text.specs.Pieces.{joined}
+use Rattle.grammar.specs.Grammar.{comma, Bracket, closing}
+use Rattle.json_text.specs.Pieces.{joined, bracketed}
 use Rattle.json_text.specs.Inner.Led.{ledOne, led, begunAfter, ledSize, ledTotal}
 
 pub joined-led : (ws : List (List ℕ)) → joined ws ≡ led false ws
@@ -33,3 +34,9 @@ pub led-length : (begun : Bool) (ws : List (List ℕ)) → length (led begun ws)
 unfolding led ledTotal
 led-length begun [] = refl
 led-length begun (w ∷ ws) = length-append (ledOne begun w) (led true ws) ∙ ap₂ _+_ (one-length begun w) (led-length true ws)
+
+-- How long an object or an array is.
+pub bracketed-length : (b : Bracket) (ws : List (List ℕ)) → length (bracketed b ws) ≡ ledTotal false ws + 2
+unfolding bracketed
+bracketed-length b ws =
+    omega (arith, length-append (joined ws) (closing b ∷ []), ap length (joined-led ws), led-length false ws)

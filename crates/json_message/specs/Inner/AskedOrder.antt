@@ -1,6 +1,6 @@
--- The writer's refusals from 6 on in the order in which the code asks them: no text is judged twice. Where the message would be too
--- long, no text is judged where it would stand; where it is not, each is judged there only, since what has no reading within all levels
--- has none within fewer.
+-- The writer's refusals from 6 on in the order in which the code asks them: no text is judged twice. Where the message would
+-- be too long, no text is judged where it would stand; where it is not, each is judged there only, since what has no reading
+-- within all levels has none within fewer.
 use mathlib.Core.List.{List, [], _∷_, _++_}
 use mathlib.Core.Bool.{Bool, true, _||_, cond}
 use Prim.Native.Nat.{ℕ}

@@ -1,5 +1,5 @@
--- The reader's refusals from 7 on of a written message, by its pieces: what the writer can ask before it writes anything. The texts have
--- been judged alone before.
+-- The reader's refusals from 7 on of a written message, by its pieces: what the writer can ask before it writes anything. The
+-- texts have been judged alone before.
 use mathlib.Core.List.{List, [], _∷_, _++_, flatMap}
 use mathlib.Core.Bool.{Bool, false, _||_}
 use Prim.Native.Nat.{ℕ}
