@@ -1,2 +1,5 @@
 pub mod Texts
 pub mod Walk
+pub mod Stages
+pub mod Tables
+pub mod Recipients

@@ -1,15 +1,15 @@
 // The pieces that the JSON writer is given, judged before anything is written: what the reader will say of the message that
 // they make. What is asked, and in which order, stands in json_message's specs/Inner.
 ghost use mathlib.Core.Path.{_≡_};
-ghost use mathlib.Core.Bool.{true, false};
-ghost use mathlib.Core.List.{_++_};
+ghost use mathlib.Core.Bool.{true, cond};
 ghost use Prim.Native.Nat.{_+_, _*_, _≤_};
 ghost use lib.ListN.{length};
+ghost use lib.Dec.{eqb};
 ghost use Rattle.prelude.specs.Any.{any};
 ghost use Rattle.prelude.specs.Limits.{levels, longest};
 ghost use Rattle.prelude.specs.Refusals.{first, stageOf};
 ghost use Rattle.names.specs.Names.{names, filled};
-ghost use Rattle.rows.specs.Tables.{headerTable, recipientTable, width};
+ghost use Rattle.rows.specs.Tables.{headerTable, width};
 ghost use Rattle.rows.specs.Inner.Prints.{collectedTable};
 ghost use Rattle.headers.specs.Headers.{objectOrder};
 ghost use Rattle.recipients.specs.Parsed.{recipientsIn, saidCount, soundTable};
@@ -18,7 +18,7 @@ ghost use Rattle.json_message.specs.WriteOrder.{unreadWithin};
 ghost use Rattle.json_message.specs.Inner.Judged.{ownLevels};
 ghost use Rattle.json_message.specs.Inner.PiecesOrder.{hollowText};
 ghost use Rattle.jwe.specs.Answers.{refusedBy};
-ghost use Rattle.json_judge.specs.Inner.Asked.{Readable, OwnReadable, OwnShort, Front, recipientsTests, parametersTests};
+ghost use Rattle.json_judge.specs.Inner.Asked.{Readable, OwnReadable, OwnShort, Front, ownTests, rulesTests, recipientsTests, parametersTests};
 ghost use Rattle.json_judge.specs.Inner.Asked.{unreadTexts, hollowTexts, overTests, withinTests};
 use jose::Sizes;
 use json::Found;
@@ -120,9 +120,54 @@ fn number(stage: Stage) -> u32
     n
 }
 
-// 8 and 9 on each recipient's own header, and 12 to 18 on each recipient. The first entries of the table are all recipients'; what
-// stands behind them afterwards is free: the table is the caller's own. Each own header is collected once: while the later ones
-// are asked for 8 and 9, the first refusal of an earlier recipient waits.
+// What a recipient is refused for: 8 or 9 on its own header, and, where that passes, 12 to 18. 0 where for nothing.
+struct Faults {
+    object: u32,
+    rules: u32,
+}
+
+// A recipient with this own header and these sizes judged. The first entries of the table are all recipients', and stay; what stands
+// behind them afterwards is free: the table is a caller's own.
+fn judge_recipient(
+    header: &[u8],
+    shared: &[u8],
+    own: &[u8],
+    known: &[u8],
+    sizes: Sizes,
+    table: &mut [u32],
+    front: usize,
+) -> Faults
+    requires { ⌜ filled (now known) ≡ true ⌝ }
+    requires { ⌜ Readable (now own) ⌝ }
+    requires { ⌜ front * width + headerTable ≤ length (now table) ⌝ }
+    requires { ⌜ Front (now header) (now shared) front (now table) ⌝ }
+    ensures { λ r. ⌜ r .object ≡ first (ownTests (now (own .entry))) ⌝ }
+    ensures { λ r. ⌜ (r .object ≡ 0 → r .rules ≡ first (rulesTests (names (now (known .entry))) (now (header .entry)) (now (shared .entry)) (now (own .entry)) sizes)) ⌝ }
+    ensures { λ _. ⌜ (length (now (table .exit)) ≡ length (now (table .entry))) × Front (now (header .entry)) (now (shared .entry)) front (now (table .exit)) ⌝ }
+{
+    let collected = text_entries(own, 2, table, front);
+    let Stage::Passed(count) = collected else {
+        return Faults {
+            object: number(collected),
+            rules: 0,
+        };
+    };
+    let judged = jose::judge::judge(header, shared, own, known, table, front + count, sizes);
+    Faults {
+        object: 0,
+        rules: number(judged),
+    }
+}
+
+// The first of two refusals that is one.
+fn earlier(a: u32, b: u32) -> u32
+    ensures { λ r. ⌜ r ≡ cond (eqb a 0) b a ⌝ }
+{
+    if a == 0 { b } else { a }
+}
+
+// 8 and 9 on each recipient's own header, and 12 to 18 on each recipient. Each own header is collected once: while the later ones are
+// asked for 8 and 9, the first refusal of an earlier recipient waits.
 fn judge_recipients(
     header: &[u8],
     shared: &[u8],
@@ -148,27 +193,17 @@ fn judge_recipients(
     while i < n {
         let body = recipients::recipient(recipients, i, start);
         let own = parts::part(recipients, body.header.start, body.header.len);
-        let collected = text_entries(own, 2, table, front);
-        let Stage::Passed(count) = collected else {
-            return collected;
+        let its = Sizes {
+            key: body.key.len,
+            iv: sizes.iv,
+            ciphertext: sizes.ciphertext,
+            tag: sizes.tag,
         };
-        if broken == 0 {
-            let all = Sizes {
-                key: body.key.len,
-                iv: sizes.iv,
-                ciphertext: sizes.ciphertext,
-                tag: sizes.tag,
-            };
-            broken = number(jose::judge::judge(
-                header,
-                shared,
-                own,
-                known,
-                table,
-                front + count,
-                all,
-            ));
+        let faults = judge_recipient(header, shared, own, known, its, table, front);
+        if faults.object != 0 {
+            return Stage::Refused(faults.object);
         }
+        broken = earlier(broken, faults.rules);
         start = body.key.start + body.key.len;
         i += 1;
     }

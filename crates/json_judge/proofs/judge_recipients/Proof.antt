@@ -1,82 +1,189 @@
+-- One recipient after the other: what is known before each is `Walked`.
+use mathlib.Core.Path.{_≡_, refl, ap, ap₂, sym, subst, _∙_}
+use mathlib.Core.List.{List}
+use Prim.Native.Nat.{ℕ, _+_, _-_, _≤_, _<_}
+use native.Mathlib.Omega.{arith}
+use lib.ListN.{length}
+use Rattle.prelude.specs.Refusals.{first}
+use Rattle.names.specs.Names.{names}
+use Rattle.jose.specs.declared.Sizes.{Sizes}
+use Rattle.recipients.specs.Parsed.{saidCount, recipientAt}
+use Rattle.recipients.proofs.Places.{start-first, lengths-fit, body-fits, start-next, sound-few}
+use Rattle.json_judge.specs.Inner.Asked.{Readable, withKeySize, ownTests, rulesTests}
+use Rattle.json_judge.proofs.Walk.{header-is, next-start, next-every}
+use Rattle.json_judge.proofs.Recipients.{Walked, key-size, object-stops, object-passes, rules-next, all-refuse, all-pass}
 use borrow.Author.Needs.{needs}
 use Rattle.json_judge.proofs.judge_recipients.Statement.{statement}
 use Rattle.json_judge.proofs.judge_recipients.Tie as tie
-use Rattle.jose.proofs.judge.judge.Reads as judge-reads
-use Rattle.json_judge.proofs.number.Reads as number-reads
-use Rattle.json_judge.proofs.text_entries.Reads as text-entries-reads
-use Rattle.parts.proofs.part.Reads as part-reads
-use Rattle.recipients.proofs.recipient.Reads as recipient-reads
 
 abbrev Inv-loop : tie.InvT-loop
 Inv-loop header shared known recipients n sizes table₀ front broken₀ start₀ i₀ table broken start i =
-    ?
+    Walked (names known) header shared sizes recipients front (length table₀) table broken start i
 
 abbrev μ-loop : tie.MeasureT-loop
-μ-loop header shared known recipients n sizes table₀ front broken₀ start₀ i₀ table broken start i =
-    ?
+μ-loop header shared known recipients n sizes table₀ front broken₀ start₀ i₀ table broken start i = n - i
+
+-- back to the start from the loop, and to the loop from behind `judge_recipient`
+abbrev start : tie.At-loop Inv-loop μ-loop → tie.Start Inv-loop μ-loop
+start at = at .before .before .before .before .before .before
+
+abbrev loop-of : tie.After-judge-recipient Inv-loop μ-loop → tie.At-loop Inv-loop μ-loop
+loop-of c = c .before .before .before .before .before
+
+-- the turn's recipient: its number is below the count, and its own header
+below : (c : tie.After-judge-recipient Inv-loop μ-loop) →
+    loop-of c .loop .i < saidCount (start (loop-of c) .args .recipients .now)
+below c = omega (arith, c .before .before .before .before .loop-test .taken, start (loop-of c) .pre .1 .1 .0)
+
+own-is : (c : tie.After-judge-recipient Inv-loop μ-loop) →
+    c .before .before .part .result .now ≡ recipientAt (start (loop-of c) .args .recipients .now) (loop-of c .loop .i) .header
+own-is c =
+    let at = loop-of c in
+    c .before .before .part .ensures .0
+    ∙ header-is (start at .args .recipients .now) (at .loop .i) _ (c .before .before .before .recipient .ensures)
+
+object-is : (c : tie.After-judge-recipient Inv-loop μ-loop) →
+    c .judge-recipient .result .object ≡ first (ownTests (recipientAt (start (loop-of c) .args .recipients .now) (loop-of c .loop .i) .header))
+object-is c = c .judge-recipient .ensures .0 ∙ ap (λ (w : List ℕ). first (ownTests w)) (own-is c)
 
 mul-start : tie.Need-mul-start Inv-loop μ-loop
-mul-start c = search needs
+mul-start c =
+    let s = c .before .before .before .before .before in
+    omega (arith, lengths-fit (s .args .recipients .now) (s .pre .1 .0), s .pre .1 .1 .0)
 
 add-start : tie.Need-add-start Inv-loop μ-loop
-add-start c = search needs
+add-start c =
+    let s = c .before .before .before .before .before in
+    omega (arith, lengths-fit (s .args .recipients .now) (s .pre .1 .0), s .pre .1 .1 .0)
 
 loop-holds : tie.Need-loop-holds Inv-loop μ-loop
-loop-holds c = search needs
+loop-holds c =
+    let s = c .before .before .before .before .before in
+    record {
+      within = omega arith;
+      at = omega (arith, start-first (s .args .recipients .now), s .pre .1 .1 .0);
+      same = refl;
+      kept = s .pre .1 .1 .1 .1 .1;
+      readable = s .pre .1 .1 .1 .0;
+      objects = refl;
+      rules = refl;
+    }
 
 recipient-requires : tie.Need-recipient-requires Inv-loop μ-loop
-recipient-requires c κs = search needs
+recipient-requires c κs =
+    let at = c .before in
+    let s = start at in
+    (s .pre .1 .0, (omega (arith, c .loop-test .taken, s .pre .1 .1 .0), at .loop .inv .at))
 
 part-requires : tie.Need-part-requires Inv-loop μ-loop
 part-requires c κs = search needs
 
-text-entries-requires : tie.Need-text-entries-requires Inv-loop μ-loop
-text-entries-requires c κs = search needs
-
-enum-known-collected : tie.Need-enum-known-collected Inv-loop μ-loop
-enum-known-collected c = search needs
-
-enum-told : tie.Need-enum-told Inv-loop μ-loop
-enum-told c = search needs
+judge-recipient-requires : tie.Need-judge-recipient-requires Inv-loop μ-loop
+judge-recipient-requires c κs =
+    let at = c .before .before .before .before in
+    let s = start at in
+    let t = s .args .recipients .now in
+    let i = at .loop .i in
+    let inv = at .loop .inv in
+    let here : i < saidCount t = omega (arith, c .before .before .before .loop-test .taken, s .pre .1 .1 .0) in
+    let own = c .before .part .ensures .0 ∙ header-is t i _ (c .before .before .recipient .ensures) in (
+      s .pre .0,
+      (
+        subst Readable (sym own) (next-every (λ r. Readable (r .header)) t i here (inv .readable) .0),
+        (omega (arith, inv .same, s .pre .1 .1 .1 .1 .0), inv .kept),
+      ),
+    )
 
 same-length : tie.Need-same-length Inv-loop μ-loop
 same-length c = search needs
 
 returns : tie.Need-returns Inv-loop μ-loop
-returns c = search needs
+returns c =
+    let call = c .before .before .before .before in
+    let at = loop-of call in
+    let s = start at in
+    (
+      object-stops (names (s .args .known .now)) (s .args .header .now) (s .args .shared .now) (s .args .sizes) (s .args .recipients .now)
+          (at .loop .i) _ (s .args .n) (below call) (object-is call) (c .if1 .taken) (at .loop .inv .objects),
+      call .judge-recipient .ensures .1 .1 .0 ∙ at .loop .inv .same,
+    )
 
-add-judge : tie.Need-add-judge Inv-loop μ-loop
-add-judge c = search needs
-
-judge-requires : tie.Need-judge-requires Inv-loop μ-loop
-judge-requires c κs = search needs
-
-number-requires : tie.Need-number-requires Inv-loop μ-loop
-number-requires c κs = search needs
+earlier-requires : tie.Need-earlier-requires Inv-loop μ-loop
+earlier-requires c κs = search needs
 
 add-start-2 : tie.Need-add-start-2 Inv-loop μ-loop
-add-start-2 c = search needs
+add-start-2 c =
+    let call = c .before .before .before .before .before .before in
+    let at = loop-of call in
+    let s = start at in
+    let t = s .args .recipients .now in
+    let i = at .loop .i in
+    let next = next-start t i _ (call .before .before .before .recipient .ensures) in
+    omega (arith, next, start-next t i, body-fits t (s .pre .1 .0) i (below call))
 
 add-i : tie.Need-add-i Inv-loop μ-loop
-add-i c = search needs
+add-i c =
+    let call = c .before .before .before .before .before .before in
+    let s = start (loop-of call) in
+    omega (arith, below call, sound-few (s .args .recipients .now) (s .pre .1 .0))
 
 loop-less : tie.Need-loop-less Inv-loop μ-loop
-loop-less c = search needs
+loop-less c = omega (arith, c .before .before .before .before .before .before .before .before .before .before .loop-test .taken)
 
 loop-again : tie.Need-loop-again Inv-loop μ-loop
-loop-again c = search needs
+loop-again c =
+    let call = c .before .before .before .before .before .before in
+    let at = loop-of call in
+    let s = start at in
+    let t = s .args .recipients .now in
+    let h = s .args .header .now in
+    let sh = s .args .shared .now in
+    let known = names (s .args .known .now) in
+    let z = s .args .sizes in
+    let i = at .loop .i in
+    let inv = at .loop .inv in
+    let body = call .before .before .before .recipient .ensures in
+    let none = c .before .before .if1 .left in
+    let rules = call .judge-recipient .ensures .1 .0 none
+    ∙ ap₂ (λ (w : List ℕ) (k : ℕ). first (rulesTests known h sh w (withKeySize z k))) (own-is call)
+    (key-size t (s .pre .1 .0) i (below call) _ body) in
+    record {
+      within = omega (arith, below call);
+      at = next-start t i _ body;
+      same = call .judge-recipient .ensures .1 .1 .0 ∙ inv .same;
+      kept = call .judge-recipient .ensures .1 .1 .1;
+      readable = next-every (λ r. Readable (r .header)) t i (below call) (inv .readable) .1;
+      objects = object-passes known h sh z t i _ (below call) (object-is call) none (inv .objects);
+      rules = rules-next known h sh z t i _ (at .loop .broken) _ (below call) rules (c .before .earlier .ensures) (inv .rules);
+    }
 
 same-length-2 : tie.Need-same-length-2 Inv-loop μ-loop
 same-length-2 c = search needs
 
 returns-2 : tie.Need-returns-2 Inv-loop μ-loop
-returns-2 c = search needs
+returns-2 c =
+    let at = c .before .before in
+    let s = start at in
+    let inv = at .loop .inv in (
+      all-refuse (names (s .args .known .now)) (s .args .header .now) (s .args .shared .now) (s .args .sizes) (s .args .recipients .now)
+          (at .loop .i) (at .loop .broken) (omega (arith, c .before .loop-test .left, s .pre .1 .1 .0)) (inv .objects) (inv .rules) (s .args .n)
+          (c .if2 .taken),
+      inv .same,
+    )
 
 same-length-3 : tie.Need-same-length-3 Inv-loop μ-loop
 same-length-3 c = search needs
 
 returns-3 : tie.Need-returns-3 Inv-loop μ-loop
-returns-3 c = search needs
+returns-3 c =
+    let at = c .before .before in
+    let s = start at in
+    let inv = at .loop .inv in (
+      all-pass (names (s .args .known .now)) (s .args .header .now) (s .args .shared .now) (s .args .sizes) (s .args .recipients .now)
+          (at .loop .i) (at .loop .broken) (omega (arith, c .before .loop-test .left, s .pre .1 .1 .0)) (inv .objects) (inv .rules) (s .args .n)
+          (c .if2 .left),
+      inv .same,
+    )
 
 pub judge-recipients-spec : {M : Type 1} → statement M
 judge-recipients-spec =
@@ -89,14 +196,10 @@ judge-recipients-spec =
     loop-holds
     recipient-requires
     part-requires
-    text-entries-requires
-    enum-known-collected
-    enum-told
+    judge-recipient-requires
     same-length
     returns
-    add-judge
-    judge-requires
-    number-requires
+    earlier-requires
     add-start-2
     add-i
     loop-less

@@ -42,19 +42,19 @@ pub record Front (header shared : List ℕ) (front : ℕ) (table : List ℕ) : T
 abbrev pub withKeySize : Sizes → ℕ → Sizes
 withKeySize z key = record { key = key; iv = z .iv; ciphertext = z .ciphertext; tag = z .tag }
 
--- 8 and 9 on a recipient's own header.
-abbrev pub ownTests : RawRecipient → List Test
-ownTests r = objectOrder (r .header) (textEntries 2 (r .header))
+-- 8 and 9 on an own header.
+abbrev pub ownTests : List ℕ → List Test
+ownTests own = objectOrder own (textEntries 2 own)
 
--- 12 to 18 on a recipient.
-abbrev pub rulesTests : List (List ℕ) → List ℕ → List ℕ → Sizes → RawRecipient → List Test
-rulesTests known header shared z r =
-    recipientOrder known (texts header shared (r .header)) (piecesEntries header shared (r .header))
-    (withKeySize z (length (r .key)))
+-- 12 to 18 on a recipient with this own header and these sizes.
+abbrev pub rulesTests : List (List ℕ) → List ℕ → List ℕ → List ℕ → Sizes → List Test
+rulesTests known header shared own z = recipientOrder known (texts header shared own) (piecesEntries header shared own) z
 
--- Both on all of them.
+-- Both on all recipients.
 unfoldable pub recipientsTests : List (List ℕ) → List ℕ → List ℕ → Sizes → List RawRecipient → List Test
-recipientsTests known header shared z rs = flatMap ownTests rs ++ flatMap (rulesTests known header shared z) rs
+recipientsTests known header shared z rs =
+    flatMap (λ r. ownTests (r .header)) rs
+    ++ flatMap (λ r. rulesTests known header shared (r .header) (withKeySize z (length (r .key)))) rs
 
 -- 8 and 9 on the protected and the shared header before.
 unfoldable pub parametersTests : List (List ℕ) → List ℕ → List ℕ → Sizes → List RawRecipient → List Test
