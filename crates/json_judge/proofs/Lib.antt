@@ -3,3 +3,4 @@ pub mod Walk
 pub mod Stages
 pub mod Tables
 pub mod Recipients
+pub mod Orders

@@ -37,6 +37,18 @@ collected s es from before last n a l =
       record { count = told .1; short = omega (arith, told .1, small); wrote = l ∙ few-collected from s es before small },
     )
 
+-- Whatever is collected, the table is as long.
+pub collected-length : (from : ℕ) (s : List ℕ) (es : List Entry) (before : List ℕ) → from * width + 256 ≤ length before →
+    length (collectedTable from s es before) ≡ length before
+unfolding collectedTable
+collected-length from s es before room = cases (leb (length es) 32) refl
+  where
+    cases : (b : Bool) → leb (length es) 32 ≡ b →
+        length (cond b (written (from * width) (flat s es) before) before) ≡ length before
+    cases true t =
+        written-length (from * width) (flat s es) before (omega (arith, room, flat-length s es, leb-true (length es) 32 t))
+    cases false t = refl
+
 -- The entries of a header's text stand in it.
 pub text-stands : (ts : Texts) (o : ℕ) (w : List ℕ) → textOf ts o ≡ w → StandIn ts w (textEntries o w)
 unfolding textEntries
@@ -67,10 +79,13 @@ module _ (header shared : List ℕ) (front : ℕ) (before : List ℕ) (f : Front
           (length last ≡ length before) × Front header shared front last
       cases true t e =
           wrote (flat own (textEntries 2 own)) (omega (arith, room, flat-length own (textEntries 2 own), leb-true (length (textEntries 2 own)) 32 t)) e
-      cases false t e = (ap length e, record {
-        entries = ap (entriesOf front) e ∙ f .entries;
-        printed = λ o. subst₂ (Printed (texts header shared o)) refl (sym e) (f .printed o);
-      })
+      cases false t e = (
+        ap length e,
+        record {
+          entries = ap (entriesOf front) e ∙ f .entries;
+          printed = λ o. subst₂ (Printed (texts header shared o)) refl (sym e) (f .printed o);
+        },
+      )
 
   -- Once they were collected: the recipient's.
   module _ (last : List ℕ) (n : ℕ) (c : Collected own (textEntries 2 own) front before last n) where
@@ -96,9 +111,9 @@ module _ {header shared before table last : List ℕ} {p s : ℕ} (a : Collected
   front-is = record {
     entries = behind a b long;
     printed = λ own. (
-    let ts = texts header shared own in
-    let first = subst₂ (Printed ts) (sym (a .count)) (sym (a .wrote))
-    (printed-written ts header (protectedEntries header) before (entries-stand registered ts header 0 (outermost header) refl)) in
-    subst₂ (Printed ts) (ap (λ (n : ℕ). p + n) (sym (b .count))) (sym (b .wrote))
-    (printed-more ts p shared (textEntries 1 shared) table (omega (arith, a .short, long)) (text-stands ts 1 shared refl) first));
+        let ts = texts header shared own in
+        let first = subst₂ (Printed ts) (sym (a .count)) (sym (a .wrote))
+        (printed-written ts header (protectedEntries header) before (entries-stand registered ts header 0 (outermost header) refl)) in
+        subst₂ (Printed ts) (ap (λ (n : ℕ). p + n) (sym (b .count))) (sym (b .wrote))
+        (printed-more ts p shared (textEntries 1 shared) table (omega (arith, a .short, long)) (text-stands ts 1 shared refl) first));
   }

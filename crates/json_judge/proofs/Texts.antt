@@ -6,7 +6,6 @@ use Prim.Native.Nat.{ℕ, _+_, _*_}
 use native.Mathlib.Omega.{arith}
 use native.Mathlib.Nat.{add-zero}
 use lib.ListN.{length, take, drop, take-append-drop, length-map}
-
 use Rattle.grammar.specs.Grammar.{curly}
 use Rattle.grammar.specs.Reader.{skipSpace, membersAt, readText}
 use Rattle.names.specs.Names.{names}

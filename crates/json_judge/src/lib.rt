@@ -51,7 +51,10 @@ fn own_unread(levels: u32, recipients: &[u8], n: usize) -> bool
     let mut i: usize = 0;
     while i < n {
         let body = recipients::recipient(recipients, i, start);
-        if unread_within(levels, parts::part(recipients, body.header.start, body.header.len)) {
+        if unread_within(
+            levels,
+            parts::part(recipients, body.header.start, body.header.len),
+        ) {
             return true;
         }
         start = body.key.start + body.key.len;
@@ -333,7 +336,14 @@ fn judge_within(
     if HEADER_ROOM < header.len() {
         return Stage::Refused(6);
     }
-    if unread_texts(LEVELS - 1, own_levels(general), header, shared, recipients, n) {
+    if unread_texts(
+        LEVELS - 1,
+        own_levels(general),
+        header,
+        shared,
+        recipients,
+        n,
+    ) {
         return Stage::Refused(7);
     }
     if hollow_texts(header, shared, recipients, n) {

@@ -101,8 +101,7 @@ returns : tie.Need-returns Inv-loop μ-loop
 returns c =
     let call = c .before .before .before .before in
     let at = loop-of call in
-    let s = start at in
-    (
+    let s = start at in (
       object-stops (names (s .args .known .now)) (s .args .header .now) (s .args .shared .now) (s .args .sizes) (s .args .recipients .now)
           (at .loop .i) _ (s .args .n) (below call) (object-is call) (c .if1 .taken) (at .loop .inv .objects),
       call .judge-recipient .ensures .1 .1 .0 ∙ at .loop .inv .same,

@@ -86,8 +86,7 @@ loop-again c =
     let loop = c .before .before .before .before .before .before .loop in
     let here = c .before .before .before .before .before .loop-test .taken in
     let own = c .before .before .before .part .ensures .0 ∙ header-is t (loop .i) _ (c .before .before .before .before .recipient .ensures) in
-    let passed = ap hollowText (sym own) ∙ sym (c .before .before .hollow-text .ensures) ∙ c .before .if1 .left in
-    (
+    let passed = ap hollowText (sym own) ∙ sym (c .before .before .hollow-text .ensures) ∙ c .before .if1 .left in (
       omega (arith, here),
       (
         next-start t (loop .i) _ (c .before .before .before .before .recipient .ensures),

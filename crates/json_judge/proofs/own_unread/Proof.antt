@@ -80,8 +80,7 @@ loop-again c =
     let loop = c .before .before .before .before .before .before .loop in
     let here = c .before .before .before .before .before .loop-test .taken in
     let own = c .before .before .before .part .ensures .0 ∙ header-is t (loop .i) _ (c .before .before .before .before .recipient .ensures) in
-    let passed = ap (unreadWithin l) (sym own) ∙ sym (c .before .before .unread-within .ensures) ∙ c .before .if1 .left in
-    (
+    let passed = ap (unreadWithin l) (sym own) ∙ sym (c .before .before .unread-within .ensures) ∙ c .before .if1 .left in (
       omega (arith, here),
       (
         next-start t (loop .i) _ (c .before .before .before .before .recipient .ensures),

@@ -1,27 +1,37 @@
-use borrow.Author.Needs.{needs}
+-- The texts one after the other.
+use mathlib.Core.Path.{sym, _∙_}
+use Rattle.recipients.specs.Parsed.{recipientsIn}
+use Rattle.json_judge.proofs.Orders.{unread-first, unread-second, unread-third}
 use borrow.Author.Needs.{needs}
 use Rattle.json_judge.proofs.unread_texts.Statement.{statement}
 use Rattle.json_judge.proofs.unread_texts.Tie as tie
-use Rattle.json_judge.proofs.own_unread.Reads as own-unread-reads
-use Rattle.json_judge.proofs.unread_within.Reads as unread-within-reads
 
 unread-within-requires : tie.Need-unread-within-requires
 unread-within-requires c κs = search needs
 
 returns : tie.Need-returns
-returns c = search needs
+returns c =
+    let args = c .before .before .before .before .before .args in
+    unread-first (args .outer) (args .inner) (args .header .now) (args .shared .now) (recipientsIn (args .recipients .now)) (sym (c .before .unread-within .ensures) ∙ c .if1 .taken)
 
 unread-within-requires-2 : tie.Need-unread-within-requires-2
 unread-within-requires-2 c κs = search needs
 
 returns-2 : tie.Need-returns-2
-returns-2 c = search needs
+returns-2 c =
+    let args = c .before .before .before .before .before .before .before .args in
+    unread-second (args .outer) (args .inner) (args .header .now) (args .shared .now) (recipientsIn (args .recipients .now)) (sym (c .before .before .before .unread-within .ensures) ∙ c .before .before .if1 .left)
+    (sym (c .before .unread-within2 .ensures) ∙ c .if2 .taken)
 
 own-unread-requires : tie.Need-own-unread-requires
 own-unread-requires c κs = search needs
 
 returns-3 : tie.Need-returns-3
-returns-3 c = search needs
+returns-3 c =
+    let args = c .before .before .before .before .before .before .before .before .args in
+    c .own-unread .ensures
+    ∙ unread-third (args .outer) (args .inner) (args .header .now) (args .shared .now) (recipientsIn (args .recipients .now)) (sym (c .before .before .before .before .unread-within .ensures) ∙ c .before .before .before .if1 .left)
+    (sym (c .before .before .unread-within2 .ensures) ∙ c .before .if2 .left)
 
 pub unread-texts-spec : {M : Type 1} → statement M
 unread-texts-spec =
