@@ -2,7 +2,7 @@
 use mathlib.Core.Path.{_≡_, refl, ap, ap₂, sym, _∙_}
 use mathlib.Core.Bool.{Bool, true, false}
 use mathlib.Core.List.{List, [], _∷_, _++_, map}
-use Prim.Native.Nat.{ℕ, suc, _+_, _≤_, _<_, min}
+use Prim.Native.Nat.{ℕ, suc, _+_, _≤_, _<_}
 use native.Mathlib.Omega.{arith}
 use lib.ListN.{length, drop, length-append}
 use Rattle.prelude.specs.Limits.{longest}
@@ -13,7 +13,7 @@ use Rattle.recipients.specs.Table.{RawRecipient}
 use Rattle.recipients.specs.Parsed.{saidCount, recipientAt, recipientsIn}
 use Rattle.recipients.proofs.Places.{recipients-next, recipients-end}
 use Rattle.json_text.specs.Pieces.{quoted, memberText, bracketed}
-use Rattle.json_text.specs.Inner.Led.{led, ledOne, ledSize, begunAfter}
+use Rattle.json_text.specs.Inner.Led.{led, ledSize, begunAfter}
 use Rattle.json_message.specs.JsonText.{headerMember, ownMembers, elementText, recipientMembers}
 use Rattle.json_put.specs.Inner.Members.{encodedMember, cut, measured, widened}
 use Rattle.json_put.specs.declared.Cursor.{Cursor}
@@ -71,7 +71,8 @@ module _ (c : Cursor) where
   pub measured-header : (name text : List ℕ) (k : ℕ) (r : Cursor) → (length text ≡ 0 → ⊥) → k ≡ cut (length text) →
       r ≡ widened c (length name + 3 + k) → r ≡ measured c (headerMember name text)
   measured-header name text k r present e f =
-      let same : cut (length name + 3 + k) ≡ cut (length (memberText name text)) = omega (arith, e, member-length name text) in
+      let same : cut (length name + 3 + k) ≡ cut (length (memberText name text)) = omega
+      (arith, e, member-length name text) in
       f ∙ measured-one c (length name + 3 + k) (memberText name text) same
       ∙ sym (ap (measured c) (header-present name text present))
 
@@ -121,7 +122,8 @@ module _ (t : List ℕ) (c : Cursor) where
   measures-next i next r h m e = record {
     low = measured-low next (elementText (recipientAt t i) ∷ []) r e;
     same =
-        measured-append next r (measured r (elementsFrom (i + 1))) (elementText (recipientAt t i) ∷ []) (elementsFrom (i + 1)) e refl
+        measured-append next r (measured r (elementsFrom (i + 1))) (elementText (recipientAt t i) ∷ [])
+        (elementsFrom (i + 1)) e refl
         ∙ sym (ap (λ (rs : List RawRecipient). measured next (map elementText rs)) (recipients-next t i h)) ∙ m .same;
   }
 

@@ -100,8 +100,10 @@ module _ (general : Bool) (protected shared aad iv ciphertext tag table : List �
   unfolding jsonText
   text-is = ap (bracketed curly) members-are
 
-  pub text-parts : jsonText general (given protected shared aad iv ciphertext tag table) ≡ 123 ∷ (led false allMembers ++ (125 ∷ []))
+  pub text-parts : jsonText general (given protected shared aad iv ciphertext tag table)
+      ≡ 123 ∷ (led false allMembers ++ (125 ∷ []))
   text-parts = text-is ∙ bracketed-led curly allMembers
 
-  pub text-size : length (jsonText general (given protected shared aad iv ciphertext tag table)) ≡ length (led false allMembers) + 2
+  pub text-size : length (jsonText general (given protected shared aad iv ciphertext tag table))
+      ≡ length (led false allMembers) + 2
   text-size = ap length text-is ∙ bracketed-length curly allMembers

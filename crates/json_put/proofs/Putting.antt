@@ -9,7 +9,6 @@ use lib.ListN.{length, take, drop, set, length-append, take-append-drop}
 use Rattle.grammar.specs.Grammar.{Bracket, square, opening, closing}
 use Rattle.prelude.specs.Buffer.{written}
 use Rattle.prelude.proofs.Writing.{Writing, begin, begin-as, put, put-part, done, ended, written-length}
-use Rattle.recipients.specs.Table.{RawRecipient}
 use Rattle.recipients.specs.Parsed.{saidCount, recipientAt, recipientsIn}
 use Rattle.recipients.proofs.Places.{recipients-next, recipients-end}
 use Rattle.json_text.specs.Pieces.{memberText, bracketed}

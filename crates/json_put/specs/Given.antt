@@ -1,4 +1,5 @@
--- What the JSON writer is given: the texts of the protected and the shared header, the raw components and the table of recipients.
+-- What the JSON writer is given: the texts of the protected and the shared header, the raw components and the table of
+-- recipients.
 use mathlib.Core.List.{List}
 use Prim.Native.Nat.{ℕ}
 use Rattle.recipients.specs.Parsed.{recipientsIn}

@@ -1,5 +1,5 @@
-// The JSON serialization (RFC 7516, section 7.2) as it is written: how long it is, and its octets put into a buffer. Nothing is
-// judged here. Members of length 0 but ciphertext are left out; a comma stands before each but the first.
+// The JSON serialization (RFC 7516, section 7.2) as it is written: how long it is, and its octets put into a buffer. Nothing
+// is judged here. Members of length 0 but ciphertext are left out; a comma stands before each but the first.
 ghost use mathlib.Core.Path.{_≡_};
 ghost use mathlib.Core.Bool.{true};
 ghost use Prim.Native.Nat.{_+_, _≤_, min};

@@ -1,5 +1,5 @@
-// Members measured, one behind the other, before there is room for them: the same as in `put`, by their lengths. No sum wraps, since
-// positions stop at `OVER`.
+// Members measured, one behind the other, before it is known that there is room: the same as in `put`, by their lengths. No
+// sum wraps, since positions stop at `OVER`.
 ghost use mathlib.Core.Path.{_≡_};
 ghost use mathlib.Core.Bool.{true};
 ghost use mathlib.Core.List.{[], _∷_, map};

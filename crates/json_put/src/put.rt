@@ -1,5 +1,5 @@
-// Members put into a buffer, one behind the other. Each function puts what its definition says, from the cursor on, and answers the
-// cursor behind it.
+// Members put into a buffer, one behind the other. Each function puts what its definition says, from the cursor on, and
+// answers the cursor behind it.
 ghost use mathlib.Core.Path.{_≡_};
 ghost use mathlib.Core.Bool.{true};
 ghost use mathlib.Core.List.{[], _∷_, map};

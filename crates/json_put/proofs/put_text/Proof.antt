@@ -14,7 +14,6 @@ use Rattle.json_put.specs.Given.{given}
 use Rattle.json_put.specs.Inner.Members.{headMembers, tailMembers, Room, Puts}
 use Rattle.json_put.proofs.Members.{text-parts}
 use Rattle.json_put.proofs.Putting.{room-first, room-next, puts-append}
-use borrow.Author.Needs.{needs}
 use Rattle.json_put.proofs.put_text.Statement.{statement}
 use Rattle.json_put.proofs.put_text.Tie as tie
 
@@ -71,14 +70,16 @@ put-all : (c : tie.After-components) →
 put-all c =
     let s = start-2 c in
     let d = call-1 c .headers in
-    puts-append first (Head s) (Tail s) (set (s .args .out .now) 0 123) (room s) (d .result) (d .last .1 .1 .1 .1 .0) (put-head (call-1 c))
+    puts-append first (Head s) (Tail s) (set (s .args .out .now) 0 123) (room s) (d .result) (d .last .1 .1 .1 .1 .0)
+    (put-head (call-1 c))
     (c .components .result) (c .components .last .1 .1 .1 .1 .0) (c .components .ensures)
 
 behind-members : (c : tie.After-components) →
     Wrote (start-2 c) (125 ∷ []) (c .components .result .at) (c .components .last .1 .1 .1 .1 .0)
 behind-members c =
     let s = start-2 c in
-    put-part (led false (Head s ++ Tail s)) (125 ∷ []) refl (opened s) (ap (λ (x : Cursor). x .at) (put-all c .moves)) (put-all c .leaves)
+    put-part (led false (Head s ++ Tail s)) (125 ∷ []) refl (opened s) (ap (λ (x : Cursor). x .at) (put-all c .moves))
+    (put-all c .leaves)
 
 -- behind the closing bracket
 all : (c : tie.After-components) →
@@ -98,7 +99,8 @@ components-requires : tie.Need-components-requires
 components-requires c κs =
     let call = c .before .before .before in
     let s = start-1 call in
-    room-next first (Head s) (Tail s) (set (s .args .out .now) 0 123) (room s) (call .headers .result) (call .headers .last .1 .1 .1 .1 .0)
+    room-next first (Head s) (Tail s) (set (s .args .out .now) 0 123) (room s) (call .headers .result)
+    (call .headers .last .1 .1 .1 .1 .0)
     (put-head call)
 
 slice-write-out-2 : tie.Need-slice-write-out-2

@@ -1,7 +1,7 @@
 -- `text_length` measures the members, and adds the brackets.
 use mathlib.Core.Path.{ap}
 use mathlib.Core.Bool.{false}
-use mathlib.Core.List.{List, _++_}
+use mathlib.Core.List.{List}
 use Prim.Native.Nat.{ℕ}
 use native.Mathlib.Omega.{arith}
 use Rattle.recipients.specs.Parsed.{recipientsIn}
@@ -26,12 +26,18 @@ headers-requires : tie.Need-headers-requires
 headers-requires c κs = search needs
 
 components-requires : tie.Need-components-requires
-components-requires c κs = measured-low first (Head (c .before .before .before .before .before .before .before .before)) (c .headers .result) (c .headers .ensures)
+components-requires c κs =
+    measured-low first (Head (c .before .before .before .before .before .before .before .before)) (c .headers .result)
+    (c .headers .ensures)
 
 add-end : tie.Need-add-end
 add-end c =
     let all = c .before .components in
-    omega (arith, measured-low (c .before .before .headers .result) (Tail (c .before .before .before .before .before .before .before .before .before .before)) (all .result) (all .ensures))
+    omega (
+      arith,
+      measured-low (c .before .before .headers .result)
+          (Tail (c .before .before .before .before .before .before .before .before .before .before)) (all .result) (all .ensures),
+    )
 
 capped-requires : tie.Need-capped-requires
 capped-requires c κs = search needs

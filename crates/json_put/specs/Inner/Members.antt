@@ -1,5 +1,5 @@
--- Members of an object, or elements of an array, put one after the other, and measured so: a cursor says where the next one goes and
--- whether one stands before it.
+-- Members of an object, or elements of an array, put one after the other, and measured so: a cursor says where the next one
+-- goes and whether one stands before it.
 use mathlib.Core.Path.{_≡_}
 use mathlib.Core.Bool.{Bool, true}
 use mathlib.Core.List.{List, [], _∷_, _++_}

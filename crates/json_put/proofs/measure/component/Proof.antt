@@ -13,7 +13,8 @@ returns c =
     let start = c .before .before .before in
     let name = start .args .name .now in
     let octets = start .args .octets .now in
-    measured-none (start .args .cursor) (componentMember name octets) (component-absent name octets (c .if1 .taken)) (start .pre .1)
+    measured-none (start .args .cursor) (componentMember name octets) (component-absent name octets (c .if1 .taken))
+    (start .pre .1)
 
 encoded-requires : tie.Need-encoded-requires
 encoded-requires c κs = search needs
@@ -22,7 +23,8 @@ returns-2 : tie.Need-returns-2
 returns-2 c =
     let start = c .before .before .before .before in
     c .encoded .ensures
-    ∙ sym (ap (measured (start .args .cursor)) (component-present (start .args .name .now) (start .args .octets .now) (c .before .if1 .left)))
+    ∙ sym (ap (measured (start .args .cursor))
+    (component-present (start .args .name .now) (start .args .octets .now) (c .before .if1 .left)))
 
 pub component-spec : {M : Type 1} → statement M
 component-spec = tie.close (tie.spec returns encoded-requires returns-2)

@@ -31,8 +31,11 @@ encoded-requires : tie.Need-encoded-requires
 unfolding ascii
 encoded-requires c κs =
     let start = c .before .before .before .before .before .before .before .before .before in
-    let iv = componentMember (ascii "iv") (start .args .iv .now) in
-    (search needs, measured-low (c .before .before .before .component .result) iv (c .before .component2 .result) (c .before .component2 .ensures))
+    let iv = componentMember (ascii "iv") (start .args .iv .now) in (
+      search needs,
+      measured-low (c .before .before .before .component .result) iv (c .before .component2 .result)
+          (c .before .component2 .ensures),
+    )
 
 slice-aggregate-component-3 : tie.Need-slice-aggregate-component-3
 slice-aggregate-component-3 c = search needs
@@ -41,8 +44,11 @@ component-requires-3 : tie.Need-component-requires-3
 unfolding ascii
 component-requires-3 c κs =
     let start = c .before .before .before .before .before .before .before .before .before .before .before in
-    let text = encodedMember (ascii "ciphertext") (start .args .ciphertext .now) in
-    (search needs, measured-low (c .before .before .before .component2 .result) text (c .before .encoded .result) (c .before .encoded .ensures))
+    let text = encodedMember (ascii "ciphertext") (start .args .ciphertext .now) in (
+      search needs,
+      measured-low (c .before .before .before .component2 .result) text (c .before .encoded .result)
+          (c .before .encoded .ensures),
+    )
 
 returns : tie.Need-returns
 unfolding ascii tailMembers

@@ -6,7 +6,7 @@ use native.Mathlib.Omega.{arith}
 use Rattle.recipients.specs.Table.{RawRecipient}
 use Rattle.recipients.specs.declared.Body.{Body}
 use Rattle.recipients.specs.Parsed.{bodyStart, bodyAt}
-use Rattle.recipients.proofs.Places.{start-first, start-next, sound-some, sound-few, lengths-fit, body-fits}
+use Rattle.recipients.proofs.Places.{start-first, start-next, sound-few, lengths-fit, body-fits}
 use Rattle.json_message.specs.JsonText.{elementText}
 use Rattle.json_put.specs.Inner.Members.{measured, shown}
 use Rattle.json_put.proofs.Members.{shown-is}
@@ -83,13 +83,18 @@ loop-again c =
     let put =
     c .before .element .ensures ∙ ap (λ (x : RawRecipient). measured (loop .next) (elementText x ∷ [])) here in (
       omega arith,
-      (at ∙ sym (start-next table (loop .i)), measures-next table (start .args .cursor) (loop .i) (loop .next) _ inside (loop .inv .1 .1) put),
+      (
+        at ∙ sym (start-next table (loop .i)),
+        measures-next table (start .args .cursor) (loop .i) (loop .next) _ inside
+            (loop .inv .1 .1) put,
+      ),
     )
 
 returns : tie.Need-returns Inv-loop μ-loop
 returns c =
     let start = c .before .before .before .before in
-    measures-all (start .args .table .now) (start .args .cursor) (c .before .loop .i) (c .before .loop .next) (c .loop-test .left) (c .before .loop .inv .1 .1)
+    measures-all (start .args .table .now) (start .args .cursor) (c .before .loop .i) (c .before .loop .next)
+    (c .loop-test .left) (c .before .loop .inv .1 .1)
 
 pub elements-spec : {M : Type 1} → statement M
 elements-spec =

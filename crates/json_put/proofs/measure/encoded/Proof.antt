@@ -19,7 +19,8 @@ more-requires c κs = search needs
 returns : tie.Need-returns
 returns c =
     let start = c .before .before .before .before in
-    measured-encoded (start .args .cursor) (start .args .name .now) (start .args .octets .now) (c .before .encoded-length .result)
+    measured-encoded (start .args .cursor) (start .args .name .now) (start .args .octets .now)
+    (c .before .encoded-length .result)
     (c .more .result) (c .before .encoded-length .ensures) (c .more .ensures)
 
 pub encoded-spec : {M : Type 1} → statement M

@@ -22,8 +22,11 @@ header-requires : tie.Need-header-requires
 unfolding ascii
 header-requires c κs =
     let start = c .before .before .before .before .before .before in
-    let protected = componentMember (ascii "protected") (start .args .protected .now) in
-    (search needs, measured-low (start .args .cursor) protected (c .before .component .result) (c .before .component .ensures))
+    let protected = componentMember (ascii "protected") (start .args .protected .now) in (
+      search needs,
+      measured-low (start .args .cursor) protected (c .before .component .result)
+          (c .before .component .ensures),
+    )
 
 recipient-members-requires : tie.Need-recipient-members-requires
 unfolding ascii

@@ -47,8 +47,10 @@ returns c =
     let key = componentMember (ascii "encrypted_key") (Key start) in
     let first = c .before .before .header in
     measured-append (start .args .cursor) (first .result) (c .component .result) header key
-    (first .ensures ∙ ap (λ (l : List ℕ). measured (start .args .cursor) (headerMember (ascii "header") l)) (c .before .before .before .before .before .part .ensures .0))
-    (c .component .ensures ∙ ap (λ (l : List ℕ). measured (first .result) (componentMember (ascii "encrypted_key") l)) (c .before .before .before .before .part2 .ensures .0))
+    (first .ensures ∙ ap (λ (l : List ℕ). measured (start .args .cursor) (headerMember (ascii "header") l))
+    (c .before .before .before .before .before .part .ensures .0))
+    (c .component .ensures ∙ ap (λ (l : List ℕ). measured (first .result) (componentMember (ascii "encrypted_key") l))
+    (c .before .before .before .before .part2 .ensures .0))
 
 pub own-spec : {M : Type 1} → statement M
 own-spec =

@@ -1,6 +1,6 @@
 -- `recipient_members` measures `recipients`, or the members of the first recipient.
 use mathlib.Core.Path.{ap, sym, _∙_}
-use mathlib.Core.Bool.{Bool, false}
+use mathlib.Core.Bool.{Bool}
 use native.Mathlib.Omega.{arith}
 use Rattle.recipients.specs.Table.{RawRecipient}
 use Rattle.recipients.specs.Parsed.{recipientsIn}
@@ -19,7 +19,8 @@ returns : tie.Need-returns
 returns c =
     let start = c .before .before .before in
     c .general .ensures
-    ∙ ap (λ (b : Bool). measured (start .args .cursor) (recipientMembers b (recipientsIn (start .args .table .now)))) (sym (c .before .if1 .taken))
+    ∙ ap (λ (b : Bool). measured (start .args .cursor) (recipientMembers b (recipientsIn (start .args .table .now))))
+    (sym (c .before .if1 .taken))
 
 shared-slice-read-n : tie.Need-shared-slice-read-n
 shared-slice-read-n c =
@@ -56,7 +57,8 @@ returns-2 c =
     let first = ap (shown table) (c .before .recipient .ensures) ∙ shown-is table 0 in
     c .own .ensures ∙ ap (λ (x : RawRecipient). measured cursor (ownMembers x)) first
     ∙ ap (measured cursor) (sym (flat-members table (start .pre .0)))
-    ∙ ap (λ (b : Bool). measured cursor (recipientMembers b (recipientsIn table))) (sym (c .before .before .before .if1 .left))
+    ∙ ap (λ (b : Bool). measured cursor (recipientMembers b (recipientsIn table)))
+    (sym (c .before .before .before .if1 .left))
 
 pub recipient-members-spec : {M : Type 1} → statement M
 recipient-members-spec =

@@ -20,10 +20,12 @@ same-length : tie.Need-same-length
 same-length c = search needs
 
 returns : tie.Need-returns
-returns c = comma-put (c .before .args .begun) (c .before .args .at) (c .before .args .out .now) (c .before .pre) (c .if1 .taken)
+returns c =
+    comma-put (c .before .args .begun) (c .before .args .at) (c .before .args .out .now) (c .before .pre) (c .if1 .taken)
 
 returns-2 : tie.Need-returns-2
-returns-2 c = comma-none (c .before .args .begun) (c .before .args .at) (c .before .args .out .now) (c .before .pre) (c .if1 .left)
+returns-2 c =
+    comma-none (c .before .args .begun) (c .before .args .at) (c .before .args .out .now) (c .before .pre) (c .if1 .left)
 
 pub comma-spec : {M : Type 1} → statement M
 comma-spec = tie.close (tie.spec slice-write-out add-result same-length returns returns-2)

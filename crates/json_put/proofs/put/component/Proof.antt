@@ -15,7 +15,8 @@ returns c =
     let start = c .before .before .before .before in
     let name = start .args .name .now in
     let octets = start .args .octets .now in
-    puts-none (start .args .cursor) (componentMember name octets) (start .args .out .now) (component-absent name octets (c .if1 .taken))
+    puts-none (start .args .cursor) (componentMember name octets) (start .args .out .now)
+    (component-absent name octets (c .if1 .taken))
 
 encoded-requires : tie.Need-encoded-requires
 encoded-requires c κs =
@@ -29,7 +30,8 @@ same-length c = search needs
 returns-2 : tie.Need-returns-2
 returns-2 c =
     let start = c .before .before .before .before .before .before .before .before in
-    let present = component-present (start .args .name .now) (start .args .octets .now) (c .before .before .before .before .if1 .left) in
+    let present = component-present (start .args .name .now) (start .args .octets .now)
+    (c .before .before .before .before .if1 .left) in
     puts-as present (c .before .before .encoded .ensures)
 
 pub component-spec : {M : Type 1} → statement M

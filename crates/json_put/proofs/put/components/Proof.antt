@@ -41,7 +41,8 @@ room-1 : (c : tie.After-component) →
     Room (c .component .result) (Iv s ++ (Ciphertext s ++ Tag s)) (c .component .last .1 .1 .0)
 room-1 c =
     let s = start-1 c in
-    room-next (s .args .cursor) (Aad s) (Iv s ++ (Ciphertext s ++ Tag s)) (s .args .out .now) (room-0 s) (c .component .result)
+    room-next (s .args .cursor) (Aad s) (Iv s ++ (Ciphertext s ++ Tag s)) (s .args .out .now) (room-0 s)
+    (c .component .result)
     (c .component .last .1 .1 .0) (put-1 c)
 
 abbrev call-1 : tie.After-component2 → tie.After-component
@@ -115,7 +116,8 @@ component-requires-3 c κs =
     let call = c .before .before .before .before in
     let s = start-3 call in
     let d = call-2 call .component2 in
-    room-next (d .result) (Ciphertext s) (Tag s) (d .last .1 .1 .0) (room-2 (call-2 call)) (call .encoded .result) (call .encoded .last .1 .1 .0)
+    room-next (d .result) (Ciphertext s) (Tag s) (d .last .1 .1 .0) (room-2 (call-2 call)) (call .encoded .result)
+    (call .encoded .last .1 .1 .0)
     (put-3 call)
 
 same-length : tie.Need-same-length
@@ -131,7 +133,8 @@ returns c =
     let d = first .component in
     let e = second .component2 in
     let f = third .encoded in
-    puts-append (s .args .cursor) (Aad s) (Iv s ++ (Ciphertext s ++ Tag s)) (s .args .out .now) (room-0 s) (d .result) (d .last .1 .1 .0)
+    puts-append (s .args .cursor) (Aad s) (Iv s ++ (Ciphertext s ++ Tag s)) (s .args .out .now) (room-0 s) (d .result)
+    (d .last .1 .1 .0)
     (put-1 first) _ _
     (puts-append (d .result) (Iv s) (Ciphertext s ++ Tag s) (d .last .1 .1 .0) (room-1 first) (e .result) (e .last .1 .1 .0)
     (put-2 second) _ _

@@ -10,9 +10,8 @@ use Rattle.grammar.specs.Grammar.{curly}
 use Rattle.json_text.specs.Inner.Led.{led, ledOne}
 use Rattle.json_message.specs.JsonText.{ownMembers, elementText}
 use Rattle.json_put.specs.declared.Cursor.{Cursor}
-use Rattle.json_put.specs.Inner.Members.{shown, Room, Puts}
+use Rattle.json_put.specs.Inner.Members.{shown}
 use Rattle.json_put.proofs.Putting.{puts-one, room-one, bracketed-parts}
-use borrow.Author.Needs.{needs}
 use Rattle.json_put.proofs.put.element.Statement.{statement}
 use Rattle.json_put.proofs.put.element.Tie as tie
 

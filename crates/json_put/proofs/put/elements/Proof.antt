@@ -42,8 +42,14 @@ add-start c =
 loop-holds : tie.Need-loop-holds Inv-loop μ-loop
 loop-holds c =
     let start = c .before .before .before in
-    let table = start .args .table .now in
-    (omega arith, (sym (start-first table), elements-first table (start .args .cursor) (start .args .out .now) (start .pre .1)))
+    let table = start .args .table .now in (
+      omega arith,
+      (
+        sym (start-first table),
+        elements-first table (start .args .cursor) (start .args .out .now)
+            (start .pre .1),
+      ),
+    )
 
 recipient-requires : tie.Need-recipient-requires Inv-loop μ-loop
 recipient-requires c κs =
@@ -67,12 +73,21 @@ add-start-2 c =
     let start = c .before .before .before .before .before .before .before .before .before .before .before in
     let table = start .args .table .now in
     let at = ap (λ (b : Body). b .key .start + b .key .len) (c .before .before .before .before .before .recipient .ensures) in
-    omega (arith, at, body-fits table (start .pre .0) (c .before .before .before .before .before .before .before .loop .i) (c .before .before .before .before .before .before .loop-test .taken))
+    omega (
+      arith,
+      at,
+      body-fits table (start .pre .0) (c .before .before .before .before .before .before .before .loop .i)
+          (c .before .before .before .before .before .before .loop-test .taken),
+    )
 
 add-i : tie.Need-add-i Inv-loop μ-loop
 add-i c =
     let start = c .before .before .before .before .before .before .before .before .before .before .before in
-    omega (arith, sound-few (start .args .table .now) (start .pre .0), c .before .before .before .before .before .before .loop-test .taken)
+    omega (
+      arith,
+      sound-few (start .args .table .now) (start .pre .0),
+      c .before .before .before .before .before .before .loop-test .taken,
+    )
 
 loop-less : tie.Need-loop-less Inv-loop μ-loop
 loop-less c = search needs
@@ -87,11 +102,13 @@ loop-again c =
     let body = c .before .before .before .before .before .recipient in
     let at = ap (λ (b : Body). b .key .start + b .key .len) (body .ensures) in
     let here = ap (shown table) (body .ensures) ∙ shown-is table (loop .i) in
-    let put = puts-as (ap (λ (x : RawRecipient). elementText x ∷ []) (sym here)) (c .before .before .before .element .ensures) in (
+    let put = puts-as (ap (λ (x : RawRecipient). elementText x ∷ []) (sym here))
+    (c .before .before .before .element .ensures) in (
       omega arith,
       (
         at ∙ sym (start-next table (loop .i)),
-        elements-next table (start .args .cursor) (start .args .out .now) (loop .i) (loop .next) (loop .out) (loop .inv .1 .1) inside
+        elements-next table (start .args .cursor) (start .args .out .now) (loop .i) (loop .next) (loop .out)
+            (loop .inv .1 .1) inside
             _ _ put,
       ),
     )
@@ -103,7 +120,8 @@ returns : tie.Need-returns Inv-loop μ-loop
 returns c =
     let start = c .before .before .before .before .before in
     let loop = c .before .loop in
-    elements-all (start .args .table .now) (start .args .cursor) (start .args .out .now) (loop .i) (loop .next) (loop .out) (loop .inv .1 .1)
+    elements-all (start .args .table .now) (start .args .cursor) (start .args .out .now) (loop .i) (loop .next) (loop .out)
+    (loop .inv .1 .1)
     (c .loop-test .left)
 
 pub elements-spec : {M : Type 1} → statement M

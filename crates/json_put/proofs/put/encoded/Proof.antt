@@ -8,9 +8,8 @@ use Rattle.prelude.proofs.Writing.{Writing, begin-as, put, put-part, room-part,
 use Rattle.base64url.specs.Base64url.{encoded}
 use Rattle.json_text.specs.Pieces.{quoted, memberText}
 use Rattle.json_text.specs.Inner.Led.{ledOne}
-use Rattle.json_put.specs.Inner.Members.{nameText, encodedMember, Room, Puts}
+use Rattle.json_put.specs.Inner.Members.{nameText, encodedMember}
 use Rattle.json_put.proofs.Putting.{puts-one, room-one, member-parts}
-use borrow.Author.Needs.{needs}
 use Rattle.json_put.proofs.put.encoded.Statement.{statement}
 use Rattle.json_put.proofs.put.encoded.Tie as tie
 
@@ -35,7 +34,8 @@ at-start : (s : tie.Start) →
 unfolding encodedMember
 at-start s =
     let cursor = s .args .cursor in
-    begin-as (cursor .at) (ledOne (cursor .begun) (Member s)) (Comma s ++ (nameText (Name s) ++ quoted (Text s))) (s .args .out .now)
+    begin-as (cursor .at) (ledOne (cursor .begun) (Member s)) (Comma s ++ (nameText (Name s) ++ quoted (Text s)))
+    (s .args .out .now)
     (member-parts (cursor .begun) (Name s) (quoted (Text s))) (room-one cursor (Member s) (s .args .out .now) (s .pre))
 
 abbrev start-1 : tie.After-comma → tie.Start
@@ -55,7 +55,8 @@ behind-name : (c : tie.After-member-name) →
     Wrote (start-2 c) (quoted (Text (start-2 c))) (c .member-name .result) (c .member-name .last .1 .0)
 behind-name c =
     let s = start-2 c in
-    put-part (nameText (Name s)) (quoted (Text s)) refl (behind-comma (c .before .before .before .before)) (c .member-name .ensures .0)
+    put-part (nameText (Name s)) (quoted (Text s)) refl (behind-comma (c .before .before .before .before))
+    (c .member-name .ensures .0)
     (c .member-name .ensures .1)
 
 -- behind the first quote

@@ -43,7 +43,8 @@ unfolding recipientMembers
 at-start s =
     let cursor = s .args .cursor in
     begin-as (cursor .at) (ledOne (cursor .begun) (Member s)) (Comma s ++ Behind s) (s .args .out .now)
-    (array-parts (cursor .begun) (ascii "recipients") (Elements s)) (room-one cursor (Member s) (s .args .out .now) (s .pre .1))
+    (array-parts (cursor .begun) (ascii "recipients") (Elements s))
+    (room-one cursor (Member s) (s .args .out .now) (s .pre .1))
 
 abbrev start-1 : tie.After-comma → tie.Start
 start-1 c = c .before .before .before .before

@@ -27,7 +27,8 @@ Comma s = ledOne (s .args .cursor .begun) []
 -- The output at a position, with what is still to come of the member.
 abbrev Wrote : tie.Start → List ℕ → ℕ → List ℕ → Type 0
 Wrote s rest at out =
-    Writing (s .args .cursor .at) (ledOne (s .args .cursor .begun) (memberText (Name s) (Text s))) (s .args .out .now) rest at out
+    Writing (s .args .cursor .at) (ledOne (s .args .cursor .begun) (memberText (Name s) (Text s))) (s .args .out .now) rest
+    at out
 
 -- There is a text.
 abbrev start-0 : tie.Else1 → tie.Start
@@ -42,7 +43,8 @@ at-start c =
     let out = s .args .out .now in
     let room : Room cursor (memberText (Name s) (Text s) ∷ []) out =
     subst (λ (l : List (List ℕ)). Room cursor l out) (header-present (Name s) (Text s) (c .if1 .left)) (s .pre) in
-    begin-as (cursor .at) (ledOne (cursor .begun) (memberText (Name s) (Text s))) (Comma s ++ (nameText (Name s) ++ Text s)) out
+    begin-as (cursor .at) (ledOne (cursor .begun) (memberText (Name s) (Text s))) (Comma s ++ (nameText (Name s) ++ Text s))
+    out
     (member-parts (cursor .begun) (Name s) (Text s)) (room-one cursor (memberText (Name s) (Text s)) out room)
 
 abbrev start-1 : tie.After-comma → tie.Start
@@ -53,7 +55,8 @@ behind-comma : (c : tie.After-comma) →
     Wrote s (nameText (Name s) ++ Text s) (c .comma .result) (c .comma .last .0)
 behind-comma c =
     let s = start-1 c in
-    put-part (Comma s) (nameText (Name s) ++ Text s) refl (at-start (c .before .before)) (c .comma .ensures .0) (c .comma .ensures .1)
+    put-part (Comma s) (nameText (Name s) ++ Text s) refl (at-start (c .before .before)) (c .comma .ensures .0)
+    (c .comma .ensures .1)
 
 abbrev start-2 : tie.After-member-name → tie.Start
 start-2 c = start-1 (c .before .before .before .before)

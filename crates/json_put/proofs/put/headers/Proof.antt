@@ -77,7 +77,8 @@ recipient-members-requires c κs =
     let s = start-1 first in
     let d = first .component in (
       s .pre .0,
-      room-next (d .result) (Shared s) (Members s) (d .last .1 .1 .0) (room-1 first) (call .header .result) (call .header .last .1 .1 .0)
+      room-next (d .result) (Shared s) (Members s) (d .last .1 .1 .0) (room-1 first) (call .header .result)
+          (call .header .last .1 .1 .0)
           (put-2 call),
     )
 
@@ -92,9 +93,11 @@ returns c =
     let s = start-1 first in
     let d = first .component in
     let e = second .header in
-    puts-append (s .args .cursor) (Protected s) (Shared s ++ Members s) (s .args .out .now) (room-0 s) (d .result) (d .last .1 .1 .0)
+    puts-append (s .args .cursor) (Protected s) (Shared s ++ Members s) (s .args .out .now) (room-0 s) (d .result)
+    (d .last .1 .1 .0)
     (put-1 first) _ _
-    (puts-append (d .result) (Shared s) (Members s) (d .last .1 .1 .0) (room-1 first) (e .result) (e .last .1 .1 .0) (put-2 second) _ _
+    (puts-append (d .result) (Shared s) (Members s) (d .last .1 .1 .0) (room-1 first) (e .result) (e .last .1 .1 .0)
+    (put-2 second) _ _
     (c .before .before .recipient-members .ensures))
 
 pub headers-spec : {M : Type 1} → statement M

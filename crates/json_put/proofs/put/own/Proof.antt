@@ -27,7 +27,8 @@ members : (c : tie.After-part2) →
     ownMembers (shown (start-0 c .args .table .now) (start-0 c .args .body)) ≡ Header c ++ Key c
 unfolding shown
 members c =
-    own-is (shown (start-0 c .args .table .now) (start-0 c .args .body)) (c .before .part .result .now) (c .part2 .result .now)
+    own-is (shown (start-0 c .args .table .now) (start-0 c .args .body)) (c .before .part .result .now)
+    (c .part2 .result .now)
     (c .before .part .ensures .0) (c .part2 .ensures .0)
 
 room : (c : tie.After-part2) → Room (start-0 c .args .cursor) (Header c ++ Key c) (start-0 c .args .out .now)
@@ -68,7 +69,8 @@ component-requires c κs =
     let call = c .before .before .before .before in
     let shown = start-1 call in
     let s = start-0 shown in
-    room-next (s .args .cursor) (Header shown) (Key shown) (s .args .out .now) (room shown) (call .header .result) (call .header .last .1 .1 .0)
+    room-next (s .args .cursor) (Header shown) (Key shown) (s .args .out .now) (room shown) (call .header .result)
+    (call .header .last .1 .1 .0)
     (put-header call)
 
 same-length : tie.Need-same-length

@@ -4,7 +4,7 @@ use mathlib.Core.Bool.{Bool, false}
 use mathlib.Core.List.{List}
 use Prim.Native.Nat.{ℕ}
 use native.Mathlib.Omega.{arith}
-use Rattle.recipients.specs.Parsed.{recipientsIn, bodyAt, soundTable}
+use Rattle.recipients.specs.Parsed.{recipientsIn, bodyAt}
 use Rattle.recipients.specs.declared.Body.{Body}
 use Rattle.recipients.proofs.Places.{start-first, sound-some, sound-few, lengths-fit}
 use Rattle.json_message.specs.JsonText.{ownMembers, recipientMembers}
@@ -28,8 +28,11 @@ flat s body e b =
 
 general-requires : tie.Need-general-requires
 general-requires c κs =
-    let s = c .before .before .before .before in
-    (s .pre .0, subst (λ (b : Bool). Room (s .args .cursor) (Members s b) (s .args .out .now)) (c .before .if1 .taken) (s .pre .1))
+    let s = c .before .before .before .before in (
+      s .pre .0,
+      subst (λ (b : Bool). Room (s .args .cursor) (Members s b) (s .args .out .now)) (c .before .if1 .taken)
+          (s .pre .1),
+    )
 
 same-length : tie.Need-same-length
 same-length c = search needs
@@ -76,7 +79,8 @@ returns-2 : tie.Need-returns-2
 returns-2 c =
     let s = c .before .before .before .before .before .before .before .before .before in
     let body = c .before .before .before .before .recipient in
-    puts-as (flat s (body .result) (c .before .before .before .before .before .before .if1 .left) (body .ensures)) (c .before .before .own .ensures)
+    puts-as (flat s (body .result) (c .before .before .before .before .before .before .if1 .left) (body .ensures))
+    (c .before .before .own .ensures)
 
 pub recipient-members-spec : {M : Type 1} → statement M
 recipient-members-spec =
