@@ -16,13 +16,13 @@ use Rattle.recipients.specs.Table.{RawRecipient, fourOctets, lengths, bo
 use Rattle.recipients.specs.Parsed.{saidCount, fourAt, headerLength, keyLength, bodyStart, recipientAt, recipientsFrom}
 use Rattle.recipients.specs.Parsed.{recipientsIn, soundTable}
 use Rattle.recipients.proofs.Numbers.{four-said, four-below, octets-said}
-use Rattle.recipients.proofs.Places.{start-first, filled-sound, sound-some, sound-few, sound-fills, lengths-fit, body-fits}
-use Rattle.recipients.proofs.Places.{recipients-count}
+use Rattle.recipients.proofs.Places.{start-first, filled-sound, sound-some, sound-few, sound-fills, lengths-fit}
+use Rattle.recipients.proofs.Places.{body-fits, recipients-count}
 
 -- The recipients of their table
 
--- The recipients from the i-th on stand in a table: their lengths at the i-th place for lengths, their bodies from where the i-th
--- body begins to the end.
+-- The recipients from the i-th on stand in a table: their lengths at the i-th place for lengths, their bodies from where
+-- the i-th body begins to the end.
 record Stands (t : List ℕ) (i : ℕ) (rs : List RawRecipient) : Type 0 where
   behind : List ℕ
   lengthsAt : drop (1 + 8 * i) t ≡ lengths rs ++ behind

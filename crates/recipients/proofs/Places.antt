@@ -12,8 +12,8 @@ use lib.Dec.{leb, eqb}
 use borrow.Author.Tests.{le-leb, lt-leb, leb-true, eqb-true, eq-eqb, ne-eqb}
 use Rattle.prelude.specs.Limits.{mostRecipients}
 use Rattle.recipients.specs.Table.{RawRecipient}
-use Rattle.recipients.specs.Parsed.{saidCount, headerLength, keyLength, bodyStart, recipientAt, recipientsFrom, recipientsIn}
-use Rattle.recipients.specs.Parsed.{soundTable, countAnswer}
+use Rattle.recipients.specs.Parsed.{saidCount, headerLength, keyLength, bodyStart, recipientAt, recipientsFrom}
+use Rattle.recipients.specs.Parsed.{recipientsIn, soundTable, countAnswer}
 use Rattle.recipients.specs.declared.Counted.the-variants.{Recipients, Malformed}
 
 -- Where bodies begin

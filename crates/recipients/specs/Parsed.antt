@@ -1,5 +1,5 @@
--- The recipients of a table by their places in it, and whether it is sound. That these undo `tableOf` and decide `Sound` is in
--- proofs/Laws.
+-- The recipients of a table by their places in it, and whether it is sound. That these undo `tableOf` and decide `Sound` is
+-- in proofs/Laws.
 use mathlib.Core.List.{List, [], _∷_}
 use mathlib.Core.Bool.{Bool, _&&_, cond}
 use Prim.Native.Nat.{ℕ, zero, suc, _+_, _*_}
@@ -7,7 +7,6 @@ use lib.ListN.{length, getD}
 use lib.Dec.{eqb, leb}
 use Rattle.parts.specs.Parts.{part}
 use Rattle.prelude.specs.Limits.{mostRecipients}
-use Rattle.prelude.specs.declared.Place.{Place}
 use Rattle.recipients.specs.Table.{RawRecipient}
 use Rattle.recipients.specs.declared.Body.{Body}
 use Rattle.recipients.specs.declared.Counted.{Counted}

@@ -1,5 +1,6 @@
--- The recipients that the JSON writer is given (request 1/12), contents first: one octet, how many they are; for each the length of
--- its header's text and that of its key, four octets each, the highest first; then their bodies, the header before the key.
+-- The recipients that the JSON writer is given (request 1/12), contents first: one octet, how many they are; for each the
+-- length of its header's text and that of its key, four octets each, the highest first; then their bodies, the header before
+-- the key.
 use mathlib.Core.Path.{_≡_}
 use mathlib.Core.List.{List, [], _∷_, _++_}
 use Prim.Native.Nat.{ℕ, _/_, _%_, _≤_, _<_}

@@ -51,8 +51,8 @@ pub fn count(table: &[u8]) -> Counted
     Counted::Recipients(n)
 }
 
-// Where the header and the key of the i-th recipient stand, counted from 0 on; `start` is where its body begins, and the next
-// one's begins where its key ends. So a loop over the recipients reads each length once.
+// Where the header and the key of the i-th recipient stand, counted from 0 on; `start` is where its body begins, and the
+// next one's begins where its key ends. So a loop over the recipients reads each length once.
 pub fn recipient(table: &[u8], i: usize, start: usize) -> Body
     requires { ⌜ soundTable (now table) ≡ true ⌝ }
     requires { ⌜ i < saidCount (now table) ⌝ }

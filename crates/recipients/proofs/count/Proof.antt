@@ -4,8 +4,8 @@ use mathlib.Core.Path.{_≡_, ap, sym, _∙_}
 use native.Mathlib.Omega.{arith}
 use lib.ListN.{getD}
 use Rattle.recipients.specs.Parsed.{bodyStart, headerLength, keyLength}
-use Rattle.recipients.proofs.Places.{start-first, start-next, none-unsound, many-unsound, short-unsound, unfilled-unsound}
-use Rattle.recipients.proofs.Places.{filled-sound, empty-none, count-malformed, count-sound}
+use Rattle.recipients.proofs.Places.{start-first, start-next, none-unsound, many-unsound, short-unsound}
+use Rattle.recipients.proofs.Places.{unfilled-unsound, filled-sound, empty-none, count-malformed, count-sound}
 use borrow.Author.Needs.{needs}
 use Rattle.recipients.proofs.count.Statement.{statement}
 use Rattle.recipients.proofs.count.Tie as tie
@@ -28,10 +28,14 @@ cast-n : tie.Need-cast-n Inv-loop μ-loop
 cast-n c = omega (arith, c .shared-slice-known2 .given 0)
 
 returns-2 : tie.Need-returns-2 Inv-loop μ-loop
-returns-2 c = count-malformed (c .before .before .before .before .args .table .now) (none-unsound (c .before .before .before .before .args .table .now) (omega arith))
+returns-2 c =
+    let table = c .before .before .before .before .args .table .now in
+    count-malformed table (none-unsound table (omega arith))
 
 returns-3 : tie.Need-returns-3 Inv-loop μ-loop
-returns-3 c = count-malformed (c .before .before .before .before .before .args .table .now) (many-unsound (c .before .before .before .before .before .args .table .now) (omega arith) (omega arith))
+returns-3 c =
+    let table = c .before .before .before .before .before .args .table .now in
+    count-malformed table (many-unsound table (omega arith) (omega arith))
 
 mul-end : tie.Need-mul-end Inv-loop μ-loop
 mul-end c = search needs

@@ -1,0 +1,6 @@
+-- Texts with commas between, and members: what they are made of and how long they are.
+pub mod Led
+pub mod Members
+-- Members measured and put, one behind the other.
+pub mod Measuring
+pub mod Putting
