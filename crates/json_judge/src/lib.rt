@@ -302,7 +302,7 @@ fn own_levels(general: bool) -> u32
 }
 
 // The pieces of a message that would be too long.
-fn judge_over(header: &[u8], shared: &[u8], recipients: &[u8], n: usize) -> Stage
+pub fn judge_over(header: &[u8], shared: &[u8], recipients: &[u8], n: usize) -> Stage
     requires { ⌜ soundTable (now recipients) ≡ true ⌝ }
     requires { ⌜ n ≡ saidCount (now recipients) ⌝ }
     ensures { λ r. ⌜ r ≡ stageOf (first (overTests (now (header .entry)) (now (shared .entry)) (recipientsIn (now (recipients .entry))))) n ⌝ }
@@ -317,7 +317,7 @@ fn judge_over(header: &[u8], shared: &[u8], recipients: &[u8], n: usize) -> Stag
 }
 
 // The pieces of one that would not.
-fn judge_within(
+pub fn judge_within(
     general: bool,
     header: &[u8],
     shared: &[u8],
