@@ -1,6 +1,7 @@
 -- What the JSON writer answers, and what the lent output holds afterwards.
 use mathlib.Core.List.{List}
 use mathlib.Core.Bool.{Bool}
+use Prim.Native.Nat.{ℕ}
 use lib.ListN.{length}
 use Rattle.prelude.specs.Outputs.{Writes}
 use Rattle.prelude.specs.declared.Stage.{Stage}
