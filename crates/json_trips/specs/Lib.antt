@@ -1,0 +1,2 @@
+-- What is read of a message that the JSON writer wrote, and when it refuses nothing.
+pub mod JsonTrips
