@@ -1,4 +1,4 @@
--- What the writer is given: where it is octets, so are the keys in the table of recipients, and 3 and 20 are not given exactly
+-- What the writer is given: where it is octets, so are the keys in the table of recipients; and 3 and 20 are not given exactly
 -- where the known names are a list of names and the table is sound and short enough.
 use mathlib.Core.Path.{_≡_, refl}
 use mathlib.Core.List.{List, [], _∷_}
@@ -11,23 +11,26 @@ use lib.Dec.{ltb}
 use borrow.Author.Tests.{ltb-false, le-ltb}
 use Rattle.prelude.specs.Any.{any}
 use Rattle.prelude.specs.Buffer.{AllBelow}
+use Rattle.prelude.specs.Limits.{levels}
 use Rattle.prelude.specs.Refusals.{Test, _if_, first}
 use Rattle.parts.proofs.Laws.{part-below}
 use Rattle.grammar.specs.Bounds.{Every}
 use Rattle.names.specs.Names.{names, sound}
-use Rattle.recipients.specs.Table.{Sound}
+use Rattle.recipients.specs.Table.{RawRecipient, Sound}
 use Rattle.recipients.specs.Parsed.{saidCount, headerLength, keyLength, bodyStart, recipientAt, recipientsFrom, recipientsIn}
 use Rattle.recipients.specs.Parsed.{soundTable}
 use Rattle.recipients.proofs.Laws.{sound-decides}
 use Rattle.recipients.proofs.Places.{sound-some, recipients-count}
+use Rattle.json_message.specs.JsonText.{RawMessage}
 use Rattle.json_message.specs.WriteOrder.{mostFor, messageOrder}
 use Rattle.json_message.specs.JsonWrite.{RawJson, messageOf, wrongTable, jsonWriteOrder, jsonWriteRefusal}
 use Rattle.json_message.specs.Handed.{MessageOctets}
+use Rattle.json_message.specs.Inner.Judged.{Judged, TextsJudged}
 use Rattle.meets.specs.Meets.{Known}
-use Rattle.meets.proofs.Deciding.{FalseWhere, not-where, neither, first-none}
+use Rattle.meets.proofs.Deciding.{FalseWhere, not-where, neither, every-map, first-none}
 use Rattle.meets.proofs.InOrder.{first-append}
 use Rattle.meets.proofs.Accepted.{list-decided}
-use Rattle.json_trips.specs.JsonTrips.{JsonOctets}
+use Rattle.json_trips.specs.JsonTrips.{JsonOctets, ReadsAlone}
 
 keys-below : (t : List ℕ) → AllBelow 256 t → (n i : ℕ) → Every (λ r. AllBelow 256 (r .key)) (recipientsFrom t n i)
 unfolding recipientsFrom recipientAt
@@ -47,6 +50,27 @@ message-octets c o = record {
   ciphertext = o .ciphertext;
   tag = o .tag;
 }
+
+-- Texts that read alone.
+
+text-alone : (w : List ℕ) → ReadsAlone w ↔ Judged levels w
+text-alone [] = ((λ h. h), (λ h. h))
+text-alone (c ∷ w) = ((λ h. h), (λ h. h))
+
+pub texts-alone : (c : RawMessage) →
+    (ReadsAlone (c .shared) × Every (λ r. ReadsAlone (r .header)) (c .recipients)) ↔ TextsJudged levels levels c
+texts-alone c =
+    let Alone : RawRecipient → Type 0 = λ r. ReadsAlone (r .header) in
+    let OwnOf : RawRecipient → Type 0 = λ r. Judged levels (r .header) in (
+      (λ h. record {
+        shared = text-alone (c .shared) .0 (h .0);
+        own = every-map Alone OwnOf (λ r. text-alone (r .header) .0) (c .recipients) (h .1);
+      }),
+      (λ j. (
+        text-alone (c .shared) .1 (j .shared),
+        every-map OwnOf Alone (λ r. text-alone (r .header) .1) (c .recipients) (j .own),
+      )),
+    )
 
 -- 20
 pub table-decided : (general : Bool) (t : List ℕ) → AllBelow 256 t →

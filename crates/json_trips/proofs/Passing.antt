@@ -10,15 +10,15 @@ use lib.ListN.{length}
 use lib.Dec.{ltb}
 use borrow.Author.Tests.{ltb-false, le-ltb}
 use Rattle.prelude.specs.Any.{any}
-use Rattle.prelude.specs.Limits.{longest}
+use Rattle.prelude.specs.Limits.{longest, levels}
 use Rattle.prelude.specs.Refusals.{Test, _if_, first, OneOf}
 use Rattle.rows.specs.Rows.{texts}
 use Rattle.jose.specs.HeaderRules.{recipientOrder}
-use Rattle.headers.specs.Headers.{tooLong, textOrder, outermost, protectedEntries, objectOrder}
+use Rattle.headers.specs.Headers.{tooLong, unread, textOrder, outermost, protectedEntries, objectOrder}
 use Rattle.jwe.specs.General.{isHollow, jsonOrder}
 use Rattle.recipients.specs.Table.{RawRecipient}
 use Rattle.json_message.specs.JsonText.{RawMessage, jsonText}
-use Rattle.json_message.specs.WriteOrder.{unreadAlone, messageOrder}
+use Rattle.json_message.specs.WriteOrder.{unreadWithin, unreadAlone, messageOrder}
 use Rattle.json_message.specs.Handed.{textEntries}
 use Rattle.json_message.specs.Inner.Judged.{Ready}
 use Rattle.json_message.specs.Inner.PiecesOrder.{unreadInside, hollowInside, protectedTests, objectsOrder, rulesOf, parametersOrder}
@@ -138,3 +138,24 @@ module _ (general : Bool) (c : RawMessage) (known : List (List ℕ)) (room : ℕ
               judged-last (p .alone) .1 (p .judged, p .fits),
             )),
       )
+
+-- Where none of the tests on the pieces refuses, the protected header is short enough and reads.
+
+protected-passes : (w : List ℕ) → first (protectedTests w) ≡ 0 → (tooLong w ≡ false) × (unreadWithin levels w ≡ false)
+unfolding protectedTests textOrder unread any
+protected-passes [] e = (refl, refl)
+protected-passes (c ∷ w) e =
+    let h = first-none (6 if tooLong (c ∷ w) ∷ 7 if unread (c ∷ w) ∷ 10 if isHollow (outermost (c ∷ w)) ∷ []) refl .0 e in
+    (h .0, h .1 .0)
+
+pub pieces-protected : (general : Bool) (known : List (List ℕ)) (c : RawMessage) → first (piecesOrder general known c) ≡ 0 →
+    (tooLong (c .protected) ≡ false) × (unreadWithin levels (c .protected) ≡ false)
+unfolding piecesOrder any
+pieces-protected general known c e =
+    let front = 7 if unreadInside general c ∷ 10 if hollowInside c ∷ [] in
+    let p = protectedTests (c .protected) in
+    let back = parametersOrder known c in
+    let h = first-append front (p ++ back) refl .0 e in
+    protected-passes (c .protected)
+    (none-append p back (listed-numbered jsonWriteNumbers refl p (protected-ours (c .protected)))
+    (listed-numbered jsonWriteNumbers refl back (parameters-ours known c)) .0 (h .1) .0)
