@@ -3,5 +3,8 @@ pub mod Given
 pub mod Listed
 -- The writer's tests, those on the pieces included, and when none of them refuses.
 pub mod Passing
--- What is shown of the JSON writer and the reader.
+-- What is written reads back; when nothing is refused; what a refusal says. And all on one page.
+pub mod WrittenReads
+pub mod WritesExactly
+pub mod Refusing
 pub mod JsonTrips
