@@ -1,18 +1,16 @@
 -- The writer's tests: their numbers, and when none of them refuses. Where the texts read alone, the reader's tests on what would be
 -- written are those on the pieces (json_message), which have none of the numbers 4, 5, 11 and 19.
-use mathlib.Core.Path.{_≡_, refl, ap, sym, _∙_}
+use mathlib.Core.Path.{_≡_, refl, sym, _∙_}
 use mathlib.Core.List.{List, [], _∷_, _++_, flatMap}
-use mathlib.Core.Bool.{Bool, true, false, not, _||_, cond}
+use mathlib.Core.Bool.{Bool, true, false, cond}
 use mathlib.Core.Logic.{_↔_}
 use Prim.Native.Nat.{ℕ, _≤_}
-use native.Mathlib.Omega.{arith}
 use lib.ListN.{length}
 use lib.Dec.{ltb}
 use borrow.Author.Tests.{ltb-false, le-ltb}
 use Rattle.prelude.specs.Any.{any}
 use Rattle.prelude.specs.Limits.{longest, levels}
-use Rattle.prelude.specs.Refusals.{Test, _if_, first, OneOf}
-use Rattle.rows.specs.Rows.{texts}
+use Rattle.prelude.specs.Refusals.{Test, _if_, first}
 use Rattle.jose.specs.HeaderRules.{recipientOrder}
 use Rattle.headers.specs.Headers.{tooLong, unread, textOrder, outermost, protectedEntries, objectOrder}
 use Rattle.jwe.specs.General.{isHollow, jsonOrder}
@@ -20,7 +18,6 @@ use Rattle.recipients.specs.Table.{RawRecipient}
 use Rattle.json_message.specs.JsonText.{RawMessage, jsonText}
 use Rattle.json_message.specs.WriteOrder.{unreadWithin, unreadAlone, messageOrder}
 use Rattle.json_message.specs.Handed.{textEntries}
-use Rattle.json_message.specs.Inner.Judged.{Ready}
 use Rattle.json_message.specs.Inner.PiecesOrder.{unreadInside, hollowInside, protectedTests, objectsOrder, rulesOf, parametersOrder}
 use Rattle.json_message.specs.Inner.PiecesOrder.{piecesOrder}
 use Rattle.json_message.specs.Inner.AskedOrder.{overOrder, laterOrder, withinOrder, askedOrder}

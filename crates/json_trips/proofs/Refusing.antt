@@ -10,7 +10,6 @@ use Rattle.prelude.specs.Outputs.{octetsWritten, ChangesNothing}
 use Rattle.prelude.specs.Refusals.{Test, _if_, first, OneOf}
 use Rattle.prelude.proofs.Outputs.{changes-nothing}
 use Rattle.names.specs.Names.{names, sound}
-use Rattle.jwe.specs.Judge.{refusal}
 use Rattle.json_message.specs.JsonText.{RawMessage}
 use Rattle.json_message.specs.WriteOrder.{messageOrder}
 use Rattle.json_message.specs.JsonWrite.{RawJson, messageOf, writtenText, wrongTable, jsonWriteOrder, jsonWriteRefusal}
