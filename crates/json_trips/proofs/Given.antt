@@ -53,7 +53,7 @@ message-octets c o = record {
 
 -- Texts that read alone.
 
-text-alone : (w : List ℕ) → ReadsAlone w ↔ Judged levels w
+pub text-alone : (w : List ℕ) → ReadsAlone w ↔ Judged levels w
 text-alone [] = ((λ h. h), (λ h. h))
 text-alone (c ∷ w) = ((λ h. h), (λ h. h))
 

@@ -10,10 +10,13 @@ use Rattle.prelude.specs.Outputs.{octetsWritten, ChangesNothing}
 use Rattle.jwe.specs.Judge.{call}
 use Rattle.recipients.specs.Parsed.{saidCount}
 use Rattle.json_message.specs.JsonWrite.{RawJson, writtenText, jsonWriteRefusal}
+use Rattle.refusals.specs.Table.{Refuses}
 use Rattle.json_trips.specs.JsonTrips.{JsonOctets, jsonWriteBuffer, jsonWrote, JsonReadsBack, JsonWritable, jsonWriteNumbers}
+use Rattle.json_trips.specs.JsonNumbers.{jsonWriteTable}
 use Rattle.json_trips.proofs.WrittenReads as WrittenReads
 use Rattle.json_trips.proofs.WritesExactly as WritesExactly
 use Rattle.json_trips.proofs.Refusing as Refusing
+use Rattle.json_trips.proofs.RefusedExactly as RefusedExactly
 
 -- What the writer leaves of octets, read for any of its recipients with the same list and the room that is asked for, reads back
 -- to what was given.
@@ -35,3 +38,8 @@ pub json-writing-changes-nothing : (general : Bool) (c : RawJson) (known out : L
     (n ≡ 0 → ⊥) →
     ChangesNothing jsonWriteNumbers n (octetsWritten n (writtenText general c)) out (jsonWriteBuffer general c known out)
 json-writing-changes-nothing = Refusing.json-writing-changes-nothing
+
+-- A number is given exactly where its rule is the first in the writer's order that is broken; 0 where none is.
+pub json-write-refused-exactly : (general : Bool) (c : RawJson) (known : List ℕ) (room : ℕ) → JsonOctets c → (k : ℕ) →
+    (jsonWriteRefusal general c known room ≡ k) ↔ Refuses (jsonWriteTable general c known room) k
+json-write-refused-exactly = RefusedExactly.json-write-refused-exactly

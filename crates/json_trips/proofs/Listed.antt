@@ -1,14 +1,15 @@
 -- Tests whose numbers are all of a list: the first that fails has one of them, and of two such lists of tests one after the
 -- other none fails exactly where none of each does.
-use mathlib.Core.Path.{_≡_, refl, ap, sym, _∙_}
+use mathlib.Core.Path.{_≡_, refl, ap, ap₂, sym, _∙_}
 use mathlib.Core.List.{List, [], _∷_, _++_, flatMap}
-use mathlib.Core.Bool.{Bool, true, false, not, _||_, cond, true≢false}
+use mathlib.Core.Bool.{Bool, true, false, not, _&&_, _||_, cond, true≢false}
 use mathlib.Core.Logic.{inl, inr}
 use Prim.Native.Nat.{ℕ}
 use lib.Dec.{eqb}
 use borrow.Author.Tests.{eqb-true, not-false}
 use Rattle.prelude.specs.Any.{any}
 use Rattle.prelude.specs.Refusals.{Test, first, OneOf}
+use Rattle.prelude.proofs.Refusals.{nonzero}
 use Rattle.meets.proofs.Deciding.{or-false, any-append}
 use Rattle.meets.proofs.Orders.{Numbered}
 
@@ -56,14 +57,24 @@ module _ (ns : List ℕ) where
       cases false o rest n = rest n
 
   -- Where 0 is not of the list, no test has it.
+
+  not-zero : among ns 0 ≡ false → (t : Test) → outside ns t ≡ false → eqb (t .number) 0 ≡ false
+  not-zero z t l = cases (eqb (t .number) 0) refl (not-false (among ns (t .number)) l)
+    where
+      cases : (b : Bool) → eqb (t .number) 0 ≡ b → among ns (t .number) ≡ true → b ≡ false
+      cases true e a = absurd (true≢false (sym a ∙ ap (among ns) (eqb-true (t .number) 0 e) ∙ z))
+      cases false e a = refl
+
   pub listed-numbered : among ns 0 ≡ false → (ts : List Test) → Listed ns ts → Numbered ts
   unfolding any
   listed-numbered z [] l = refl
   listed-numbered z (t ∷ ts) l =
       let h = or-false (outside ns t) (any (outside ns) ts) .0 l in
-      or-false (eqb (t .number) 0) (any (λ u. eqb (u .number) 0) ts) .1
-      (cases (eqb (t .number) 0) refl (not-false (among ns (t .number)) (h .0)), listed-numbered z ts (h .1))
-    where
-      cases : (b : Bool) → eqb (t .number) 0 ≡ b → among ns (t .number) ≡ true → b ≡ false
-      cases true e a = absurd (true≢false (sym a ∙ ap (among ns) (eqb-true (t .number) 0 e) ∙ z))
-      cases false e a = refl
+      or-false (eqb (t .number) 0) (any (λ u. eqb (u .number) 0) ts) .1 (not-zero z t (h .0), listed-numbered z ts (h .1))
+
+  pub listed-nonzero : among ns 0 ≡ false → (ts : List Test) → Listed ns ts → nonzero ts ≡ true
+  unfolding any
+  listed-nonzero z [] l = refl
+  listed-nonzero z (t ∷ ts) l =
+      let h = or-false (outside ns t) (any (outside ns) ts) .0 l in
+      ap₂ _&&_ (ap not (not-zero z t (h .0))) (listed-nonzero z ts (h .1))
