@@ -27,7 +27,7 @@ use Rattle.json_text.proofs.Embedded.{Stands}
 use Rattle.json_text.proofs.Made.{Field, deepestField, deepestElement, object-levels}
 use Rattle.json_text.proofs.Fields.{elementFrom, elementsFrom, object-placed, FieldsStand, ElementsStand, object-fields}
 use Rattle.recipients.specs.Table.{RawRecipient}
-use Rattle.json_message.specs.Handed.{trimmed}
+use Rattle.json_message.specs.Handed.{trimmed, isThere, PlaceIf}
 use Rattle.json_message.specs.Inner.Judged.{Judged, OwnJudged}
 use Rattle.json_message.specs.Inner.PiecesOrder.{hollowText}
 use Rattle.json_message.proofs.Agree.{Agree, agree-trans, agree-append, agree-test, agree-each, agree-any}
@@ -46,6 +46,7 @@ pub record RecipientIs (s : List ℕ) (q : shape.Recipient) (r : RawRecipient) :
   pub stands : StandsIf s from (r .header)
   pub header : q .header ≡ startIf from (r .header)
   pub key : octetsAt s (q .key) ≡ encoded (r .key)
+  pub place : PlaceIf (isThere (r .key)) (q .key)
   pub size : q .key .size ≡ length (encoded (r .key))
   pub judged : Judged levels (r .header)
   pub octets : AllBelow 256 (r .key)
@@ -56,7 +57,8 @@ pub record MembersAre (s : List ℕ) (es : List Entry) (r : RawRecipient) : Type
   pub text : octetsAt s (valueOf shape.header es) ≡ trimmed (r .header)
 
 pub members-are : (s : List ℕ) (n : ℕ) (fs : List Field) (r : RawRecipient) → AllBelow 256 (r .key) → Judged levels (r .header) →
-    HeaderAt s n fs shape.header (r .header) → ComponentAt s n fs shape.encryptedKey (r .key) → MembersAre s (entriesFrom n fs) r
+    HeaderAt s n fs shape.header (r .header) → ComponentAt s n fs shape.encryptedKey (isThere (r .key)) (r .key) →
+    MembersAre s (entriesFrom n fs) r
 members-are s n fs r o j h k = record {
   recipient = record {
     from = h .from;
@@ -64,6 +66,7 @@ members-are s n fs r o j h k = record {
     stands = h .stands;
     header = h .starts;
     key = k .spelled;
+    place = k .place;
     size = k .size;
     judged = j;
     octets = o;

@@ -1,7 +1,7 @@
 -- What the reader hands out of a written message that passes, for each of its recipients.
-use mathlib.Core.Path.{ap, ap₂, _∙_}
+use mathlib.Core.Path.{_≡_, sym, ap, ap₂, subst, _∙_}
 use mathlib.Core.List.{List, [], _∷_, _++_}
-use mathlib.Core.Bool.{Bool, cond}
+use mathlib.Core.Bool.{Bool, true, cond}
 use Prim.Native.Nat.{ℕ, zero, suc, _≤_, _<_}
 use native.Mathlib.Omega.{arith}
 use lib.ListN.{length}
@@ -19,7 +19,8 @@ use Rattle.jwe.specs.Inner.Outcomes.{outcomeOf, jsonOutcome}
 use Rattle.recipients.specs.Table.{RawRecipient}
 use Rattle.json_text.proofs.Made.{deepestField}
 use Rattle.json_message.specs.JsonText.{RawMessage}
-use Rattle.json_message.specs.Handed.{MessageOctets, numberedRecipient, Given, memberLists, numberedList, JsonHanded}
+use Rattle.json_message.specs.Handed.{MessageOctets, numberedRecipient, Given, memberLists, numberedList, isThere}
+use Rattle.json_message.specs.Handed.{PlaceIf, JsonHanded}
 use Rattle.json_message.specs.Inner.Judged.{sharedLevels, TextsJudged}
 use Rattle.json_message.proofs.Tables.{topFields}
 use Rattle.json_message.proofs.Readable.{Counts}
@@ -53,6 +54,9 @@ given-if : (s : List ℕ) (m : ℕ) (w : List ℕ) → StandsIf s m w → Given 
 given-if s m [] h = tt
 given-if s m (c ∷ w) h = record { after = h .after; is = h .is }
 
+there : (b : Bool) (n : ℕ) {es fs : List Entry} → es ≡ fs → PlaceIf b (component n fs) → PlaceIf b (component n es)
+there b n e h = subst (λ z. PlaceIf b (component n z)) (sym e) h
+
 pub written-handed : (general : Bool) (c : RawMessage) (o : MessageOctets c) (j : TextsJudged levels levels c)
     (k : Counts general (c .recipients)) → deepestField (topFields general c o j) ≤ sharedLevels → (recipient : ℕ) →
     recipient < length (c .recipients) →
@@ -74,6 +78,14 @@ written-handed general c o j k d recipient below =
       aad = ap (λ es. octetsAt s (component shape.aad es)) e ∙ aad-at general c o j .spelled;
       ciphertext = ap (λ es. octetsAt s (component shape.ciphertext es)) e ∙ ciphertext-at general c o j .spelled;
       tag = ap (λ es. octetsAt s (component shape.tag es)) e ∙ tag-at general c o j .spelled;
+      places = record {
+        protected = there (isThere (c .protected)) shape.protected e (protected-at general c o j .place);
+        key = a .place;
+        iv = there (isThere (c .iv)) shape.iv e (iv-at general c o j .place);
+        aad = there (isThere (c .aad)) shape.aad e (aad-at general c o j .place);
+        ciphertext = there true shape.ciphertext e (ciphertext-at general c o j .place);
+        tag = there (isThere (c .tag)) shape.tag e (tag-at general c o j .place);
+      };
       header = header-is general c o j k d;
       sharedFrom = S general c o j k d;
       ownFrom = a .from;

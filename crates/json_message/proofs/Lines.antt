@@ -20,6 +20,7 @@ use Rattle.json_text.proofs.Made.{plain, made-reads, given, given-kind, string-
 use Rattle.json_text.proofs.Made.{array-levels, deepestField, deepestElement}
 use Rattle.json_text.proofs.Fields.{arrayText}
 use Rattle.json_message.specs.JsonText.{headerMember, componentMember}
+use Rattle.json_message.specs.Handed.{isThere}
 use Rattle.json_message.specs.Inner.Judged.{Judged}
 use Rattle.json_message.specs.Inner.PiecesOrder.{hollowText}
 use Rattle.json_message.proofs.Fields.{encoded-plain, stringField, componentFields, headerFields, component-texts}
@@ -141,10 +142,6 @@ table-deepest n (l ∷ ls) =
     )
 
 -- Which members are there
-
-abbrev pub isThere : List ℕ → Bool
-isThere [] = false
-isThere (x ∷ xs) = true
 
 abbrev pub there : Content → Bool
 there (aComponent xs b) = isThere xs

@@ -29,7 +29,7 @@ use Rattle.shape.specs.Shape.{memberNames, component, inner, hollow, wrongMembe
 use Rattle.json_text.specs.Pieces.{quoted}
 use Rattle.json_text.proofs.Embedded.{Stands, stands-whole, text-kind, embedded-end}
 use Rattle.json.proofs.Within.{value-within}
-use Rattle.json_message.specs.Handed.{trimmed}
+use Rattle.json_message.specs.Handed.{trimmed, isThere, PlaceIf}
 use Rattle.json_message.proofs.Moving.{part-moved}
 use Rattle.json_message.proofs.Trimmed.{trimmed-none, reading-trimmed}
 use Rattle.json_text.proofs.Made.{isPlain, plain, given, made-placed, string-placed, Field}
@@ -44,28 +44,33 @@ use Rattle.json_message.proofs.FieldEntries.{hasNumber, value-past, val
 
 -- A component
 
-pub record ComponentAt (s : List ℕ) (n : ℕ) (fs : List Field) (k : ℕ) (xs : List ℕ) : Type 0 where
+-- Whether it is there: an empty one may be.
+pub record ComponentAt (s : List ℕ) (n : ℕ) (fs : List Field) (k : ℕ) (there : Bool) (xs : List ℕ) : Type 0 where
   pub spelled : octetsAt s (component k (entriesFrom n fs)) ≡ encoded xs
   pub size : component k (entriesFrom n fs) .size ≡ length (encoded xs)
+  pub place : PlaceIf there (component k (entriesFrom n fs))
 
 -- Behind fields of other numbers.
-pub component-past : {s : List ℕ} {n : ℕ} (xs ys : List Field) {k : ℕ} {v : List ℕ} → any (hasNumber k) xs ≡ false →
-    ComponentAt s (past n xs) ys k v → ComponentAt s n (xs ++ ys) k v
-component-past {s} {n} xs ys {k} {v} e h =
+pub component-past : {s : List ℕ} {n : ℕ} (xs ys : List Field) {k : ℕ} {there : Bool} {v : List ℕ} →
+    any (hasNumber k) xs ≡ false → ComponentAt s (past n xs) ys k there v → ComponentAt s n (xs ++ ys) k there v
+component-past {s} {n} xs ys {k} {there} {v} e h =
     let p = sym (value-past k n xs ys e) in
     record {
       spelled = subst (λ q. octetsAt s (inner q) ≡ encoded v) p (h .spelled);
       size = subst (λ q. inner q .size ≡ length (encoded v)) p (h .size);
+      place = subst (λ q. PlaceIf there (inner q)) p (h .place);
     }
 
 -- Absent.
-pub component-none : (s : List ℕ) (n : ℕ) (fs : List Field) (k : ℕ) → any (hasNumber k) fs ≡ false → ComponentAt s n fs k []
+pub component-none : (s : List ℕ) (n : ℕ) (fs : List Field) (k : ℕ) → any (hasNumber k) fs ≡ false →
+    ComponentAt s n fs k false []
 unfolding encoded Rattle.base64url.specs.Base64url.sextets
 component-none s n fs k e =
     let p = sym (value-none k n fs e) in
     record {
       spelled = subst (λ q. octetsAt s (inner q) ≡ []) p (part-none s 0);
       size = subst (λ q. inner q .size ≡ 0) p refl;
+      place = ap inner (value-none k n fs e);
     }
 
 quoted-length : (w : List ℕ) → length (quoted w) ≡ length w + 2
@@ -140,7 +145,7 @@ module _ (s : List ℕ) (n : ℕ) (name xs : List ℕ) (p : T (plain name)) (b :
   row-kind = ap kindOf (string-placed (encoded xs) (encoded-plain xs b))
 
   pub string-here : (k : ℕ) (fs : List Field) → numberIn memberNames name ≡ k →
-      FieldStands s n (stringField name xs p b) → ComponentAt s n (stringField name xs p b ∷ fs) k xs
+      FieldStands s n (stringField name xs p b) → ComponentAt s n (stringField name xs p b ∷ fs) k true xs
   unfolding stringField
   string-here k fs e h =
       let f = stringField name xs p b in
@@ -152,6 +157,7 @@ module _ (s : List ℕ) (n : ℕ) (name xs : List ℕ) (p : T (plain name)) (b :
       record {
         spelled = ap (octetsAt s) i ∙ part-stands (unquoted (h .text));
         size = ap (λ (z : Place). z .size) i;
+        place = subst (λ (z : Place). 1 ≤ z .start) (sym i) (omega arith);
       }
 
   string-number : numberOf (stringField name xs p b) ≡ numberIn memberNames name
@@ -185,7 +191,8 @@ module _ (s : List ℕ) (n : ℕ) (name xs : List ℕ) (p : T (plain name)) (b :
 module _ (name : List ℕ) (p : T (plain name)) where
   module _ (s : List ℕ) (n : ℕ) (k : ℕ) (e : numberIn memberNames name ≡ k) where
     pub component-here : (xs : List ℕ) (b : AllBelow 256 xs) (ys : List Field) → any (hasNumber k) ys ≡ false →
-        FieldsStand s n (componentFields name p xs b ++ ys) → ComponentAt s n (componentFields name p xs b ++ ys) k xs
+        FieldsStand s n (componentFields name p xs b ++ ys) →
+        ComponentAt s n (componentFields name p xs b ++ ys) k (isThere xs) xs
     unfolding componentFields FieldsStand
     component-here [] b ys w h = component-none s n ys k w
     component-here (x ∷ xs) b ys w h = string-here s n name (x ∷ xs) p b k ys e (h .0)

@@ -32,7 +32,7 @@ use Rattle.json_message.proofs.Unread.{alone-iff}
 use Rattle.json_message.proofs.Judging.{counts, judged-in-pieces, passed-deepest}
 use Rattle.json_message.proofs.Handing.{written-handed}
 
-opens : (general : Bool) (c : RawMessage) → opensObject (jsonText general c) ≡ true
+pub opens : (general : Bool) (c : RawMessage) → opensObject (jsonText general c) ≡ true
 unfolding opensObject jsonText bracketed reader.skip passOver
 opens general c = refl
 

@@ -36,7 +36,7 @@ use Rattle.jwe.specs.General.{headersOrder, recipientsOrder, jsonSpelled, jsonL
 use Rattle.recipients.specs.Table.{RawRecipient}
 use Rattle.json_text.proofs.Made.{deepestField}
 use Rattle.json_message.specs.JsonText.{RawMessage}
-use Rattle.json_message.specs.Handed.{MessageOctets, textEntries, movedEntry, memberLists}
+use Rattle.json_message.specs.Handed.{MessageOctets, textEntries, movedEntry, memberLists, isThere}
 use Rattle.json_message.specs.Inner.Judged.{Judged, sharedLevels, TextsJudged}
 use Rattle.json_message.specs.Inner.PiecesOrder.{unreadInside, hollowText, hollowInside, protectedTests}
 use Rattle.json_message.specs.Inner.PiecesOrder.{rawSizes, objectsOrder, rulesOf, parametersOrder, piecesOrder}
@@ -48,7 +48,6 @@ use Rattle.json_message.proofs.FieldEntries.{or-none}
 use Rattle.json_message.proofs.Parameters.{StandsIf, order-moved, recipient-pieces}
 use Rattle.json_message.proofs.Located.{startIf}
 use Rattle.json_message.proofs.Tables.{topFields}
-use Rattle.json_message.proofs.Lines.{isThere}
 use Rattle.json_message.proofs.Elements.{RecipientIs, recipients-are, ElementIs, elements-agree, elements-objects}
 use Rattle.json_message.proofs.Top.{topHollow, whole, protected-at, shared-at, aad-at, iv-at, ciphertext-at, tag-at}
 use Rattle.json_message.proofs.Top.{protected-there, general-there, top-passes, top-shape, top-entries, elements-there}

@@ -18,6 +18,7 @@ use Rattle.shape.specs.Shape.{memberNames, wrongMember, wrongHeader, wrongCompo
 use Rattle.json_text.proofs.Embedded.{Stands}
 use Rattle.json_text.proofs.Made.{plain, given, Field, Element, array}
 use Rattle.json_text.proofs.Fields.{arrayText, array-placed, valueFrom, FieldsStand}
+use Rattle.json_message.specs.Handed.{isThere}
 use Rattle.json_message.proofs.Fields.{stringField, componentFields, headerFields}
 use Rattle.json_message.proofs.FieldEntries.{numberOf, entryFrom, entriesFrom, past, entries-append, stand-front}
 use Rattle.json_message.proofs.FieldEntries.{stand-past}
@@ -36,8 +37,8 @@ pub record ArrayAt (s : List ℕ) (n : ℕ) (fs : List Field) (k : ℕ) (xs : Li
 
 -- What a line holds, among the fields from octet n on.
 abbrev pub At : List ℕ → ℕ → List Field → ℕ → Content → Type 0
-At s n fs k (aComponent xs b) = ComponentAt s n fs k xs
-At s n fs k (aCiphertext xs b) = ComponentAt s n fs k xs
+At s n fs k (aComponent xs b) = ComponentAt s n fs k (isThere xs) xs
+At s n fs k (aCiphertext xs b) = ComponentAt s n fs k true xs
 At s n fs k (aHeader w j) = HeaderAt s n fs k w
 At s n fs k (anArray xs) = ArrayAt s n fs k xs
 

@@ -24,14 +24,14 @@ use Rattle.json_text.proofs.Made.{Field, deepestField, deepestElement}
 use Rattle.json_text.proofs.Fields.{objectText, array-elements, array-texts, FieldsStand, object-fields}
 use Rattle.recipients.specs.Table.{RawRecipient}
 use Rattle.json_message.specs.JsonText.{RawMessage}
-use Rattle.json_message.specs.Handed.{MessageOctets, memberLists}
+use Rattle.json_message.specs.Handed.{MessageOctets, memberLists, isThere}
 use Rattle.json_message.specs.Inner.Judged.{OwnJudged, sharedLevels, TextsJudged}
 use Rattle.json_message.specs.Inner.PiecesOrder.{hollowText}
 use Rattle.json_message.proofs.Agree.{Agree}
 use Rattle.json_message.proofs.FieldEntries.{entriesFrom, object-entries, present-from, or-none}
 use Rattle.json_message.proofs.Located.{ComponentAt, HeaderAt}
 use Rattle.json_message.proofs.Names.{object-passes}
-use Rattle.json_message.proofs.Lines.{Line, Within, isThere, has, table-has, sameNumber, lineName, table-sub}
+use Rattle.json_message.proofs.Lines.{Line, Within, has, table-has, sameNumber, lineName, table-sub}
 use Rattle.json_message.proofs.Lines.{hollowLine, table-deepest}
 use Rattle.json_message.proofs.Standing.{ArrayAt, LineAt, table-at, table-wrong}
 use Rattle.json_message.proofs.Tables.{ownLines, EveryOctets, elementsOf, recipientLines, protectedLine, sharedLine}
@@ -108,7 +108,7 @@ module _ (general : Bool) (c : RawMessage) (o : MessageOctets c) (j : TextsJudge
   last-at = every-back (LineAt whole 1 F) R (lastLines c o) (lines-at .1 .1)
 
   abbrev Component : ℕ → List ℕ → Type 0
-  Component k xs = ComponentAt whole 1 F k xs
+  Component k xs = ComponentAt whole 1 F k (isThere xs) xs
 
   pub protected-at : Component shape.protected (c .protected)
   unfolding protectedLine
@@ -126,7 +126,7 @@ module _ (general : Bool) (c : RawMessage) (o : MessageOctets c) (j : TextsJudge
   unfolding lastLines
   iv-at = last-at .1 .0
 
-  pub ciphertext-at : Component shape.ciphertext (c .ciphertext)
+  pub ciphertext-at : ComponentAt whole 1 F shape.ciphertext true (c .ciphertext)
   unfolding lastLines
   ciphertext-at = last-at .1 .1 .0
 

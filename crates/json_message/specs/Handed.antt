@@ -2,16 +2,17 @@
 -- without the space around them.
 use mathlib.Core.Path.{_≡_}
 use mathlib.Core.List.{List, [], _∷_, _++_, map, reverse}
-use mathlib.Core.Bool.{Bool, cond}
-use Prim.Native.Nat.{ℕ, zero, suc}
+use mathlib.Core.Bool.{Bool, true, false, cond}
+use Prim.Native.Nat.{ℕ, zero, suc, _≤_}
 use lib.ListN.{length, drop}
 use Rattle.prelude.specs.Buffer.{AllBelow}
 use Rattle.base64url.specs.Base64url.{encoded}
 use Rattle.grammar.specs.Bounds.{Every}
 use Rattle.grammar.specs.Grammar.{isSpace}
+use Rattle.grammar.specs.Places.{Place}
 use Rattle.rows.specs.Rows.{Entry, entriesIn, present, valueOf}
 use Rattle.jose.specs.Registered.{registered}
-use Rattle.headers.specs.Components.{octetsAt, flattenedForm, generalForm}
+use Rattle.headers.specs.Components.{octetsAt, absent, Components, flattenedForm, generalForm}
 use Rattle.headers.specs.Headers.{outermost, protectedEntries}
 use Rattle.shape.specs.Shape as shape
 use Rattle.shape.specs.Recipients.{topEntries, elementsIn, elementEntries}
@@ -74,6 +75,25 @@ numberedList [] n = []
 numberedList (es ∷ ess) zero = es
 numberedList (es ∷ ess) (suc n) = numberedList ess n
 
+-- Whether a component or a text is given.
+abbrev pub isThere : List ℕ → Bool
+isThere [] = false
+isThere (x ∷ xs) = true
+
+-- The place of a component: behind the first octet where it is there, that of an absent one where it is not.
+abbrev pub PlaceIf : Bool → Place → Type 0
+PlaceIf true q = 1 ≤ q .start
+PlaceIf false q = q ≡ absent
+
+-- The components are there where they are given; the ciphertext always is.
+pub record PlacesIf (c : RawMessage) (r : RawRecipient) (q : Components) : Type 0 where
+  pub protected : PlaceIf (isThere (c .protected)) (q .protected)
+  pub key : PlaceIf (isThere (r .key)) (q .key)
+  pub iv : PlaceIf (isThere (c .iv)) (q .iv)
+  pub aad : PlaceIf (isThere (c .aad)) (q .aad)
+  pub ciphertext : PlaceIf true (q .ciphertext)
+  pub tag : PlaceIf (isThere (c .tag)) (q .tag)
+
 -- What is handed out for the recipient r, whose members stand among the entries `own`.
 pub record HandedTo (general : Bool) (c : RawMessage) (r : RawRecipient) (own : List Entry) (message : List ℕ)
     (x : Outcome) : Type 0 where
@@ -86,6 +106,7 @@ pub record HandedTo (general : Bool) (c : RawMessage) (r : RawRecipient) (own : 
   pub aad : octetsAt message (x .components .aad) ≡ encoded (c .aad)
   pub ciphertext : octetsAt message (x .components .ciphertext) ≡ encoded (c .ciphertext)
   pub tag : octetsAt message (x .components .tag) ≡ encoded (c .tag)
+  pub places : PlacesIf c r (x .components)
   -- The headers are those given, and the values of their members have no space around them.
   pub header : x .header ≡ c .protected
   pub sharedFrom : ℕ
