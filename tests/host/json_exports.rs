@@ -118,19 +118,23 @@ impl Exports<'_> {
                 assert_eq!(got, expected, "the second writer, {name}");
             }
         }
-        for _ in 0..BY_CHANCE {
+        for i in 0..BY_CHANCE {
+            let (general, over) = (i % 2 == 1, i / 2 % 2 == 1);
             let mut pieces = loop {
                 let pieces = made_pieces(random, reference);
-                if json_writer::write(reference, &pieces, LONGEST).is_ok() || random.below(16) == 0 {
+                if pieces.general == general && json_writer::write(reference, &pieces, LONGEST).is_ok() {
                     break pieces;
                 }
             };
-            let missing = LONGEST - length(reference, &pieces);
-            let n = missing / 4 * 3 - 3 + random.below(9);
-            pieces.ciphertext = random.octets(pieces.ciphertext.len() + n);
+            pieces.ciphertext.clear();
+            let left = LONGEST - length(reference, &pieces);
+            let most = left / 4 * 3 + [0, 0, 1, 2][left % 4];
+            let n = if over { most + 1 + random.below(3) } else { most - random.below(3) };
+            pieces.ciphertext = random.octets(n);
             let room = room(random, length(reference, &pieces)).min(LONGEST + OVER);
             let refusal = self.write_json("long, by chance", &pieces, room, &[0, 7]).err().unwrap_or(0);
-            self.write_json[pieces.general as usize].0[refusal as usize] += 1;
+            assert_eq!(refusal == 2, over, "the second writer, long by chance");
+            self.write_json[general as usize].0[refusal as usize] += 1;
         }
     }
 
