@@ -1,5 +1,6 @@
 //! What JSON messages are written of, by hand, each with the text or the refusal that request 1 of document 02 gives it.
 
+use crate::jwe::colliding;
 use crate::jwe::pieces::{table, Pieces};
 
 pub struct Case {
@@ -287,6 +288,31 @@ impl Cases {
     }
 }
 
+impl Cases {
+    /// Different names with one fingerprint, which chance does not make: in one text, across headers, and of two recipients.
+    fn colliding(&mut self) {
+        let names = colliding::names(32, 100);
+        let object = |names: &[String]| {
+            format!("{{{}}}", names.iter().map(|name| format!(r#""{name}":0"#)).collect::<Vec<_>>().join(","))
+        };
+        // The first again, with an escape for its last letter.
+        let again = format!("{}\\u{:04x}", &names[0][..99], names[0].as_bytes()[99]);
+        let all = object(&names);
+        let twice = object(&[&names[..31], &[again.clone()]].concat());
+        let text = format!(r#"{{"protected":"{H}","unprotected":{all},{REST}"#);
+        self.writes("32 colliding names", flattened(&all, ""), text);
+        self.refuses_text(9, "31 colliding names and one again", &twice);
+        let (some, others) = (object(&names[..16]), object(&names[16..]));
+        let text = format!(
+            r#"{{"protected":"{H}","unprotected":{some},"recipients":[{{"header":{others}}},{{"header":{others}}}],{REST}"#
+        );
+        self.writes("colliding names across headers", general(&some, &[&others, &others]), text);
+        let others = object(&[&names[17..], &[again]].concat());
+        self.refuses(12, "one of them in both", general(&some, &["", &others]));
+        self.refuses(12, "one of them in both, flattened", flattened(&others, &some));
+    }
+}
+
 pub fn all() -> Vec<Case> {
     let mut cases = Cases(Vec::new());
     cases.written();
@@ -294,6 +320,7 @@ pub fn all() -> Vec<Case> {
     cases.texts();
     cases.numbers();
     cases.orders();
+    cases.colliding();
     cases.0
 }
 

@@ -5,7 +5,7 @@
 //! each of them, and what was lent to be read only.
 
 pub mod cases;
-mod colliding;
+pub mod colliding;
 mod colliding_cases;
 mod json_cases;
 pub mod messages;
