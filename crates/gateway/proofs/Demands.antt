@@ -4,11 +4,12 @@
 -- crates/gateway/src/lib.rt has a condition, and each is proved to answer and leave what its definitions say, for every input.
 -- Those definitions are, for reading, `refusal`, `result`, `headerAfter` and `listAfter` (crates/jwe/specs/Judge.antt) of what the
 -- reader is called with (`Call`, crates/prelude/specs/Call.antt); for decoding, AAD and writing a refusal (`decodeRefusal`,
--- `aadRefusal`, `writeRefusal`), what is written (`decoded`, `aadText`, `compactText`), and of both the octets written and the
--- output afterwards (crates/prelude/specs/Outputs.antt); for the header walk `opened`, `handedBy` and `moved`
+-- `aadRefusal`, `writeRefusal`, `jsonWriteRefusal`), what is written (`decoded`, `aadText`, `compactText`, `writtenText`), and of
+-- both the octets written and the output afterwards (crates/prelude/specs/Outputs.antt); for the header walk `opened`, `handedBy` and `moved`
 -- (crates/walk/specs/Walk.antt). What a message has to meet stands in crates/meets/specs/Meets.antt, over the trees of crate
 -- grammar and the encoding of crate base64url.
 use mathlib.Core.Path.{_≡_}
+use mathlib.Core.Bool.{Bool}
 use mathlib.Core.Logic.{_↔_}
 use mathlib.Core.List.{List, map}
 use Prim.Native.Nat.{ℕ, _≤_, _<_}
@@ -37,6 +38,11 @@ use Rattle.refusals.proofs.Refused as Numbers
 use Rattle.refusals.proofs.FurtherRefuses as Further
 use Rattle.round_trips.specs.Trips.{RawOctets, wrote, ReadsBack, WritesBack}
 use Rattle.round_trips.proofs.RoundTrips as RoundTrips
+use Rattle.recipients.specs.Parsed.{saidCount}
+use Rattle.json_message.specs.JsonWrite.{RawJson, writtenText, jsonWriteRefusal}
+use Rattle.json_trips.specs.JsonTrips.{JsonOctets, jsonWriteBuffer, jsonWrote, JsonReadsBack, JsonWritable, jsonWriteNumbers}
+use Rattle.json_trips.specs.JsonNumbers.{jsonWriteTable}
+use Rattle.json_trips.proofs.JsonTrips as JsonTrips
 use Rattle.means.specs.Means.{HandsOut, ResultMeans}
 use Rattle.means.proofs.HandsOut as HandsOut
 use Rattle.means.proofs.ResultMeans as ResultMeans
@@ -72,6 +78,12 @@ pub writing-changes-nothing : (c : Raw) (known out : List ℕ) →
     (n ≡ 0 → ⊥) → ChangesNothing writeNumbers n (octetsWritten n (compactText c)) out (writeBuffer c known out)
 writing-changes-nothing = Refusing.writing-changes-nothing
 
+pub json-writing-changes-nothing : (general : Bool) (c : RawJson) (known out : List ℕ) → JsonOctets c →
+    let n = jsonWriteRefusal general c known (length out) in
+    (n ≡ 0 → ⊥) →
+    ChangesNothing jsonWriteNumbers n (octetsWritten n (writtenText general c)) out (jsonWriteBuffer general c known out)
+json-writing-changes-nothing = JsonTrips.json-writing-changes-nothing
+
 -- Demand 2, acceptance. A message is accepted exactly when what is lent is enough and it meets the rules and has the
 -- recipient.
 pub accepted-exactly : (c : Call) → (refusal c ≡ 0) ↔ Meets c
@@ -99,6 +111,10 @@ pub write-refused-exactly : (c : Raw) (known : List ℕ) (room k : ℕ) →
     (writeRefusal c known room ≡ k) ↔ Refuses (writeTable c known room) k
 write-refused-exactly = Further.write-refused-exactly
 
+pub json-write-refused-exactly : (general : Bool) (c : RawJson) (known : List ℕ) (room : ℕ) → JsonOctets c → (k : ℕ) →
+    (jsonWriteRefusal general c known room ≡ k) ↔ Refuses (jsonWriteTable general c known room) k
+json-write-refused-exactly = JsonTrips.json-write-refused-exactly
+
 -- Demand 2, round trips (crates/round_trips/specs/Trips.antt). What the compact writer leaves of octets, read for recipient 0 with
 -- the same list and the room that is asked for, reads back to what was given.
 pub written-reads-back : (c : Raw) (known out buffer list : List ℕ) → RawOctets c →
@@ -119,6 +135,19 @@ pub writes-exactly : (c : Raw) (known : List ℕ) (room : ℕ) → RawOctets c �
     (writeRefusal c known room ≡ 0)
     ↔ (Meets (call (compactText c) known 0 headerRoom listRoom) × (length (compactText c) ≤ room))
 writes-exactly = RoundTrips.writes-exactly
+
+-- The JSON writer (crates/json_trips/specs/JsonTrips.antt). What it leaves of octets, read for any of its recipients with the same list
+-- and the room that is asked for, reads back to what was given.
+pub json-written-reads-back : (general : Bool) (c : RawJson) (known out buffer list : List ℕ) → JsonOctets c →
+    jsonWriteRefusal general c known (length out) ≡ 0 → headerRoom ≤ length buffer → listRoom ≤ length list → (n : ℕ) →
+    n < saidCount (c .recipients) →
+    JsonReadsBack general c n (call (jsonWrote general c known out) known n (length buffer) (length list)) buffer list
+json-written-reads-back = JsonTrips.json-written-reads-back
+
+-- It refuses nothing exactly when what it would write meets demand 2 for all its recipients, the pieces read alone, and it fits.
+pub json-writes-exactly : (general : Bool) (c : RawJson) (known : List ℕ) (room : ℕ) → JsonOctets c →
+    (jsonWriteRefusal general c known room ≡ 0) ↔ JsonWritable general c known room
+json-writes-exactly = JsonTrips.json-writes-exactly
 
 -- Demand 3 (crates/means/specs/Means.antt). For each message that demand 2 accepts with what is lent, and each recipient
 -- number n below its count: one header and one list of rows apply to n by the grammar, whatever was known and lent; they are

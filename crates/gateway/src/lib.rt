@@ -10,6 +10,8 @@ ghost use Rattle.shown.specs.Shown.{componentShown, componentAt, valueShown, va
 ghost use Rattle.aad.specs.Aad.{Joins};
 ghost use Rattle.jwe_write.specs.Write.{raw};
 ghost use Rattle.jwe_write.specs.Answers.{WritesCompact};
+ghost use Rattle.json_message.specs.JsonWrite.{rawJson};
+ghost use Rattle.json_write.specs.Answers.{WritesJson};
 use aad::Joined;
 use base64url::Decoded;
 use jwe::Result;
@@ -103,4 +105,29 @@ pub fn write(
         (now (known .entry)) (now (out .entry)) r (now (out .exit)) ⌝ }
 {
     jwe_write::write(header, key, iv, ciphertext, tag, known, out)
+}
+
+// Writes the general or the flattened message of the texts of the protected and the shared header, each absent where it is empty,
+// the raw other components and the recipients, contents first. `known` lists the extension names that the caller knows. The message
+// is at the output's start, and the rest of it is unchanged; refused, all of it is.
+pub fn write_json(
+    general: bool,
+    protected: &[u8],
+    shared: &[u8],
+    aad: &[u8],
+    iv: &[u8],
+    ciphertext: &[u8],
+    tag: &[u8],
+    known: &[u8],
+    recipients: &[u8],
+    out: &mut [u8],
+) -> Stage
+    ensures { λ r. ⌜ WritesJson general
+        (rawJson (now (protected .entry)) (now (shared .entry)) (now (aad .entry)) (now (iv .entry)) (now (ciphertext .entry))
+        (now (tag .entry)) (now (recipients .entry)))
+        (now (known .entry)) (now (out .entry)) r (now (out .exit)) ⌝ }
+{
+    json_write::write(
+        general, protected, shared, aad, iv, ciphertext, tag, known, recipients, out,
+    )
 }

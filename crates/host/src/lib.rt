@@ -7,6 +7,8 @@ ghost use Rattle.base64url.specs.Base64url.{decoded};
 ghost use Rattle.base64url.specs.Answers.{decodeRefusal};
 ghost use Rattle.aad.specs.Aad.{aadText, aadRefusal};
 ghost use Rattle.jwe_write.specs.Write.{raw, compactText, writeRefusal};
+ghost use mathlib.Core.Bool.{true, false};
+ghost use Rattle.json_message.specs.JsonWrite.{rawJson, writtenText, jsonWriteRefusal};
 use aad::Joined;
 use base64url::Decoded;
 use prelude::Stage;
@@ -86,6 +88,84 @@ pub extern "C" fn jwe_write_compact(
         (now (out .entry)) r (now (octets .exit)) (now (out .exit)) ⌝ }
 {
     let answer = gateway::write(header, key, iv, ciphertext, tag, known, out);
+    match answer {
+        Stage::Passed(written) => {
+            *octets = written;
+            0
+        }
+        Stage::Refused(n) => {
+            *octets = 0;
+            n
+        }
+    }
+}
+
+// Writes the flattened message of the headers' texts, the raw other components and one recipient, contents first.
+#[no_mangle]
+pub extern "C" fn jwe_write_flattened(
+    protected: &[u8],
+    shared: &[u8],
+    aad: &[u8],
+    iv: &[u8],
+    ciphertext: &[u8],
+    tag: &[u8],
+    known: &[u8],
+    recipients: &[u8],
+    out: &mut [u8],
+    octets: &mut usize,
+) -> u32
+    ensures { λ r. ⌜ Writes
+        (jsonWriteRefusal false
+        (rawJson (now (protected .entry)) (now (shared .entry)) (now (aad .entry)) (now (iv .entry))
+        (now (ciphertext .entry)) (now (tag .entry)) (now (recipients .entry)))
+        (now (known .entry)) (length (now (out .entry))))
+        (writtenText false
+        (rawJson (now (protected .entry)) (now (shared .entry)) (now (aad .entry)) (now (iv .entry))
+        (now (ciphertext .entry)) (now (tag .entry)) (now (recipients .entry))))
+        (now (out .entry)) r (now (octets .exit)) (now (out .exit)) ⌝ }
+{
+    let answer = gateway::write_json(
+        false, protected, shared, aad, iv, ciphertext, tag, known, recipients, out,
+    );
+    match answer {
+        Stage::Passed(written) => {
+            *octets = written;
+            0
+        }
+        Stage::Refused(n) => {
+            *octets = 0;
+            n
+        }
+    }
+}
+
+// Writes the general message of the headers' texts, the raw other components and the recipients, contents first.
+#[no_mangle]
+pub extern "C" fn jwe_write_general(
+    protected: &[u8],
+    shared: &[u8],
+    aad: &[u8],
+    iv: &[u8],
+    ciphertext: &[u8],
+    tag: &[u8],
+    known: &[u8],
+    recipients: &[u8],
+    out: &mut [u8],
+    octets: &mut usize,
+) -> u32
+    ensures { λ r. ⌜ Writes
+        (jsonWriteRefusal true
+        (rawJson (now (protected .entry)) (now (shared .entry)) (now (aad .entry)) (now (iv .entry))
+        (now (ciphertext .entry)) (now (tag .entry)) (now (recipients .entry)))
+        (now (known .entry)) (length (now (out .entry))))
+        (writtenText true
+        (rawJson (now (protected .entry)) (now (shared .entry)) (now (aad .entry)) (now (iv .entry))
+        (now (ciphertext .entry)) (now (tag .entry)) (now (recipients .entry))))
+        (now (out .entry)) r (now (octets .exit)) (now (out .exit)) ⌝ }
+{
+    let answer = gateway::write_json(
+        true, protected, shared, aad, iv, ciphertext, tag, known, recipients, out,
+    );
     match answer {
         Stage::Passed(written) => {
             *octets = written;
