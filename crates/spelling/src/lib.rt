@@ -241,7 +241,7 @@ impl Cursor {
 // How many places of two blocks differ or hold a backslash; one that does both counts twice. The loop has no other exit and the
 // count is an octet, so that the compiler may compare several octets at a time.
 fn unlike(a: &[u8], b: &[u8]) -> u8
-    requires { ⌜ length (now a) ≤ 32 ⌝ }
+    requires { ⌜ length (now a) ≤ 64 ⌝ }
     requires { ⌜ length (now b) ≡ length (now a) ⌝ }
     ensures { λ r. ⌜ (r ≡ 0 → Common (now (a .entry)) (now (b .entry)) (length (now (a .entry)))) ⌝ }
 {
@@ -272,8 +272,8 @@ fn common_blocks(a: &[u8], b: &[u8]) -> usize
 {
     let n = lower(a.len(), b.len());
     let mut k: usize = 0;
-    while 32 <= n - k {
-        let e = k + 32;
+    while 64 <= n - k {
+        let e = k + 64;
         if unlike(&a[k..e], &b[k..e]) != 0 {
             return k;
         }
@@ -343,10 +343,13 @@ fn past_common(a: &[u8], p: Cursor, b: &[u8], q: Cursor) -> Pair
     }
     let i = p.at;
     let j = q.at;
-    if a.len() < i {
+    if a.len() <= i {
         return stay;
     }
     if b.len() < j {
+        return stay;
+    }
+    if a[i] == 92 {
         return stay;
     }
     let k = common(&a[i..], &b[j..]);

@@ -61,7 +61,7 @@ loop-again c =
     let a = start .a .now in
     let b = start .b .now in
     let k = at .k in
-    let e = k + 32 in (
+    let e = k + 64 in (
       omega arith,
       common-block a b k e (omega arith) (omega arith) (omega arith) (at .inv .1)
           (c .before .unlike .ensures (omega (arith, c .if1 .left))),

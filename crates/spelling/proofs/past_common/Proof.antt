@@ -30,6 +30,12 @@ returns-5 c = (refl, (omega arith, c .before .before .before .before .before .be
 returns-6 : tie.Need-returns-6
 returns-6 c = (refl, (omega arith, c .before .before .before .before .before .before .before .before .before .before .before .before .pre))
 
+shared-slice-read-if7 : tie.Need-shared-slice-read-if7
+shared-slice-read-if7 c = search needs
+
+returns-7 : tie.Need-returns-7
+returns-7 c = (refl, (omega arith, c .before .before .before .before .before .before .before .before .before .before .before .before .before .before .pre))
+
 sub-common : tie.Need-sub-common
 sub-common c = search needs
 
@@ -63,9 +69,9 @@ add-cursor-at-2 c = search needs
 cursor-at-requires-2 : tie.Need-cursor-at-requires-2
 cursor-at-requires-2 c κs = search needs
 
-returns-7 : tie.Need-returns-7
-returns-7 c =
-    let start = c .before .before .before .before .before .before .before .before .before .before .before .before .before .before .before .before .before in
+returns-8 : tie.Need-returns-8
+returns-8 c =
+    let start = c .before .before .before .before .before .before .before .before .before .before .before .before .before .before .before .before .before .before .before in
     let a = start .args .a .now in
     let b = start .args .b .now in
     let p = start .args .p in
@@ -78,7 +84,7 @@ returns-7 c =
     subst₂ (λ v w. Common v w k) (take-all (length a - p .at) (drop (p .at) a) (omega (arith, length-drop (p .at) a)))
     (take-all (length b - q .at) (drop (q .at) b) (omega (arith, length-drop (q .at) b))) common in (
       ap₂ (λ v w. equal (rest a v) (rest b w)) left right
-          ∙ common-rest a b p q (c .before .before .before .before .before .before .before .before .before .before .before .before .before .if1 .left) (c .before .before .before .before .before .before .before .before .before .before .before .if2 .left) (c .before .before .before .before .before .before .before .before .before .if3 .left) (c .before .before .before .before .before .before .before .if4 .left) k both,
+          ∙ common-rest a b p q (c .before .before .before .before .before .before .before .before .before .before .before .before .before .before .before .if1 .left) (c .before .before .before .before .before .before .before .before .before .before .before .before .before .if2 .left) (c .before .before .before .before .before .before .before .before .before .before .before .if3 .left) (c .before .before .before .before .before .before .before .before .before .if4 .left) k both,
       (
         subst (λ v. size a v ≤ size a p) (sym left) (omega arith),
         (subst (λ v. v .half ≤ 56319) (sym left) (omega arith), subst (λ v. v .half ≤ 56319) (sym right) (omega arith)),
@@ -95,6 +101,8 @@ past-common-spec =
     returns-4
     returns-5
     returns-6
+    shared-slice-read-if7
+    returns-7
     sub-common
     part-common-start
     part-common-end
@@ -106,4 +114,4 @@ past-common-spec =
     cursor-at-requires
     add-cursor-at-2
     cursor-at-requires-2
-    returns-7)
+    returns-8)
