@@ -8,7 +8,7 @@ ghost use Rattle.grammar.specs.Strings.{hexDigit, escapePoint, combined, unit, 
 ghost use Rattle.grammar.specs.Spellings.{undo, equal, alike, has};
 ghost use Rattle.grammar.specs.Utf8.{sixBits, encode};
 ghost use Rattle.spelling.specs.Inner.Fingerprints.{mixed, fingerprintFrom, fingerprint};
-ghost use Rattle.spelling.specs.Inner.Cursors.{undoAt, rest, told, Falls, cursor, octet, pendingOf, encoded};
+ghost use Rattle.spelling.specs.Inner.Cursors.{undoAt, rest, told, size, Falls, Common, cursor, octet, pendingOf, encoded};
 ghost use Rattle.spelling.specs.Inner.Cursors.{hexBase, mixedAt, whole};
 
 // Where in a spelling we are, between characters: a first half that stands directly before, or 0; and of the code point that
@@ -18,6 +18,12 @@ pub struct Cursor {
     pub half: u32,
     pub point: u32,
     pub left: u8,
+}
+
+// Where in two spellings we are.
+struct Pair {
+    left: Cursor,
+    right: Cursor,
 }
 
 // The next octet after undoing escapes and the cursor behind it, or that none is to come.
@@ -232,12 +238,55 @@ impl Cursor {
     }
 }
 
+// How many places of two blocks differ or hold a backslash; one that does both counts twice. The loop has no other exit and the
+// count is an octet, so that the compiler may compare several octets at a time.
+fn unlike(a: &[u8], b: &[u8]) -> u8
+    requires { ⌜ length (now a) ≤ 64 ⌝ }
+    requires { ⌜ length (now b) ≡ length (now a) ⌝ }
+    ensures { λ r. ⌜ (r ≡ 0 → Common (now (a .entry)) (now (b .entry)) (length (now (a .entry)))) ⌝ }
+{
+    let mut count: u8 = 0;
+    let mut k: usize = 0;
+    while k < a.len() {
+        if a[k] != b[k] {
+            count += 1;
+        }
+        if a[k] == 92 {
+            count += 1;
+        }
+        k += 1;
+    }
+    count
+}
+
+// The lower of two numbers.
+fn lower(a: usize, b: usize) -> usize
+    ensures { λ r. ⌜ (r ≤ a) × (r ≤ b) ⌝ }
+{
+    if a < b { a } else { b }
+}
+
+// How many octets both begin with, none of them a backslash, by whole blocks.
+fn common_blocks(a: &[u8], b: &[u8]) -> usize
+    ensures { λ r. ⌜ Common (now (a .entry)) (now (b .entry)) r ⌝ }
+{
+    let n = lower(a.len(), b.len());
+    let mut k: usize = 0;
+    while 64 <= n - k {
+        let e = k + 64;
+        if unlike(&a[k..e], &b[k..e]) != 0 {
+            return k;
+        }
+        k = e;
+    }
+    k
+}
+
 // How many octets both begin with, none of them a backslash: these stand for themselves.
 fn common(a: &[u8], b: &[u8]) -> usize
-    ensures { λ r. ⌜ equal (undoAt (now (a .entry)) 0 r) (undoAt (now (b .entry)) 0 r) ≡ alike (now (a .entry)) (now (b .entry)) ⌝ }
-    ensures { λ r. ⌜ equal (undoAt (now (a .entry)) 0 r) (drop r (now (b .entry))) ≡ has (now (a .entry)) (now (b .entry)) ⌝ }
+    ensures { λ r. ⌜ Common (now (a .entry)) (now (b .entry)) r ⌝ }
 {
-    let mut k: usize = 0;
+    let mut k = common_blocks(a, b);
     while k < a.len() {
         if b.len() <= k {
             return k;
@@ -254,44 +303,71 @@ fn common(a: &[u8], b: &[u8]) -> usize
     k
 }
 
-// Whether what follows these is an octet that stands for itself in both, and not the same.
-fn differ_at(a: &[u8], b: &[u8], k: usize) -> bool
-    ensures { λ r. ⌜ (r ≡ true → false ≡ equal (undoAt (now (a .entry)) 0 k) (undoAt (now (b .entry)) 0 k)) ⌝ }
-    ensures { λ r. ⌜ (r ≡ true → false ≡ equal (undoAt (now (a .entry)) 0 k) (drop k (now (b .entry)))) ⌝ }
+// Whether what follows these is an octet that stands for itself, and not the one given.
+fn differ_at(a: &[u8], w: &[u8], k: usize) -> bool
+    ensures { λ r. ⌜ (r ≡ true → false ≡ equal (undoAt (now (a .entry)) 0 k) (drop k (now (w .entry)))) ⌝ }
 {
     if a.len() <= k {
         return false;
     }
-    if b.len() <= k {
+    if w.len() <= k {
         return false;
     }
-    let c = a[k];
-    let d = b[k];
-    if c == 92 {
+    if a[k] == 92 {
         return false;
     }
-    if d == 92 {
-        return false;
-    }
-    if c == d {
+    if a[k] == w[k] {
         return false;
     }
     true
+}
+
+// Both cursors moved over the octets that both spellings have there, none of them a backslash.
+fn past_common(a: &[u8], p: Cursor, b: &[u8], q: Cursor) -> Pair
+    requires { ⌜ (p .half ≤ 56319) × (q .half ≤ 56319) ⌝ }
+    ensures { λ r. ⌜ equal (rest (now (a .entry)) (r .left)) (rest (now (b .entry)) (r .right)) ≡ equal (rest (now (a .entry)) p) (rest (now (b .entry)) q) ⌝ }
+    ensures { λ r. ⌜ (size (now (a .entry)) (r .left) ≤ size (now (a .entry)) p) × ((r .left .half ≤ 56319) × (r .right .half ≤ 56319)) ⌝ }
+{
+    let stay = Pair { left: p, right: q };
+    if 0 < p.left {
+        return stay;
+    }
+    if 0 < q.left {
+        return stay;
+    }
+    if 0 < p.half {
+        return stay;
+    }
+    if 0 < q.half {
+        return stay;
+    }
+    let i = p.at;
+    let j = q.at;
+    if a.len() <= i {
+        return stay;
+    }
+    if b.len() < j {
+        return stay;
+    }
+    if a[i] == 92 {
+        return stay;
+    }
+    let k = common(&a[i..], &b[j..]);
+    let left = cursor_at(i + k);
+    let right = cursor_at(j + k);
+    Pair { left, right }
 }
 
 // Whether two spellings say the same.
 pub fn alike(a: &[u8], b: &[u8]) -> bool
     ensures { λ r. ⌜ r ≡ alike (now (a .entry)) (now (b .entry)) ⌝ }
 {
-    let k = common(a, b);
-    if differ_at(a, b, k) {
-        return false;
-    }
-    let mut p = cursor_at(k);
-    let mut q = cursor_at(k);
+    let mut p = cursor_at(0);
+    let mut q = cursor_at(0);
     loop {
-        let x = p.next(a);
-        let y = q.next(b);
+        let both = past_common(a, p, b, q);
+        let x = both.left.next(a);
+        let y = both.right.next(b);
         let Octet::Next(c, after) = x else {
             let Octet::End = y else {
                 return false;

@@ -1,25 +1,23 @@
--- What both begin with: an octet that both have and that is no backslash leaves both comparisons as they are.
+-- Behind the blocks that both have, octet by octet.
 use Prim.Native.Nat.{_-_}
-use mathlib.Core.Path.{_≡_, _∙_}
-use lib.ListN.{length, drop}
-use Rattle.grammar.specs.Spellings.{equal, alike, has}
-use Rattle.spelling.specs.Inner.Cursors.{undoAt}
-use Rattle.spelling.proofs.Compare.{alike-start, has-start, alike-passes, has-passes}
+use lib.ListN.{length}
+use Rattle.spelling.specs.Inner.Cursors.{Common}
+use Rattle.spelling.proofs.Compare.{common-more}
 use borrow.Author.Needs.{needs}
 use Rattle.spelling.proofs.common.Statement.{statement}
 use Rattle.spelling.proofs.common.Tie as tie
 
 abbrev Inv-loop : tie.InvT-loop
-Inv-loop a b k₀ k = (equal (undoAt a 0 k) (undoAt b 0 k) ≡ alike a b) × (equal (undoAt a 0 k) (drop k b) ≡ has a b)
+Inv-loop a b k₀ k = Common a b k
 
 abbrev μ-loop : tie.MeasureT-loop
 μ-loop a b k₀ k = length a - k
 
+common-blocks-requires : tie.Need-common-blocks-requires Inv-loop μ-loop
+common-blocks-requires c κs = search needs
+
 loop-holds : tie.Need-loop-holds Inv-loop μ-loop
-loop-holds c =
-    let a = c .args .a .now in
-    let b = c .args .b .now in
-    (alike-start a b, has-start a b)
+loop-holds c = c .common-blocks .ensures
 
 returns : tie.Need-returns Inv-loop μ-loop
 returns c = c .before .before .loop .inv
@@ -44,16 +42,11 @@ loop-less c = search needs
 
 loop-again : tie.Need-loop-again Inv-loop μ-loop
 loop-again c =
-    let a = c .before .before .before .before .before .before .before .args .a .now in
-    let b = c .before .before .before .before .before .before .before .args .b .now in
+    let start = c .before .before .before .before .before .before .before .before .before .before .args in
     let loop = c .before .before .before .before .before .before .loop in
     let in-a = c .before .before .before .before .before .loop-test .taken in
     let in-b = c .before .before .before .before .if1 .left in
-    let equal-here = c .before .if2 .left in
-    let plain = c .if3 .left in (
-      alike-passes a b (loop .k) in-a in-b equal-here plain ∙ loop .inv .0,
-      has-passes a b (loop .k) in-a in-b equal-here plain ∙ loop .inv .1,
-    )
+    common-more (start .a .now) (start .b .now) (loop .k) in-a in-b (c .before .if2 .left) (c .if3 .left) (loop .inv)
 
 returns-4 : tie.Need-returns-4 Inv-loop μ-loop
 returns-4 c = c .before .loop .inv
@@ -64,6 +57,7 @@ common-spec =
     (tie.spec
     Inv-loop
     μ-loop
+    common-blocks-requires
     loop-holds
     returns
     shared-slice-read-c

@@ -8,7 +8,7 @@ use Rattle.prelude.proofs.Lists.{drop-next}
 use Rattle.grammar.specs.Spellings.{equal}
 use Rattle.spelling.specs.Inner.Cursors.{rest, told, Falls}
 use Rattle.spelling.specs.declared.Cursor.{Cursor}
-use Rattle.spelling.proofs.Compare.{has-ends, right-ends, differ, same}
+use Rattle.spelling.proofs.Compare.{common-has, has-ends, right-ends, differ, same}
 use borrow.Author.Needs.{needs}
 use Rattle.spelling.proofs.has.Statement.{statement}
 use Rattle.spelling.proofs.has.Tie as tie
@@ -26,7 +26,9 @@ differ-at-requires : tie.Need-differ-at-requires Inv-loop μ-loop
 differ-at-requires c κs = search needs
 
 returns : tie.Need-returns Inv-loop μ-loop
-returns c = c .before .differ-at .ensures .1 (c .if1 .taken) ∙ c .before .before .common .ensures .1
+returns c =
+    let start = c .before .before .before .before .before .args in
+    c .before .differ-at .ensures (c .if1 .taken) ∙ common-has (start .a .now) (start .w .now) _ (c .before .before .common .ensures)
 
 cursor-at-requires : tie.Need-cursor-at-requires Inv-loop μ-loop
 cursor-at-requires c κs = search needs
@@ -56,7 +58,7 @@ returns-2 c =
     let whole =
     loop .inv .0
     ∙ ap (λ (v : Cursor). equal (rest a v) (drop (c .before .before .before .before .before .before .before .common .result) w)) (c .before .before .before .before .cursor-at .ensures)
-    ∙ c .before .before .before .before .before .before .before .common .ensures .1 in
+    ∙ common-has a w (c .before .before .before .before .before .before .before .common .result) (c .before .before .before .before .before .before .before .common .ensures) in
     has-ends (rest a (loop .p)) w k left ∙ whole
 
 returns-3 : tie.Need-returns-3 Inv-loop μ-loop
@@ -72,7 +74,7 @@ returns-3 c =
     let whole =
     loop .inv .0
     ∙ ap (λ (v : Cursor). equal (rest a v) (drop (c .before .before .before .before .before .before .before .before .before .common .result) w)) (c .before .before .before .before .before .before .cursor-at .ensures)
-    ∙ c .before .before .before .before .before .before .before .before .before .common .ensures .1 in
+    ∙ common-has a w (c .before .before .before .before .before .before .before .before .before .common .result) (c .before .before .before .before .before .before .before .before .before .common .ensures) in
     let right = sym (drop-of-length-le w {i = k} (c .if2 .taken)) in
     right-ends (rest a (loop .p)) (drop k w) (x .0 .0) (rest a (x .0 .1 .0)) left right ∙ whole
 
@@ -92,7 +94,7 @@ returns-4 c =
     let whole =
     loop .inv .0
     ∙ ap (λ (v : Cursor). equal (rest a v) (drop (c .before .before .before .before .before .before .before .before .before .before .before .common .result) w)) (c .before .before .before .before .before .before .before .before .cursor-at .ensures)
-    ∙ c .before .before .before .before .before .before .before .before .before .before .before .common .ensures .1 in
+    ∙ common-has a w (c .before .before .before .before .before .before .before .before .before .before .before .common .result) (c .before .before .before .before .before .before .before .before .before .before .before .common .ensures) in
     let right = sym (drop-next w k (k + 1) refl (c .before .before .if2 .left)) in
     differ (rest a (loop .p)) (drop k w) (x .0 .0) (rest a (x .0 .1 .0)) (getD w k 0) (drop (k + 1) w) left right (c .if3 .taken) ∙ whole
 
@@ -115,7 +117,7 @@ loop-again c =
     let whole =
     loop .inv .0
     ∙ ap (λ (v : Cursor). equal (rest a v) (drop (c .before .before .before .before .before .before .before .before .before .before .before .common .result) w)) (c .before .before .before .before .before .before .before .before .cursor-at .ensures)
-    ∙ c .before .before .before .before .before .before .before .before .before .before .before .common .ensures .1 in
+    ∙ common-has a w (c .before .before .before .before .before .before .before .before .before .before .before .common .result) (c .before .before .before .before .before .before .before .before .before .before .before .common .ensures) in
     let right = sym (drop-next w k (k + 1) refl (c .before .before .if2 .left)) in (
       same (rest a (loop .p)) (drop k w) (x .0 .0) (rest a (x .0 .1 .0)) (getD w k 0) (drop (k + 1) w) left right (c .if3 .left) ∙ loop .inv .0,
       subst (Falls a (loop .p)) (x .1) (next .ensures .1) .0,

@@ -1,9 +1,10 @@
 -- The octets that are still to come from a cursor of the code, for those that a spelling adds.
 use mathlib.Core.Bool.{cond}
+use mathlib.Core.Path.{_≡_}
 use mathlib.Core.List.{List, [], _∷_, _++_}
 use mathlib.Core.Option.{Option, none, some}
 use Prim.Native.Nat.{ℕ, zero, suc, _+_, _-_, _*_, _/_, _≤_, _<_}
-use lib.ListN.{length, drop}
+use lib.ListN.{length, drop, getD}
 use lib.Dec.{leb}
 use Rattle.grammar.specs.Utf8.{sixBits}
 use Rattle.grammar.specs.Spellings.{between, undoFrom}
@@ -50,6 +51,13 @@ size s p = 4 * (length s - p .at) + p .left
 abbrev pub Falls : List ℕ → Cursor → Octet → Type 0
 Falls s p (Next c q) = (q .half ≤ 56319) × (size s q < size s p)
 Falls s p End = Unit {0}
+
+-- The first r octets of two spellings are the same, none of them a backslash.
+abbrev pub Common : List ℕ → List ℕ → ℕ → Type 0
+Common v w r =
+    (r ≤ length v)
+    × ((r ≤ length w)
+    × ((i : ℕ) → i < r → (getD v i 0 ≡ getD w i 0) × (getD v i 0 ≡ 92 → ⊥)))
 
 -- A cursor in which k octets of the code point n are to come.
 abbrev pub cursor : ℕ → ℕ → ℕ → ℕ → Cursor
