@@ -128,8 +128,8 @@ pub extern "C" fn jwe_write_flattened(
         false, protected, shared, aad, iv, ciphertext, tag, known, recipients, out,
     );
     match answer {
-        Stage::Passed(written) => {
-            *octets = written;
+        Stage::Passed(count) => {
+            *octets = count;
             0
         }
         Stage::Refused(n) => {
@@ -167,8 +167,8 @@ pub extern "C" fn jwe_write_general(
         true, protected, shared, aad, iv, ciphertext, tag, known, recipients, out,
     );
     match answer {
-        Stage::Passed(written) => {
-            *octets = written;
+        Stage::Passed(count) => {
+            *octets = count;
             0
         }
         Stage::Refused(n) => {
