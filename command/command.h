@@ -25,8 +25,11 @@ struct names {
     size_t count;
 };
 
-/* A compact message's parts, as the writer takes them. */
-enum { HEADER, KEY, IV, CIPHERTEXT, TAG, PARTS };
+/* The files that a message is written of: each is the message's, or from OWN on a recipient's. */
+enum { HEADER, SHARED, AAD, IV, CIPHERTEXT, TAG, OWN, KEY, PARTS };
+
+/* Forms of messages, as jwe_read numbers them. */
+enum { COMPACT, FLATTENED, GENERAL };
 
 /* What the command line asks for. */
 struct request {
@@ -35,7 +38,9 @@ struct request {
     size_t known_length;
     uint32_t recipient;
     bool numbers;
-    const char *part_paths[PARTS]; /* NULL: empty */
+    int form; /* that is written */
+    const char *paths[JWE_MOST_RECIPIENTS][PARTS]; /* by recipient, the message's own with the first; NULL: absent */
+    size_t last_recipient;
     const char *operands[2];
     struct octets message; /* freed when the subcommand is done */
 };
@@ -52,6 +57,10 @@ int trouble(const char *about, const char *what);
 int system_trouble(const char *about);
 int read_file(const char *path, struct octets *octets); /* to be freed, also after trouble */
 int write_output(const uint8_t *octets, size_t length);
+int hand_out(uint32_t refusal, const uint8_t *out, size_t length); /* what the library left in out, or its refusal */
+
+/* Whether a file is longer than a message may be; no more of it is read than shows that. */
+bool is_too_long(const struct octets *octets);
 
 /* refusals.c: tells a refusal with what to do, and answers REFUSED. */
 int refused(FILE *to, uint32_t refusal);
@@ -60,5 +69,8 @@ int refused(FILE *to, uint32_t refusal);
 int component_called(const char *word);
 void print_words(const struct request *request, const struct reading *reading);
 void print_numbers(const struct reading *reading);
+
+/* write.c: the subcommand. */
+int write_message(struct request *request);
 
 #endif

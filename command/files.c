@@ -41,9 +41,20 @@ int read_file(const char *path, struct octets *octets)
     return status;
 }
 
+bool is_too_long(const struct octets *octets)
+{
+    return octets->length == MOST_READ;
+}
+
 int write_output(const uint8_t *octets, size_t length)
 {
     if (fwrite(octets, 1, length, stdout) < length || fflush(stdout) != 0)
         return system_trouble("standard output");
     return 0;
+}
+
+/* Standard output is for octets alone. */
+int hand_out(uint32_t refusal, const uint8_t *out, size_t length)
+{
+    return refusal != JWE_OK ? refused(stderr, refusal) : write_output(out, length);
 }

@@ -44,12 +44,6 @@ static int judge(struct request *request)
     return ACCEPTED;
 }
 
-/* What a function of the library left in out, or its refusal; standard output is for octets alone. */
-static int hand_out(uint32_t refusal, const uint8_t *out, size_t length)
-{
-    return refusal != JWE_OK ? refused(stderr, refusal) : write_output(out, length);
-}
-
 static int component(struct request *request)
 {
     int number = component_called(request->operands[0]);
@@ -90,44 +84,10 @@ static int aad(struct request *request)
     return status;
 }
 
-/* A message that is longer than the room is refused as too long before the room is. */
-static int write_parts(const struct request *request, const struct octets *parts)
-{
-    size_t n;
-    uint8_t *out = malloc(JWE_MESSAGE_OCTETS);
-    if (out == NULL)
-        return system_trouble("memory");
-    uint32_t refusal = jwe_write_compact(
-        parts[HEADER].start, parts[HEADER].length, parts[KEY].start, parts[KEY].length, parts[IV].start,
-        parts[IV].length, parts[CIPHERTEXT].start, parts[CIPHERTEXT].length, parts[TAG].start, parts[TAG].length,
-        request->known, request->known_length, out, JWE_MESSAGE_OCTETS, &n);
-    int status = hand_out(refusal, out, n);
-    free(out);
-    return status;
-}
-
-/* A part whose file is not named is empty, but no message can be without a header. */
-static int write_message(struct request *request)
-{
-    uint8_t nothing = 0;
-    struct octets parts[PARTS];
-    int status = request->part_paths[HEADER] != NULL ? 0 : trouble("write", "--header FILE is needed");
-    for (int i = 0; i < PARTS; i++) {
-        parts[i] = (struct octets){&nothing, 0};
-        if (status == 0 && request->part_paths[i] != NULL)
-            status = read_file(request->part_paths[i], &parts[i]);
-    }
-    if (status == 0)
-        status = write_parts(request, parts);
-    for (int i = 0; i < PARTS; i++)
-        if (parts[i].start != &nothing)
-            free(parts[i].start);
-    return status;
-}
-
 /* Which subcommands take an option. */
 enum { READS = 1, WRITES = 2, INSPECTS = 4 };
 
+/* A subcommand has a row for each way to use it; they differ in what help says. */
 static const struct subcommand {
     const char *name, *arguments, *about;
     unsigned options;
@@ -144,25 +104,44 @@ static const struct subcommand {
      "Write the additional authenticated data (RFC 7516, section 5.1, step 14).", READS, 1, aad},
     {"write", "--header FILE [--key FILE] [--iv FILE] [--ciphertext FILE] [--tag FILE] [--known NAME]...",
      "Write a compact message; a component whose file is not named is empty.", WRITES, 0, write_message},
+    {"write",
+     "--flattened [--header FILE] [--shared FILE] [--own FILE] [--key FILE]\n"
+     "        [--aad FILE] [--iv FILE] [--ciphertext FILE] [--tag FILE] [--known NAME]...",
+     "Write a flattened message: --header is the protected header, --shared and --own are the shared and the\n"
+     "    recipient's own, which are not protected. What is not named is left out.",
+     WRITES, 0, write_message},
+    {"write",
+     "--general [--header FILE] [--shared FILE] [--own FILE] [--key FILE]\n"
+     "        [--next [--own FILE] [--key FILE]]...\n"
+     "        [--aad FILE] [--iv FILE] [--ciphertext FILE] [--tag FILE] [--known NAME]...",
+     "Write a general message for up to 8 recipients: --own and --key are the first recipient's, and after each\n"
+     "    --next those of one more.",
+     WRITES, 0, write_message},
 };
 
 enum { SUBCOMMANDS = sizeof subcommands / sizeof *subcommands };
 
-/* Each option but --numbers has a value, the next word. The first name the writer's files. */
-enum { KNOWN = PARTS, RECIPIENT, NUMBERS, OPTIONS };
+/* The first name the writer's files. From NUMBERS on an option has no value, else that is the next word. */
+enum { KNOWN = PARTS, RECIPIENT, NUMBERS, NEXT, TO_FLATTENED, TO_GENERAL, OPTIONS };
 
 static const struct {
     const char *name;
     unsigned taken_by;
 } options[OPTIONS] = {
     [HEADER] = {"--header", WRITES},
-    [KEY] = {"--key", WRITES},
+    [SHARED] = {"--shared", WRITES},
+    [AAD] = {"--aad", WRITES},
     [IV] = {"--iv", WRITES},
     [CIPHERTEXT] = {"--ciphertext", WRITES},
     [TAG] = {"--tag", WRITES},
+    [OWN] = {"--own", WRITES},
+    [KEY] = {"--key", WRITES},
     [KNOWN] = {"--known", READS | WRITES},
     [RECIPIENT] = {"--recipient", READS},
     [NUMBERS] = {"--numbers", INSPECTS},
+    [NEXT] = {"--next", WRITES},
+    [TO_FLATTENED] = {"--flattened", WRITES},
+    [TO_GENERAL] = {"--general", WRITES},
 };
 
 static void print_help(const struct subcommand *first, const struct subcommand *end)
@@ -224,6 +203,37 @@ static void lay_known(struct request *request)
     request->known_length = (size_t)(next - request->known);
 }
 
+/* A file that is named twice for one recipient is one that was meant for another. */
+static int take_path(struct request *request, int part, const char *option, const char *path)
+{
+    const char **place = &request->paths[part < OWN ? 0 : request->last_recipient][part];
+    if (*place != NULL)
+        return usage(option, part < OWN ? "given twice" : "given twice for one recipient; --next begins another");
+    *place = path;
+    return 0;
+}
+
+/* An option without a value. */
+static int take_flag(struct request *request, int option)
+{
+    int form = option == TO_FLATTENED ? FLATTENED : GENERAL;
+    switch (option) {
+    case NUMBERS:
+        request->numbers = true;
+        return 0;
+    case NEXT:
+        if (request->last_recipient + 1 == JWE_MOST_RECIPIENTS)
+            return usage("--next", "at most 8 recipients");
+        request->last_recipient++;
+        return 0;
+    default:
+        if (request->form != COMPACT && request->form != form)
+            return usage(options[option].name, "a message has one form");
+        request->form = form;
+        return 0;
+    }
+}
+
 /* Takes the option at words[0] and says in *taken how many words it has. */
 static int take_option(const struct subcommand *subcommand, struct request *request, char **words, int *taken)
 {
@@ -234,10 +244,8 @@ static int take_option(const struct subcommand *subcommand, struct request *requ
         option++;
     if (option == OPTIONS)
         return usage(words[0], "no such option of this subcommand");
-    if (option == NUMBERS) {
-        request->numbers = true;
-        return 0;
-    }
+    if (option >= NUMBERS)
+        return take_flag(request, option);
     if (value == NULL)
         return usage(words[0], "a value is needed");
     *taken = 2;
@@ -245,8 +253,7 @@ static int take_option(const struct subcommand *subcommand, struct request *requ
         return take_name(&request->names, value);
     if (option == RECIPIENT)
         return is_number(value, &request->recipient) ? 0 : usage(words[0], "a number of 32 bits is needed, in digits");
-    request->part_paths[option] = value;
-    return 0;
+    return take_path(request, option, words[0], value);
 }
 
 /* Options and operands in any order; after -- there are only operands. */
@@ -266,8 +273,9 @@ static int take_words(const struct subcommand *subcommand, struct request *reque
             request->operands[operands++] = *words;
         words += taken;
     }
-    for (int i = 0; i < PARTS; i++)
-        standard += request->part_paths[i] != NULL && strcmp(request->part_paths[i], "-") == 0;
+    for (size_t i = 0; i <= request->last_recipient; i++)
+        for (int part = 0; part < PARTS; part++)
+            standard += request->paths[i][part] != NULL && strcmp(request->paths[i][part], "-") == 0;
     if (status == 0 && operands < subcommand->operands)
         status = usage(subcommand->name, "an operand is missing");
     if (status == 0 && standard > 1)
@@ -299,16 +307,19 @@ static int dispatch(char **words)
         printf("jwe %s\n", jwe_version());
         return 0;
     }
-    for (const struct subcommand *each = subcommands; each < subcommands + SUBCOMMANDS; each++) {
-        if (strcmp(*words, each->name) != 0)
-            continue;
-        if (words[1] != NULL && strcmp(words[1], "--help") == 0) {
-            print_help(each, each + 1);
-            return 0;
-        }
-        return run(each, words + 1);
+    const struct subcommand *first = subcommands, *const end = subcommands + SUBCOMMANDS;
+    while (first < end && strcmp(*words, first->name) != 0)
+        first++;
+    if (first == end)
+        return usage(*words, "no such subcommand");
+    if (words[1] != NULL && strcmp(words[1], "--help") == 0) {
+        const struct subcommand *next = first;
+        while (next < end && strcmp(next->name, first->name) == 0)
+            next++;
+        print_help(first, next);
+        return 0;
     }
-    return usage(*words, "no such subcommand");
+    return run(first, words + 1);
 }
 
 int main(int argc, char **argv)

@@ -7,7 +7,8 @@ const struct refusal refusals[] = {
         "A lent output is shorter than asked: reading wants 4,096 octets for the header, 576 numbers for the list and, "
         "in C, 18 for the result; the others want as many octets as they would write.",
         "Lend more. Decoding n characters needs at most n / 4 * 3 + 2 octets; n octets are written as "
-        "floor((4n+2)/3) characters, and a compact message has four full stops besides.",
+        "floor((4n+2)/3) characters, and a compact message has four full stops besides; no message has more than "
+        "16,777,216 octets.",
     },
     [JWE_MESSAGE_TOO_LONG] = {
         "The message has, or written would have, over 16,777,216 octets.",
@@ -36,9 +37,9 @@ const struct refusal refusals[] = {
         "Have the sender move what is long (certificates, say) out of the header.",
     },
     [JWE_NOT_JSON] = {
-        "No JSON object (RFC 8259) within 12 levels, the message or the decoded header: no object reading, octets that "
-        "are not UTF-8 (RFC 3629), half of a surrogate pair in \\u without its other half, or nesting that is too "
-        "deep.",
+        "No JSON object (RFC 8259) within 12 levels, the message or the decoded header, or in JSON writing a header's "
+        "text by itself: no object reading, octets that are not UTF-8 (RFC 3629), half of a surrogate pair in \\u "
+        "without its other half, or nesting that is too deep.",
         "Have the sender's JSON writer mended; nothing of a text that has no reading is used. A byte order mark is no "
         "space.",
     },
@@ -95,6 +96,12 @@ const struct refusal refusals[] = {
     [JWE_NO_SUCH_RECIPIENT] = {
         "The recipient number is not below the message's recipient count.",
         "Ask for a recipient that the message has; counting begins with 0.",
+    },
+    [JWE_RECIPIENTS_MALFORMED] = {
+        "The table of recipients is malformed: one octet n (1 to 8), for each recipient the lengths of its header and "
+        "its key (4 octets each, the highest first), then header and key of each, filling the slice exactly; or a "
+        "flattened message was asked for with another number of recipients than one.",
+        "Mend the caller's table. For more than one recipient write the general form.",
     },
 };
 

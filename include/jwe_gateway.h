@@ -8,8 +8,8 @@
  *
  * The functions keep no state, allocate nothing and may be called from any thread. Pointers are not NULL, also where
  * the length beside them is 0; no two of a call's buffers overlap where one of them is written. jwe_judge,
- * jwe_component and jwe_read use at most 48 KiB of stack, the others at most 8 KiB; tests/host/stack.c holds them to
- * that. */
+ * jwe_component, jwe_read, jwe_write_flattened and jwe_write_general use at most 48 KiB of stack, the others at most
+ * 8 KiB; tests/host/stack.c holds them to that. */
 #ifndef JWE_GATEWAY_H
 #define JWE_GATEWAY_H
 
@@ -47,7 +47,8 @@ static inline const char *jwe_version(void)
     return JWE_GATEWAY_VERSION;
 }
 
-/* Refusals, in the order in which they are given; docs/REFUSALS.md has a sentence for each. */
+/* Refusals; docs/REFUSALS.md has a sentence for each. A message gets them in this order, and for those that write the
+ * order stands with the function. */
 #define JWE_OK 0u                 /* not refused */
 #define JWE_TOO_SHORT 1u          /* a lent output is shorter than asked */
 #define JWE_MESSAGE_TOO_LONG 2u   /* over 16,777,216 octets */
@@ -68,6 +69,7 @@ static inline const char *jwe_version(void)
 #define JWE_CRIT 17u              /* contents of crit */
 #define JWE_KEY 18u               /* not empty in direct modes, or empty in others */
 #define JWE_NO_SUCH_RECIPIENT 19u
+#define JWE_RECIPIENTS_MALFORMED 20u /* the table of recipients, or not one of them for a flattened message */
 
 #define JWE_MESSAGE_OCTETS 16777216u /* of the longest message */
 
@@ -107,6 +109,32 @@ JWE_NONNULL
 uint32_t jwe_write_compact(const uint8_t *header, size_t header_len, const uint8_t *key, size_t key_len,
                            const uint8_t *iv, size_t iv_len, const uint8_t *ciphertext, size_t ciphertext_len,
                            const uint8_t *tag, size_t tag_len, const uint8_t *known, size_t known_len,
+                           uint8_t *JWE_RESTRICT out, size_t out_len, size_t *JWE_RESTRICT octets);
+
+/* The recipients of a JSON message, `recipients` below, are a table of contents and then the bodies: one octet n (1 to
+ * JWE_MOST_RECIPIENTS), for each recipient the length of its own header's text and that of its raw key, 4 octets each,
+ * the highest first, then header and key of each one behind the other, filling recipients_len exactly. A length of 0
+ * means that the recipient has no such member. */
+#define JWE_MOST_RECIPIENTS 8u
+
+/* Write a JSON message (RFC 7516, section 7.2), flattened or general, of the texts of the protected, the shared and the
+ * recipients' own headers and the raw other components. What has length 0 is left out, but ciphertext. The members come
+ * as protected, unprotected, recipients (or header, encrypted_key), aad, iv, ciphertext, tag; the texts of shared and
+ * own headers stand as given, and no space is added. Each text is a JSON object by itself, so that it cannot end its
+ * member and begin another. A flattened message has one recipient; a general one has recipients also for one alone.
+ * Refusals in order: 3; 20; 6; 7 on each text by itself, protected, shared, own in turn; 2; then what jwe_judge would
+ * answer on the message, 7 and more, as a text may be too deep only where it stands; 1. */
+JWE_NONNULL
+uint32_t jwe_write_flattened(const uint8_t *protected_header, size_t protected_len, const uint8_t *shared,
+                             size_t shared_len, const uint8_t *aad, size_t aad_len, const uint8_t *iv, size_t iv_len,
+                             const uint8_t *ciphertext, size_t ciphertext_len, const uint8_t *tag, size_t tag_len,
+                             const uint8_t *known, size_t known_len, const uint8_t *recipients, size_t recipients_len,
+                             uint8_t *JWE_RESTRICT out, size_t out_len, size_t *JWE_RESTRICT octets);
+JWE_NONNULL
+uint32_t jwe_write_general(const uint8_t *protected_header, size_t protected_len, const uint8_t *shared,
+                           size_t shared_len, const uint8_t *aad, size_t aad_len, const uint8_t *iv, size_t iv_len,
+                           const uint8_t *ciphertext, size_t ciphertext_len, const uint8_t *tag, size_t tag_len,
+                           const uint8_t *known, size_t known_len, const uint8_t *recipients, size_t recipients_len,
                            uint8_t *JWE_RESTRICT out, size_t out_len, size_t *JWE_RESTRICT octets);
 
 /* Writes the additional authenticated data (RFC 7516, section 5.1, step 14) of an encoded protected header and an

@@ -25,9 +25,11 @@ static int is(const uint8_t *octets, size_t n, const char *text)
 int main(void)
 {
     static const uint8_t no_names[] = {0}, key[] = {0}, iv[] = {0}, ciphertext[] = {1, 2, 3}, tag[] = {2};
+    /* One recipient, who has neither header nor key. */
+    static const uint8_t recipients[] = {1, 0, 0, 0, 0, 0, 0, 0, 0};
     const char *header_text = "{\"alg\":\"dir\",\"enc\":\"A128GCM\"}";
     const uint8_t *m = (const uint8_t *)M, *text = (const uint8_t *)header_text;
-    uint8_t out[100], header[JWE_HEADER_OCTETS];
+    uint8_t out[200], header[JWE_HEADER_OCTETS];
     uint32_t list[JWE_LIST_NUMBERS], result[JWE_RESULT_NUMBERS];
     size_t n = 1;
     char version[32];
@@ -48,6 +50,17 @@ int main(void)
                             sizeof out, &n) == JWE_OK &&
               is(out, n, M),
           "M is written");
+    check(jwe_write_flattened(text, strlen(header_text), text, 0, text, 0, iv, 1, ciphertext, 3, tag, 1, no_names, 1,
+                              recipients, sizeof recipients, out, sizeof out, &n) == JWE_OK &&
+              is(out, n, "{\"protected\":\"" H "\",\"iv\":\"AA\",\"ciphertext\":\"AQID\",\"tag\":\"Ag\"}"),
+          "M's parts, flattened");
+    check(jwe_write_general(text, strlen(header_text), text, 0, text, 0, iv, 0, ciphertext, 0, tag, 0, no_names, 1,
+                            recipients, sizeof recipients, out, sizeof out, &n) == JWE_OK &&
+              is(out, n, "{\"protected\":\"" H "\",\"recipients\":[{}],\"ciphertext\":\"\"}"),
+          "M's header, general");
+    check(jwe_write_general(text, strlen(header_text), text, 0, text, 0, iv, 0, ciphertext, 0, tag, 0, no_names, 1,
+                            recipients, 8, out, sizeof out, &n) == JWE_RECIPIENTS_MALFORMED && n == 0,
+          "a table that is cut off");
 
     snprintf(version, sizeof version, "%d.%d.%d", JWE_GATEWAY_VERSION_MAJOR, JWE_GATEWAY_VERSION_MINOR,
              JWE_GATEWAY_VERSION_PATCH);

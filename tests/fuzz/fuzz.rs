@@ -1,7 +1,7 @@
 //! A fuzzer: changes messages, keeps those that make a block of the archive run for the first time or that reach an answer of
 //! a new kind, and goes on from them. Now and then a message of the host tests' maker is the one that is changed. Every answer
 //! is compared with the second reader's, by the comparer of the host tests, which looks at all lent memory too; a difference is
-//! shown, its message cut down, and ends the program with status 1.
+//! shown, its message cut down, and ends the program with status 1. The other functions are compared besides.
 //!
 //!     fuzz SECONDS SEED BLOCKS MESSAGE..
 //!
@@ -10,6 +10,9 @@
 #![allow(dead_code)]
 
 mod cover;
+#[path = "../host/json_writer.rs"]
+mod json_writer;
+mod json_writers;
 #[path = "../host/jwe.rs"]
 mod jwe;
 #[path = "../host/lent.rs"]
@@ -19,11 +22,14 @@ mod library;
 mod mutate;
 #[path = "../host/random.rs"]
 mod random;
+#[path = "../host/reader.rs"]
+mod reader;
 #[path = "../host/reference.rs"]
 mod reference;
 #[path = "../host/writer.rs"]
 mod writer;
 
+use json_writers::json_writers_agree;
 use jwe::messages::made;
 use jwe::second::Answer;
 use jwe::{cases, Call, Comparer};
@@ -155,7 +161,8 @@ fn main() {
         executions += 1;
         let before = cover::count();
         let answer = comparer.compare("fuzzed", &call);
-        if answer.refusal != 1 && !others_agree(&call, &answer, &reference) {
+        let agree = || others_agree(&call, &answer, &reference) && json_writers_agree(&call, &answer, &reference);
+        if answer.refusal != 1 && !agree() {
             println!("MISMATCH in the other functions, seed {seed}, execution {executions}");
             println!(" message {}", call.message.escape_ascii());
             println!("   known {}", call.known.escape_ascii());

@@ -1,9 +1,12 @@
 //! Compares the other functions for C with the second reader, the second base64url and a second writer, which stands
 //! here and is written from document 01: messages made by chance judged, and their components decoded; compact messages
-//! written of parts made by chance; what was written read again, and what was read written again; and the AAD.
+//! written of parts made by chance; what was written read again, and what was read written again; and the AAD. Those that write
+//! JSON have a file of their own.
 //!
 //! Every call is judged by its answer, its out-parameter and the whole of its memory: the buffer, the octets beside it,
 //! and what was lent to be read only.
+
+mod json_exports;
 
 use crate::jwe::messages::{made, made_compact};
 use crate::jwe::{ours, second, Call};
@@ -82,19 +85,19 @@ fn mismatch(what: &str, inputs: &[&[u8]], expected: String, got: String) -> ! {
 
 /// How often each number was answered.
 #[derive(Default)]
-struct Counts([u64; 20]);
+struct Counts([u64; 21]);
 
 impl Counts {
     fn report(&self, name: &str) {
         let all: u64 = self.0.iter().sum();
-        let numbers = (1..20).filter(|n| self.0[*n] > 0).map(|n| format!("{n}: {}", self.0[n])).collect::<Vec<_>>();
-        println!("{name:<17} {all:>7} random calls: {:>6} accepted, refused by {}", self.0[0], numbers.join(", "));
+        let numbers = (1..self.0.len()).filter(|n| self.0[*n] > 0).map(|n| format!("{n}: {}", self.0[n])).collect::<Vec<_>>();
+        println!("{name:<19} {all:>7} random calls: {:>6} accepted, refused by {}", self.0[0], numbers.join(", "));
     }
 }
 
 struct Exports<'a> {
     reference: &'a Reference,
-    inputs: [Lent; 6],
+    inputs: [Lent; 8],
     out: Lent,
     /// Random octets, from which buffers get what they hold before a call.
     canary: Vec<u8>,
@@ -102,9 +105,11 @@ struct Exports<'a> {
     judge: Counts,
     component: Counts,
     write: Counts,
+    /// Flattened and general.
+    write_json: [Counts; 2],
     aad: Counts,
-    /// Messages written and then read, and read and then written.
-    round_trips: [u64; 2],
+    /// Compact messages written and then read, and read and then written; recipients of JSON messages written and then read.
+    round_trips: [u64; 3],
 }
 
 impl Exports<'_> {
@@ -129,7 +134,7 @@ impl Exports<'_> {
         let answer = (expected.err().unwrap_or(0), written.len());
         let mut octets = !answer.1;
         let mut lents = self.inputs.iter_mut();
-        let lent = inputs.map(|_| &*lents.next().expect("at most six inputs").buffer());
+        let lent = inputs.map(|_| &*lents.next().expect("at most eight inputs").buffer());
         let refusal = function(lent, self.out.buffer(), &mut octets);
         if (refusal, octets) != answer {
             let what = format!("{what}, buffer of {room}: refusal and octets");
@@ -235,6 +240,7 @@ impl Exports<'_> {
 struct Reading {
     refusal: u32,
     header: Vec<u8>,
+    list: [u32; 576],
     result: [u32; 18],
 }
 
@@ -242,19 +248,22 @@ impl Reading {
     fn of(message: &[u8], known: &[u8], recipient: u32) -> Self {
         let (mut header, mut list, mut result) = (vec![0; HEADER], [0; 576], [0; 18]);
         let refusal = ours(message, known, recipient, &mut header, &mut list, &mut result);
-        Reading { refusal, header, result }
+        Reading { refusal, header, list, result }
     }
 
-    /// The parts of an accepted compact message, decoded by the library.
+    /// A component of an accepted message, decoded by the library.
+    fn decoded(&self, message: &[u8], component: usize) -> Vec<u8> {
+        let [start, length] = [0, 1].map(|i| self.result[4 + 2 * component + i] as usize);
+        let (mut octets, mut n) = (vec![0; length / 4 * 3 + 2], 0);
+        let refusal = library::decode(&message[start..][..length], &mut octets, &mut n);
+        assert_eq!(refusal, 0, "a component of an accepted message is base64url");
+        octets.truncate(n);
+        octets
+    }
+
+    /// The parts of an accepted compact message.
     fn parts(&self, message: &[u8]) -> Parts {
-        let decoded = |component: usize| {
-            let [start, length] = [0, 1].map(|i| self.result[4 + 2 * component + i] as usize);
-            let (mut octets, mut n) = (vec![0; length / 4 * 3 + 2], 0);
-            let refusal = library::decode(&message[start..][..length], &mut octets, &mut n);
-            assert_eq!(refusal, 0, "a component of an accepted message is base64url");
-            octets.truncate(n);
-            octets
-        };
+        let decoded = |component| self.decoded(message, component);
         [self.header[..self.result[16] as usize].to_vec(), decoded(1), decoded(2), decoded(4), decoded(5)]
     }
 }
@@ -302,15 +311,16 @@ pub fn compare(random: &mut Random) -> bool {
     let reference = Reference::new();
     let mut exports = Exports {
         reference: &reference,
-        inputs: [(); 6].map(|_| Lent::new(LONGEST + OVER)),
+        inputs: [(); 8].map(|_| Lent::new(LONGEST + OVER)),
         out: Lent::new(LONGEST + OVER),
         canary: (0..LONGEST + OVER + OFFSETS).map(|_| random.next() as u8).collect(),
         calls: 0,
         judge: Counts::default(),
         component: Counts::default(),
         write: Counts::default(),
+        write_json: Default::default(),
         aad: Counts::default(),
-        round_trips: [0; 2],
+        round_trips: [0; 3],
     };
 
     let vectors = Path::new(file!()).parent().expect("a directory").join("../vectors");
@@ -350,9 +360,10 @@ pub fn compare(random: &mut Random) -> bool {
     exports.component.report("jwe_component");
     exports.write.report("jwe_write_compact");
     exports.aad.report("jwe_aad");
-    let [written, read] = exports.round_trips;
-    println!("round trips: {written} messages written and read, {read} read and written");
+    let [written, read, _] = exports.round_trips;
+    println!("round trips: {written} compact messages written and read, {read} read and written");
     let met = |counts: &Counts, numbers: &[u32]| numbers.iter().all(|number| counts.0[*number as usize] > 0);
     let from_3: Vec<u32> = (3..20).collect();
-    met(&exports.judge, &from_3) && met(&exports.component, &from_3) && met(&exports.write, &WRITER_REFUSALS)
+    let json = json_exports::compare(&mut exports, random);
+    json && met(&exports.judge, &from_3) && met(&exports.component, &from_3) && met(&exports.write, &WRITER_REFUSALS)
 }

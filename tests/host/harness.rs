@@ -1,4 +1,4 @@
-//! Compares the library with a second base64url, a second reader of JSON, and a second reader and writer of messages on
+//! Compares the library with a second base64url, a second reader of JSON, and a second reader and writers of messages on
 //! millions of random and damaged texts and messages, and on all short ones.
 //! Deterministic by seed: `harness [SEED]`. With a seed, all short texts and groups, which need no chance, are left out. Exits 1 at
 //! the first difference.
@@ -6,10 +6,13 @@
 //! Every call is judged by its answer, its out-parameter and the whole of its memory: the buffer, the octets beside it
 //! and the input. A stray read or write beyond either stops the program.
 
+#[path = "exports.rs"]
 mod exports;
 #[path = "jwe.rs"]
 mod jwe;
 mod json;
+mod json_write_cases;
+mod json_writer;
 mod lent;
 mod library;
 mod random;

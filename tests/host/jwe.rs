@@ -5,11 +5,12 @@
 //! each of them, and what was lent to be read only.
 
 pub mod cases;
-mod colliding;
+pub mod colliding;
 mod colliding_cases;
 mod json_cases;
 pub mod messages;
 mod parameters;
+pub mod pieces;
 pub mod second;
 
 use crate::lent::Lent;
@@ -326,16 +327,21 @@ impl<'a> Comparer<'a> {
     }
 }
 
+/// The parameters of a list: origin, name, value and kind.
+pub fn parameter_rows<'a>(message: &'a [u8], header: &'a [u8], list: &[u32]) -> Vec<(u32, &'a [u8], &'a [u8], u32)> {
+    let row = |row: &[u32]| {
+        let text = if row[0] == 0 { header } else { message };
+        let part = |start: u32, length: u32| &text[start as usize..][..length as usize];
+        (row[0], part(row[1], row[2]), part(row[3], row[4]), row[5])
+    };
+    list.chunks_exact(6).map(row).collect()
+}
+
 /// The text of a parameter's value, found in the list by its name's spelling.
 fn parameter(call: &Call, answer: &Answer, name: &str) -> String {
-    for row in answer.list.chunks_exact(6) {
-        let text = if row[0] == 0 { &answer.header } else { &call.message };
-        let part = |start: u32, length: u32| String::from_utf8_lossy(&text[start as usize..][..length as usize]);
-        if part(row[1], row[2]) == name {
-            return part(row[3], row[4]).into_owned();
-        }
-    }
-    String::new()
+    let rows = parameter_rows(&call.message, &answer.header, &answer.list);
+    let found = rows.iter().find(|(_, spelling, ..)| *spelling == name.as_bytes());
+    found.map_or(String::new(), |(_, _, value, _)| String::from_utf8_lossy(value).into_owned())
 }
 
 /// One octet otherwise, one too few or one too many.

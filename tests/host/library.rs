@@ -30,6 +30,48 @@ extern "C" {
         out_len: usize,
         octets: *mut usize,
     ) -> u32;
+    fn jwe_write_flattened(
+        protected: *const u8,
+        protected_len: usize,
+        shared: *const u8,
+        shared_len: usize,
+        aad: *const u8,
+        aad_len: usize,
+        iv: *const u8,
+        iv_len: usize,
+        ciphertext: *const u8,
+        ciphertext_len: usize,
+        tag: *const u8,
+        tag_len: usize,
+        known: *const u8,
+        known_len: usize,
+        recipients: *const u8,
+        recipients_len: usize,
+        out: *mut u8,
+        out_len: usize,
+        octets: *mut usize,
+    ) -> u32;
+    fn jwe_write_general(
+        protected: *const u8,
+        protected_len: usize,
+        shared: *const u8,
+        shared_len: usize,
+        aad: *const u8,
+        aad_len: usize,
+        iv: *const u8,
+        iv_len: usize,
+        ciphertext: *const u8,
+        ciphertext_len: usize,
+        tag: *const u8,
+        tag_len: usize,
+        known: *const u8,
+        known_len: usize,
+        recipients: *const u8,
+        recipients_len: usize,
+        out: *mut u8,
+        out_len: usize,
+        octets: *mut usize,
+    ) -> u32;
     fn jwe_aad(
         encoded_header: *const u8,
         header_len: usize,
@@ -87,6 +129,35 @@ pub fn write_compact(inputs: [&[u8]; 6], out: &mut [u8], octets: &mut usize) -> 
             tag.len(),
             known.as_ptr(),
             known.len(),
+            out.as_mut_ptr(),
+            out.len(),
+            octets,
+        )
+    }
+}
+
+/// Protected and shared header, aad, iv, ciphertext, tag, the known names, and the table of recipients.
+pub fn write_json(general: bool, inputs: [&[u8]; 8], out: &mut [u8], octets: &mut usize) -> u32 {
+    let [protected, shared, aad, iv, ciphertext, tag, known, recipients] = inputs;
+    let write = if general { jwe_write_general } else { jwe_write_flattened };
+    unsafe {
+        write(
+            protected.as_ptr(),
+            protected.len(),
+            shared.as_ptr(),
+            shared.len(),
+            aad.as_ptr(),
+            aad.len(),
+            iv.as_ptr(),
+            iv.len(),
+            ciphertext.as_ptr(),
+            ciphertext.len(),
+            tag.as_ptr(),
+            tag.len(),
+            known.as_ptr(),
+            known.len(),
+            recipients.as_ptr(),
+            recipients.len(),
             out.as_mut_ptr(),
             out.len(),
             octets,

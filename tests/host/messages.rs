@@ -20,7 +20,7 @@ pub const VALUES: [&[u8]; 11] =
 
 pub struct Maker<'a> {
     pub random: &'a mut Random,
-    reference: &'a Reference,
+    pub reference: &'a Reference,
     /// One bit for each number of which a fault is put in.
     faults: u32,
     /// Of 16 places for a space, and of 16 characters for an escape, how many are used.
@@ -70,7 +70,7 @@ impl Maker<'_> {
         })
     }
 
-    fn object(&mut self, members: &Object) -> Vec<u8> {
+    pub fn object(&mut self, members: &Object) -> Vec<u8> {
         let names: Vec<Vec<u8>> = members.iter().map(|(name, _)| self.quoted(name)).collect();
         self.written(|writer| {
             writer.sign(b'{');
@@ -103,17 +103,22 @@ impl Maker<'_> {
         self.written(|writer| writer.value(levels))
     }
 
-    /// A component that is not empty.
-    pub fn component(&mut self) -> Vec<u8> {
+    /// The octets of a component that is not empty.
+    pub fn octets(&mut self) -> Vec<u8> {
         let most = self.pick(&[24, 24, 24, 24, 24, 24, 24, 1000]);
         let n = 1 + self.random.below(most);
-        self.reference.encode(&self.random.octets(n))
+        self.random.octets(n)
+    }
+
+    pub fn component(&mut self) -> Vec<u8> {
+        let octets = self.octets();
+        self.reference.encode(&octets)
     }
 
     // The message
 
     /// The octets of the protected header.
-    fn header_text(&mut self) -> Vec<u8> {
+    pub fn header_text(&mut self) -> Vec<u8> {
         let protected = std::mem::take(&mut self.protected);
         let mut text = self.object(&protected);
         if self.wants(6) {
@@ -278,7 +283,7 @@ impl Maker<'_> {
         }
     }
 
-    fn known_list(&mut self) -> Vec<u8> {
+    pub fn known_list(&mut self) -> Vec<u8> {
         let mut list = vec![self.known.len() as u8];
         list.extend(self.known.iter().map(|name| name.len() as u8));
         list.extend(self.known.concat());
@@ -308,19 +313,15 @@ pub fn made_compact(random: &mut Random, reference: &Reference) -> Call {
     made_in(0, random, reference).1
 }
 
-fn made_in(form: usize, random: &mut Random, reference: &Reference) -> (usize, Call) {
-    // Of two faults the second is often one of the next numbers, so that their order shows.
-    let (mut faults, mut number) = (0, 0);
-    for _ in 0..[0, 0, 1, 1, 2, 2, 2, 3][random.below(8)] {
-        number = if number > 0 && random.below(2) == 0 { number + random.below(4) } else { 1 + random.below(19) };
-        faults |= 1 << number.min(19);
-    }
+/// A maker of so many recipients, with headers and keys that have their faults.
+pub fn maker<'a>(
+    form: usize,
+    faults: u32,
+    recipients: usize,
+    random: &'a mut Random,
+    reference: &'a Reference,
+) -> Maker<'a> {
     let (spaces, escapes) = ([0, 0, 0, 1, 1, 6, 6, 13][random.below(8)], [0, 0, 1, 8][random.below(4)]);
-    let recipients = match form {
-        2 if faults >> 11 & 1 == 1 => 8 + random.below(4),
-        2 => [1, 1, 2, 2, 3, 1 + random.below(8)][random.below(6)],
-        _ => 1,
-    };
     let mut maker = Maker {
         random,
         reference,
@@ -339,6 +340,22 @@ fn made_in(form: usize, random: &mut Random, reference: &Reference) -> (usize, C
         let which = maker.random.below(recipients);
         maker.keys[which] = if maker.keys[which].is_empty() { maker.component() } else { Vec::new() };
     }
+    maker
+}
+
+fn made_in(form: usize, random: &mut Random, reference: &Reference) -> (usize, Call) {
+    // Of two faults the second is often one of the next numbers, so that their order shows.
+    let (mut faults, mut number) = (0, 0);
+    for _ in 0..[0, 0, 1, 1, 2, 2, 2, 3][random.below(8)] {
+        number = if number > 0 && random.below(2) == 0 { number + random.below(4) } else { 1 + random.below(19) };
+        faults |= 1 << number.min(19);
+    }
+    let recipients = match form {
+        2 if faults >> 11 & 1 == 1 => 8 + random.below(4),
+        2 => [1, 1, 2, 2, 3, 1 + random.below(8)][random.below(6)],
+        _ => 1,
+    };
+    let mut maker = maker(form, faults, recipients, random, reference);
     let known = maker.known_list();
     let mut message = if form == 0 { maker.compact() } else { maker.json() };
     if maker.wants(7) && maker.chance(4) || maker.chance(2) {

@@ -1,6 +1,6 @@
 /* Measures the stack that the functions for C use, and check, encode and judge: they run on a stack of their own that
  * was painted before, and the lowest octet that lost its paint shows how deep they went. Fails above 8 KiB, for
- * those that read a message above 48 KiB.
+ * those that read a message or write a JSON one above 48 KiB.
  *
  * Not built with the sanitizers, which use the stack themselves. */
 #define _GNU_SOURCE
@@ -74,6 +74,26 @@ static uint32_t read_message(const uint8_t *in, size_t in_len, uint8_t *out, siz
 static uint32_t write_message(const uint8_t *in, size_t in_len, uint8_t *out, size_t out_len, size_t *n)
 {
     return jwe_write_compact(in, in_len, octet, 0, octet, 1, octet, 1, octet, 1, names, sizeof names, out, out_len, n);
+}
+
+/* What a JSON message is written of, but for the ciphertext: texts with as much nesting as they can have. */
+static struct {
+    uint8_t header[JWE_HEADER_OCTETS], shared[SHORT], recipients[1 + RECIPIENTS * (8 + SHORT)];
+    size_t header_len, shared_len, recipients_len;
+} pieces;
+
+static uint32_t write_flattened(const uint8_t *in, size_t in_len, uint8_t *out, size_t out_len, size_t *n)
+{
+    return jwe_write_flattened(pieces.header, pieces.header_len, pieces.shared, pieces.shared_len, octet, 1, octet, 1,
+                               in, in_len, octet, 1, names, sizeof names, pieces.recipients, pieces.recipients_len,
+                               out, out_len, n);
+}
+
+static uint32_t write_general(const uint8_t *in, size_t in_len, uint8_t *out, size_t out_len, size_t *n)
+{
+    return jwe_write_general(pieces.header, pieces.header_len, pieces.shared, pieces.shared_len, octet, 1, octet, 1, in,
+                             in_len, octet, 1, names, sizeof names, pieces.recipients, pieces.recipients_len, out,
+                             out_len, n);
 }
 
 static uint32_t join(const uint8_t *in, size_t in_len, uint8_t *out, size_t out_len, size_t *n)
@@ -151,7 +171,7 @@ static size_t larger(size_t a, size_t b)
 static int report(const char *name, size_t most_short, size_t most_long)
 {
     int good = larger(most_short, most_long) <= LIMIT;
-    printf("stack: %-17s %5zu octets for 16 MiB, at most %zu for up to %d octets%s\n", name, most_long, most_short,
+    printf("stack: %-19s %5zu octets for 16 MiB, at most %zu for up to %d octets%s\n", name, most_long, most_short,
            SHORT, good ? "" : ": FAILED, more than 8 KiB");
     return good;
 }
@@ -189,7 +209,7 @@ static int report_judge(uint8_t *text)
                 larger(refused, used(judge, text, nest(text, LEVELS + 1, arrays[a], inmost[i]), NULL, 0, NO_OBJECT));
         }
     int good = larger(most, refused) <= LIMIT;
-    printf("stack: %-17s %5zu octets for %d levels, %zu for %d, which it refuses%s\n", "judge", most, LEVELS, refused,
+    printf("stack: %-19s %5zu octets for %d levels, %zu for %d, which it refuses%s\n", "judge", most, LEVELS, refused,
            LEVELS + 1, good ? "" : ": FAILED, more than 8 KiB");
     return good;
 }
@@ -252,10 +272,29 @@ static size_t put_message(uint8_t *text, int form, struct nesting nesting)
     return n;
 }
 
+/* Lays the pieces for a form, 1 or 2, with 1 recipient or 8. */
+static void put_pieces(int form, struct nesting nesting)
+{
+    size_t count = form == 1 ? 1 : RECIPIENTS, n = 1 + 8 * count;
+    pieces.header_len = put_header(pieces.header, 0, nesting);
+    size_t end = put(pieces.shared, 0, "{\"u\":");
+    pieces.shared_len = put(pieces.shared, put_nested(pieces.shared, end, nesting, 2), "}");
+    memset(pieces.recipients, 0, n);
+    pieces.recipients[0] = (uint8_t)count;
+    for (size_t i = 0; i < count; i++) {
+        end = put_nested(pieces.recipients, put(pieces.recipients, n, "{\"r\":"), nesting, form == 1 ? 2 : 4);
+        end = put(pieces.recipients, end, "}");
+        pieces.recipients[3 + 8 * i] = (uint8_t)((end - n) >> 8);
+        pieces.recipients[4 + 8 * i] = (uint8_t)(end - n);
+        n = end;
+    }
+    pieces.recipients_len = n;
+}
+
 static int report_message(const char *name, size_t most, size_t limit)
 {
     int good = most <= limit;
-    printf("stack: %-17s %5zu octets for messages of %d levels and %d recipients", name, most, LEVELS, RECIPIENTS);
+    printf("stack: %-19s %5zu octets for messages of %d levels and %d recipients", name, most, LEVELS, RECIPIENTS);
     if (!good)
         printf(": FAILED, more than %zu", limit);
     putchar('\n');
@@ -270,8 +309,9 @@ static int report_messages(uint8_t *text, uint8_t *out)
     const struct {
         const char *name;
         call *function;
-    } functions[] = {{"jwe_judge", judge_message}, {"jwe_component", component}, {"jwe_read", read_message}};
-    size_t most[sizeof functions / sizeof *functions] = {0}, most_written = 0;
+    } functions[] = {{"jwe_judge", judge_message}, {"jwe_component", component}, {"jwe_read", read_message}},
+      writers[] = {{"jwe_write_flattened", write_flattened}, {"jwe_write_general", write_general}};
+    size_t most[sizeof functions / sizeof *functions] = {0}, most_written = 0, most_json[2] = {0};
     for (size_t i = 0; i < sizeof arrays / sizeof *arrays * (sizeof inmost / sizeof *inmost); i++)
         for (size_t levels = LEVELS; levels <= LEVELS + 1; levels++) {
             struct nesting nesting = {levels, arrays[i % 4], inmost[i / 4]};
@@ -284,6 +324,11 @@ static int report_messages(uint8_t *text, uint8_t *out)
             }
             size_t length = put_header(text, 0, nesting);
             most_written = larger(most_written, used(write_message, text, length, out, LONG, answer));
+            for (int form = 1; form <= 2; form++) {
+                put_pieces(form, nesting);
+                most_json[form - 1] =
+                    larger(most_json[form - 1], used(writers[form - 1].function, octet, 1, out, LONG, answer));
+            }
         }
     size_t length = put_message(text, 0, (struct nesting){LEVELS, 0, ""});
     memset(text + length, 'A', LONG - length);
@@ -295,8 +340,14 @@ static int report_messages(uint8_t *text, uint8_t *out)
         good &= report_message(functions[f].name, most[f], MESSAGE_LIMIT);
     }
     good &= report_message("jwe_write_compact", most_written, LIMIT);
+    for (int form = 1; form <= 2; form++) {
+        put_pieces(form, (struct nesting){LEVELS, 0, ""});
+        call *writer = writers[form - 1].function;
+        most_json[form - 1] = larger(most_json[form - 1], used(writer, text, LONG / 2, out, LONG, JWE_OK));
+        good &= report_message(writers[form - 1].name, most_json[form - 1], MESSAGE_LIMIT);
+    }
     size_t joined = used(join, text, LONG / 2, out, LONG + 1, JWE_OK);
-    printf("stack: %-17s %5zu octets%s\n", "jwe_aad", joined, joined <= LIMIT ? "" : ": FAILED, more than 8 KiB");
+    printf("stack: %-19s %5zu octets%s\n", "jwe_aad", joined, joined <= LIMIT ? "" : ": FAILED, more than 8 KiB");
     return good && joined <= LIMIT;
 }
 
