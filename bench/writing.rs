@@ -171,7 +171,7 @@ pub fn measure(reader: &mut Reader) {
     }
 
     println!();
-    println!("A text that is too deep where it stands, and so is validated twice, beside one that is not: to be at most 2.2 times as long.");
+    println!("A text that is too deep where it stands beside one that is not: to be at most 2.2 times as long.");
     println!();
     println!("{:<20} {:>9} {:>19} {:>19}", "milliseconds", "too deep", "not", "too deep/not");
     println!("{:<20}{}", "", "      best    median".repeat(3));
