@@ -1,6 +1,6 @@
 -- The tests on all texts, and the order that they make.
 use mathlib.Core.Path.{_≡_, refl, ap, ap₂, sym, _∙_}
-use mathlib.Core.Bool.{Bool, true, false, _||_, cond, true≢false}
+use mathlib.Core.Bool.{Bool, true, false, _||_}
 use mathlib.Core.List.{List, [], _∷_, _++_}
 use Prim.Native.Nat.{ℕ, zero, suc, _≤_, _<_}
 use native.Mathlib.Omega.{arith}
@@ -20,6 +20,7 @@ use Rattle.recipients.specs.Table.{RawRecipient}
 use Rattle.json_message.specs.WriteOrder.{unreadWithin}
 use Rattle.json_message.specs.Inner.Judged.{sharedLevels, ownLevels}
 use Rattle.json_message.specs.Inner.PiecesOrder.{hollowText}
+use Rattle.json_message.proofs.FieldEntries.{or-false}
 use Rattle.json_message.proofs.Unread.{text-iff, text-more}
 use Rattle.json_judge.specs.Inner.Asked.{Readable, OwnReadable, OwnShort, unreadTexts, hollowTexts, overTests, withinTests, parametersTests}
 
@@ -131,10 +132,6 @@ module _ (general : Bool) (known : List (List ℕ)) (header shared : List ℕ) (
 
 -- Texts that read where they will stand read alone.
 
-or-none : (a b : Bool) → (a || b) ≡ false → (a ≡ false) × (b ≡ false)
-or-none true b e = absurd (true≢false e)
-or-none false b e = (refl, e)
-
 more-levels : (l : ℕ) → l ≤ levels → (w : List ℕ) → unreadWithin l w ≡ false → unreadWithin levels w ≡ false
 more-levels l h w e = text-iff levels w .1 (text-more l levels h w (text-iff l w .0 e))
 
@@ -143,7 +140,7 @@ own-readable : (l : ℕ) → l ≤ levels → (rs : List RawRecipient) → any (
 unfolding any
 own-readable l h [] e s = tt
 own-readable l h (r ∷ rs) e s =
-    let o = or-none (unreadWithin l (r .header)) (any (λ q. unreadWithin l (q .header)) rs) e in
+    let o = or-false (unreadWithin l (r .header)) (any (λ q. unreadWithin l (q .header)) rs) e in
     (record { short = s .0; reads = more-levels l h (r .header) (o .0) }, own-readable l h rs (o .1) (s .1))
 
 module _ (general : Bool) (header shared : List ℕ) (rs : List RawRecipient) (short : length header ≤ 4096)
@@ -153,8 +150,8 @@ module _ (general : Bool) (header shared : List ℕ) (rs : List RawRecipient) (s
       × ((unreadWithin sharedLevels shared ≡ false) × (any (λ r. unreadWithin (ownLevels general) (r .header)) rs ≡ false))
   unfolding unreadTexts
   parts =
-      let a = or-none (unreadWithin levels header) _ read in
-      (a .0, or-none (unreadWithin sharedLevels shared) (any (λ r. unreadWithin (ownLevels general) (r .header)) rs) (a .1))
+      let a = or-false (unreadWithin levels header) _ read in
+      (a .0, or-false (unreadWithin sharedLevels shared) (any (λ r. unreadWithin (ownLevels general) (r .header)) rs) (a .1))
 
   pub header-readable : Readable header
   header-readable = record { short = omega (arith, short); reads = parts .0 }

@@ -1,5 +1,5 @@
 -- Refusal 7 by the texts: none is refused exactly where each reads within the levels that are left to it.
-use mathlib.Core.Path.{_≡_, refl, ap}
+use mathlib.Core.Path.{_≡_, refl, ap, ap₂}
 use mathlib.Core.List.{List, [], _∷_}
 use mathlib.Core.Bool.{Bool, true, false, _||_, true≢false}
 use mathlib.Core.Logic.{_↔_}
@@ -16,6 +16,7 @@ use Rattle.json_message.specs.JsonText.{RawMessage}
 use Rattle.json_message.specs.WriteOrder.{unreadWithin, unreadAlone}
 use Rattle.json_message.specs.Inner.Judged.{Judged, OwnJudged, sharedLevels, ownLevels, TextsJudged}
 use Rattle.json_message.specs.Inner.PiecesOrder.{unreadInside}
+use Rattle.json_message.proofs.FieldEntries.{or-false}
 
 answer-is : (l : ℕ) (s : List ℕ) (a : Answer) → readText l s ≡ a → isNothing a ≡ false → Reading l s
 answer-is l s nothing p e = absurd (true≢false e)
@@ -29,8 +30,7 @@ text-iff l [] = ((λ e. tt), (λ h. refl))
 text-iff l (c ∷ w) = reads-iff l (c ∷ w)
 
 or-iff : (a b : Bool) → ((a || b) ≡ false) ↔ ((a ≡ false) × (b ≡ false))
-or-iff true b = ((λ e. absurd (true≢false e)), (λ h. h .0))
-or-iff false b = ((λ e. (refl, e)), (λ h. h .1))
+or-iff a b = (or-false a b, (λ h. ap₂ _||_ (h .0) (h .1)))
 
 own-iff : (l : ℕ) (rs : List RawRecipient) → (any (λ r. unreadWithin l (r .header)) rs ≡ false) ↔ OwnJudged l rs
 unfolding any

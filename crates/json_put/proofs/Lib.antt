@@ -1,5 +1,4 @@
--- Texts with commas between, and members: what they are made of and how long they are.
-pub mod Led
+-- Members: what they are made of and how long they are.
 pub mod Members
 -- Members measured and put, one behind the other.
 pub mod Measuring

@@ -14,11 +14,11 @@ use Rattle.recipients.specs.Parsed.{saidCount, recipientAt, recipientsIn}
 use Rattle.recipients.proofs.Places.{recipients-next, recipients-end}
 use Rattle.json_text.specs.Pieces.{quoted, memberText, bracketed}
 use Rattle.json_text.specs.Inner.Led.{led, ledSize, begunAfter}
+use Rattle.json_text.proofs.Led.{led-append, begun-append, led-one, one-length, bracketed-length}
 use Rattle.json_message.specs.JsonText.{headerMember, ownMembers, elementText, recipientMembers}
 use Rattle.json_put.specs.Inner.Members.{encodedMember, cut, measured, widened}
 use Rattle.json_put.specs.declared.Cursor.{Cursor}
-use Rattle.json_put.proofs.Led.{led-append, begun-append, led-one, one-length}
-use Rattle.json_put.proofs.Members.{header-present, member-length, quoted-length, bracketed-length}
+use Rattle.json_put.proofs.Members.{header-present, member-length, quoted-length}
 
 abbrev cursor : ℕ → Bool → Cursor
 cursor at begun = record { at = at; begun = begun }

@@ -1,4 +1,4 @@
--- Members and brackets: what they are made of, in the order in which they are put, and how long they are.
+-- Members: what they are made of, in the order in which they are put, and how long they are.
 use mathlib.Core.Path.{_≡_, refl, ap, ap₂, sym, _∙_}
 use mathlib.Core.Bool.{Bool, true, false}
 use mathlib.Core.List.{List, [], _∷_, _++_, append-assoc}
@@ -12,10 +12,10 @@ use Rattle.recipients.specs.Parsed.{bodyAt, recipientAt, recipientsIn, soundTab
 use Rattle.recipients.proofs.Places.{recipients-next, sound-some}
 use Rattle.json_text.specs.Pieces.{quoted, memberText, bracketed}
 use Rattle.json_text.specs.Inner.Led.{led}
+use Rattle.json_text.proofs.Led.{bracketed-led, bracketed-length}
 use Rattle.json_message.specs.JsonText.{headerMember, componentMember, ownMembers, recipientMembers, topMembers, jsonText}
-use Rattle.json_put.specs.Given.{given}
+use Rattle.json_message.specs.JsonWrite.{rawJson, messageOf, writtenText}
 use Rattle.json_put.specs.Inner.Members.{nameText, encodedMember, shown, headMembers, tailMembers}
-use Rattle.json_put.proofs.Led.{joined-led}
 
 -- Members
 
@@ -58,16 +58,6 @@ pub quoted-length : (w : List ℕ) → length (quoted w) ≡ length w + 2
 unfolding quoted
 quoted-length w = omega (arith, length-append w (quote ∷ []))
 
--- Brackets
-
-module _ (b : Bracket) (ws : List (List ℕ)) where
-  pub bracketed-led : bracketed b ws ≡ opening b ∷ (led false ws ++ (closing b ∷ []))
-  unfolding bracketed
-  bracketed-led = ap (λ (l : List ℕ). opening b ∷ (l ++ (closing b ∷ []))) (joined-led ws)
-
-  pub bracketed-length : length (bracketed b ws) ≡ length (led false ws) + 2
-  bracketed-length = omega (arith, ap length bracketed-led, length-append (led false ws) (closing b ∷ []))
-
 -- A recipient
 
 -- its members, by its header and its key
@@ -92,18 +82,18 @@ module _ (general : Bool) (protected shared aad iv ciphertext tag table : List �
   abbrev pub allMembers : List (List ℕ)
   allMembers = headMembers general protected shared (recipientsIn table) ++ tailMembers aad iv ciphertext tag
 
-  members-are : topMembers general (given protected shared aad iv ciphertext tag table) ≡ allMembers
+  members-are : topMembers general (messageOf (rawJson protected shared aad iv ciphertext tag table)) ≡ allMembers
   unfolding topMembers headMembers tailMembers encodedMember
   members-are = simp append-assoc
 
-  text-is : jsonText general (given protected shared aad iv ciphertext tag table) ≡ bracketed curly allMembers
+  text-is : writtenText general (rawJson protected shared aad iv ciphertext tag table) ≡ bracketed curly allMembers
   unfolding jsonText
   text-is = ap (bracketed curly) members-are
 
-  pub text-parts : jsonText general (given protected shared aad iv ciphertext tag table)
+  pub text-parts : writtenText general (rawJson protected shared aad iv ciphertext tag table)
       ≡ 123 ∷ (led false allMembers ++ (125 ∷ []))
   text-parts = text-is ∙ bracketed-led curly allMembers
 
-  pub text-size : length (jsonText general (given protected shared aad iv ciphertext tag table))
+  pub text-size : length (writtenText general (rawJson protected shared aad iv ciphertext tag table))
       ≡ length (led false allMembers) + 2
   text-size = ap length text-is ∙ bracketed-length curly allMembers

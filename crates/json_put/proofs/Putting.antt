@@ -13,11 +13,11 @@ use Rattle.recipients.specs.Parsed.{saidCount, recipientAt, recipientsIn}
 use Rattle.recipients.proofs.Places.{recipients-next, recipients-end}
 use Rattle.json_text.specs.Pieces.{memberText, bracketed}
 use Rattle.json_text.specs.Inner.Led.{led, ledOne, begunAfter}
+use Rattle.json_text.proofs.Led.{led-append, begun-append, led-one, one-apart, bracketed-led}
 use Rattle.json_message.specs.JsonText.{elementText}
 use Rattle.json_put.specs.Inner.Members.{nameText, behind, Room, Puts}
 use Rattle.json_put.specs.declared.Cursor.{Cursor}
-use Rattle.json_put.proofs.Led.{led-append, begun-append, led-one, one-apart}
-use Rattle.json_put.proofs.Members.{member-is, bracketed-led}
+use Rattle.json_put.proofs.Members.{member-is}
 
 abbrev cursor : ℕ → Bool → Cursor
 cursor at begun = record { at = at; begun = begun }

@@ -1,15 +1,15 @@
 -- Texts with commas between are those written one after the other.
-use mathlib.Core.Path.{_≡_, refl, sym, ap, ap₂, _∙_}
+use mathlib.Core.Path.{_≡_, refl, sym, ap, _∙_}
 use mathlib.Core.List.{List, [], _∷_, _++_, append-nil, append-assoc}
 use mathlib.Core.Bool.{Bool, true, false}
 use Prim.Native.Nat.{ℕ, _+_}
 use native.Mathlib.Omega.{arith}
 use lib.ListN.{length, length-append}
-use Rattle.grammar.specs.Grammar.{comma, Bracket, closing}
+use Rattle.grammar.specs.Grammar.{comma, Bracket, opening, closing}
 use Rattle.json_text.specs.Pieces.{joined, bracketed}
-use Rattle.json_text.specs.Inner.Led.{ledOne, led, begunAfter, ledSize, ledTotal}
+use Rattle.json_text.specs.Inner.Led.{ledOne, led, begunAfter, ledSize}
 
-pub joined-led : (ws : List (List ℕ)) → joined ws ≡ led false ws
+joined-led : (ws : List (List ℕ)) → joined ws ≡ led false ws
 unfolding joined led
 joined-led [] = refl
 joined-led (w ∷ []) = sym (append-nil w)
@@ -26,17 +26,30 @@ led-append begun (w ∷ ws) us =
     stays [] = refl
     stays (v ∷ vs) = refl
 
-one-length : (begun : Bool) (w : List ℕ) → length (ledOne begun w) ≡ ledSize begun (length w)
+pub begun-append : (begun : Bool) (ws us : List (List ℕ)) → begunAfter begun (ws ++ us) ≡ begunAfter (begunAfter begun ws) us
+begun-append begun [] us = refl
+begun-append begun (w ∷ ws) [] = refl
+begun-append begun (w ∷ ws) (u ∷ us) = refl
+
+-- One text alone.
+
+pub led-one : (begun : Bool) (w : List ℕ) → led begun (w ∷ []) ≡ ledOne begun w
+unfolding led
+led-one begun w = append-nil (ledOne begun w)
+
+pub one-apart : (begun : Bool) (w : List ℕ) → ledOne begun w ≡ ledOne begun [] ++ w
+one-apart true w = refl
+one-apart false w = refl
+
+pub one-length : (begun : Bool) (w : List ℕ) → length (ledOne begun w) ≡ ledSize begun (length w)
 one-length true w = refl
 one-length false w = refl
 
-pub led-length : (begun : Bool) (ws : List (List ℕ)) → length (led begun ws) ≡ ledTotal begun ws
-unfolding led ledTotal
-led-length begun [] = refl
-led-length begun (w ∷ ws) = length-append (ledOne begun w) (led true ws) ∙ ap₂ _+_ (one-length begun w) (led-length true ws)
+-- An object or an array, and how long it is.
+module _ (b : Bracket) (ws : List (List ℕ)) where
+  pub bracketed-led : bracketed b ws ≡ opening b ∷ (led false ws ++ (closing b ∷ []))
+  unfolding bracketed
+  bracketed-led = ap (λ (l : List ℕ). opening b ∷ (l ++ (closing b ∷ []))) (joined-led ws)
 
--- How long an object or an array is.
-pub bracketed-length : (b : Bracket) (ws : List (List ℕ)) → length (bracketed b ws) ≡ ledTotal false ws + 2
-unfolding bracketed
-bracketed-length b ws =
-    omega (arith, length-append (joined ws) (closing b ∷ []), ap length (joined-led ws), led-length false ws)
+  pub bracketed-length : length (bracketed b ws) ≡ length (led false ws) + 2
+  bracketed-length = omega (arith, ap length bracketed-led, length-append (led false ws) (closing b ∷ []))

@@ -8,9 +8,8 @@ use lib.ListN.{set}
 use Rattle.prelude.proofs.Writing.{Writing, begin-as, put, put-part, room-part, ended}
 use Rattle.recipients.specs.Parsed.{recipientsIn}
 use Rattle.json_text.specs.Inner.Led.{led}
-use Rattle.json_message.specs.JsonText.{jsonText}
+use Rattle.json_message.specs.JsonWrite.{rawJson, writtenText}
 use Rattle.json_put.specs.declared.Cursor.{Cursor}
-use Rattle.json_put.specs.Given.{given}
 use Rattle.json_put.specs.Inner.Members.{headMembers, tailMembers, Room, Puts}
 use Rattle.json_put.proofs.Members.{text-parts}
 use Rattle.json_put.proofs.Putting.{room-first, room-next, puts-append}
@@ -19,8 +18,8 @@ use Rattle.json_put.proofs.put_text.Tie as tie
 
 abbrev Text : tie.Start → List ℕ
 Text s =
-    jsonText (s .args .general)
-    (given (s .args .protected .now) (s .args .shared .now) (s .args .aad .now) (s .args .iv .now) (s .args .ciphertext .now)
+    writtenText (s .args .general)
+    (rawJson (s .args .protected .now) (s .args .shared .now) (s .args .aad .now) (s .args .iv .now) (s .args .ciphertext .now)
     (s .args .tag .now) (s .args .table .now))
 
 abbrev Head : tie.Start → List (List ℕ)
