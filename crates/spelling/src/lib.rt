@@ -282,11 +282,12 @@ fn common_blocks(a: &[u8], b: &[u8]) -> usize
     k
 }
 
-// How many octets both begin with, none of them a backslash: these stand for themselves.
-fn common(a: &[u8], b: &[u8]) -> usize
+// The same octet by octet, of which some are known.
+fn common_octets(a: &[u8], b: &[u8], from: usize) -> usize
+    requires { ⌜ Common (now a) (now b) from ⌝ }
     ensures { λ r. ⌜ Common (now (a .entry)) (now (b .entry)) r ⌝ }
 {
-    let mut k = common_blocks(a, b);
+    let mut k = from;
     while k < a.len() {
         if b.len() <= k {
             return k;
@@ -301,6 +302,13 @@ fn common(a: &[u8], b: &[u8]) -> usize
         k += 1;
     }
     k
+}
+
+// How many octets both begin with, none of them a backslash: these stand for themselves.
+fn common(a: &[u8], b: &[u8]) -> usize
+    ensures { λ r. ⌜ Common (now (a .entry)) (now (b .entry)) r ⌝ }
+{
+    common_octets(a, b, common_blocks(a, b))
 }
 
 // Whether what follows these is an octet that stands for itself, and not the one given.
@@ -385,11 +393,11 @@ pub fn alike(a: &[u8], b: &[u8]) -> bool
     }
 }
 
-// Whether a spelling has the octets w.
+// Whether a spelling has the octets w. These are mostly short and mostly differ at once, so that blocks would not pay.
 pub fn has(a: &[u8], w: &[u8]) -> bool
     ensures { λ r. ⌜ r ≡ has (now (a .entry)) (now (w .entry)) ⌝ }
 {
-    let mut k = common(a, w);
+    let mut k = common_octets(a, w, 0);
     if differ_at(a, w, k) {
         return false;
     }

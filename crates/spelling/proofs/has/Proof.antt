@@ -19,8 +19,8 @@ Inv-loop a w k₀ p₀ k p = (equal (rest a p) (drop k w) ≡ equal (rest a p₀
 abbrev μ-loop : tie.MeasureT-loop
 μ-loop a w k₀ p₀ k p = length w - k
 
-common-requires : tie.Need-common-requires Inv-loop μ-loop
-common-requires c κs = search needs
+common-octets-requires : tie.Need-common-octets-requires Inv-loop μ-loop
+common-octets-requires c κs = (omega arith, (omega arith, λ i h. absurd (omega (arith, h))))
 
 differ-at-requires : tie.Need-differ-at-requires Inv-loop μ-loop
 differ-at-requires c κs = search needs
@@ -28,7 +28,7 @@ differ-at-requires c κs = search needs
 returns : tie.Need-returns Inv-loop μ-loop
 returns c =
     let start = c .before .before .before .before .before .args in
-    c .before .differ-at .ensures (c .if1 .taken) ∙ common-has (start .a .now) (start .w .now) _ (c .before .before .common .ensures)
+    c .before .differ-at .ensures (c .if1 .taken) ∙ common-has (start .a .now) (start .w .now) _ (c .before .before .common-octets .ensures)
 
 cursor-at-requires : tie.Need-cursor-at-requires Inv-loop μ-loop
 cursor-at-requires c κs = search needs
@@ -57,8 +57,8 @@ returns-2 c =
     let left = ap (told a) (sym (x .1)) ∙ next .ensures .0 in
     let whole =
     loop .inv .0
-    ∙ ap (λ (v : Cursor). equal (rest a v) (drop (c .before .before .before .before .before .before .before .common .result) w)) (c .before .before .before .before .cursor-at .ensures)
-    ∙ common-has a w (c .before .before .before .before .before .before .before .common .result) (c .before .before .before .before .before .before .before .common .ensures) in
+    ∙ ap (λ (v : Cursor). equal (rest a v) (drop (c .before .before .before .before .before .before .before .common-octets .result) w)) (c .before .before .before .before .cursor-at .ensures)
+    ∙ common-has a w (c .before .before .before .before .before .before .before .common-octets .result) (c .before .before .before .before .before .before .before .common-octets .ensures) in
     has-ends (rest a (loop .p)) w k left ∙ whole
 
 returns-3 : tie.Need-returns-3 Inv-loop μ-loop
@@ -73,8 +73,8 @@ returns-3 c =
     let left = ap (told a) (sym (x .1)) ∙ next .ensures .0 in
     let whole =
     loop .inv .0
-    ∙ ap (λ (v : Cursor). equal (rest a v) (drop (c .before .before .before .before .before .before .before .before .before .common .result) w)) (c .before .before .before .before .before .before .cursor-at .ensures)
-    ∙ common-has a w (c .before .before .before .before .before .before .before .before .before .common .result) (c .before .before .before .before .before .before .before .before .before .common .ensures) in
+    ∙ ap (λ (v : Cursor). equal (rest a v) (drop (c .before .before .before .before .before .before .before .before .before .common-octets .result) w)) (c .before .before .before .before .before .before .cursor-at .ensures)
+    ∙ common-has a w (c .before .before .before .before .before .before .before .before .before .common-octets .result) (c .before .before .before .before .before .before .before .before .before .common-octets .ensures) in
     let right = sym (drop-of-length-le w {i = k} (c .if2 .taken)) in
     right-ends (rest a (loop .p)) (drop k w) (x .0 .0) (rest a (x .0 .1 .0)) left right ∙ whole
 
@@ -93,8 +93,8 @@ returns-4 c =
     let left = ap (told a) (sym (x .1)) ∙ next .ensures .0 in
     let whole =
     loop .inv .0
-    ∙ ap (λ (v : Cursor). equal (rest a v) (drop (c .before .before .before .before .before .before .before .before .before .before .before .common .result) w)) (c .before .before .before .before .before .before .before .before .cursor-at .ensures)
-    ∙ common-has a w (c .before .before .before .before .before .before .before .before .before .before .before .common .result) (c .before .before .before .before .before .before .before .before .before .before .before .common .ensures) in
+    ∙ ap (λ (v : Cursor). equal (rest a v) (drop (c .before .before .before .before .before .before .before .before .before .before .before .common-octets .result) w)) (c .before .before .before .before .before .before .before .before .cursor-at .ensures)
+    ∙ common-has a w (c .before .before .before .before .before .before .before .before .before .before .before .common-octets .result) (c .before .before .before .before .before .before .before .before .before .before .before .common-octets .ensures) in
     let right = sym (drop-next w k (k + 1) refl (c .before .before .if2 .left)) in
     differ (rest a (loop .p)) (drop k w) (x .0 .0) (rest a (x .0 .1 .0)) (getD w k 0) (drop (k + 1) w) left right (c .if3 .taken) ∙ whole
 
@@ -116,8 +116,8 @@ loop-again c =
     let left = ap (told a) (sym (x .1)) ∙ next .ensures .0 in
     let whole =
     loop .inv .0
-    ∙ ap (λ (v : Cursor). equal (rest a v) (drop (c .before .before .before .before .before .before .before .before .before .before .before .common .result) w)) (c .before .before .before .before .before .before .before .before .cursor-at .ensures)
-    ∙ common-has a w (c .before .before .before .before .before .before .before .before .before .before .before .common .result) (c .before .before .before .before .before .before .before .before .before .before .before .common .ensures) in
+    ∙ ap (λ (v : Cursor). equal (rest a v) (drop (c .before .before .before .before .before .before .before .before .before .before .before .common-octets .result) w)) (c .before .before .before .before .before .before .before .before .cursor-at .ensures)
+    ∙ common-has a w (c .before .before .before .before .before .before .before .before .before .before .before .common-octets .result) (c .before .before .before .before .before .before .before .before .before .before .before .common-octets .ensures) in
     let right = sym (drop-next w k (k + 1) refl (c .before .before .if2 .left)) in (
       same (rest a (loop .p)) (drop k w) (x .0 .0) (rest a (x .0 .1 .0)) (getD w k 0) (drop (k + 1) w) left right (c .if3 .left) ∙ loop .inv .0,
       subst (Falls a (loop .p)) (x .1) (next .ensures .1) .0,
@@ -129,7 +129,7 @@ has-spec =
     (tie.spec
     Inv-loop
     μ-loop
-    common-requires
+    common-octets-requires
     differ-at-requires
     returns
     cursor-at-requires

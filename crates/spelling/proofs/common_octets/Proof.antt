@@ -1,23 +1,20 @@
--- Behind the blocks that both have, octet by octet.
+-- Octet by octet, behind those that are known.
 use Prim.Native.Nat.{_-_}
 use lib.ListN.{length}
 use Rattle.spelling.specs.Inner.Cursors.{Common}
 use Rattle.spelling.proofs.Compare.{common-more}
 use borrow.Author.Needs.{needs}
-use Rattle.spelling.proofs.common.Statement.{statement}
-use Rattle.spelling.proofs.common.Tie as tie
+use Rattle.spelling.proofs.common_octets.Statement.{statement}
+use Rattle.spelling.proofs.common_octets.Tie as tie
 
 abbrev Inv-loop : tie.InvT-loop
-Inv-loop a b k₀ k = Common a b k
+Inv-loop a b from k₀ k = Common a b k
 
 abbrev μ-loop : tie.MeasureT-loop
-μ-loop a b k₀ k = length a - k
-
-common-blocks-requires : tie.Need-common-blocks-requires Inv-loop μ-loop
-common-blocks-requires c κs = search needs
+μ-loop a b from k₀ k = length a - k
 
 loop-holds : tie.Need-loop-holds Inv-loop μ-loop
-loop-holds c = c .common-blocks .ensures
+loop-holds c = c .pre
 
 returns : tie.Need-returns Inv-loop μ-loop
 returns c = c .before .before .loop .inv
@@ -42,7 +39,7 @@ loop-less c = search needs
 
 loop-again : tie.Need-loop-again Inv-loop μ-loop
 loop-again c =
-    let start = c .before .before .before .before .before .before .before .before .before .before .args in
+    let start = c .before .before .before .before .before .before .before .args in
     let loop = c .before .before .before .before .before .before .loop in
     let in-a = c .before .before .before .before .before .loop-test .taken in
     let in-b = c .before .before .before .before .if1 .left in
@@ -51,13 +48,12 @@ loop-again c =
 returns-4 : tie.Need-returns-4 Inv-loop μ-loop
 returns-4 c = c .before .loop .inv
 
-pub common-spec : {M : Type 1} → statement M
-common-spec =
+pub common-octets-spec : {M : Type 1} → statement M
+common-octets-spec =
     tie.close
     (tie.spec
     Inv-loop
     μ-loop
-    common-blocks-requires
     loop-holds
     returns
     shared-slice-read-c
