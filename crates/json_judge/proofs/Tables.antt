@@ -78,7 +78,8 @@ module _ (header shared : List ℕ) (front : ℕ) (before : List ℕ) (f : Front
           last ≡ cond b (written (front * width) (flat own (textEntries 2 own)) before) before →
           (length last ≡ length before) × Front header shared front last
       cases true t e =
-          wrote (flat own (textEntries 2 own)) (omega (arith, room, flat-length own (textEntries 2 own), leb-true (length (textEntries 2 own)) 32 t)) e
+          let few = leb-true (length (textEntries 2 own)) 32 t in
+          wrote (flat own (textEntries 2 own)) (omega (arith, room, flat-length own (textEntries 2 own), few)) e
       cases false t e = (
         ap length e,
         record {

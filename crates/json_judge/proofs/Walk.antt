@@ -24,7 +24,8 @@ module _ (t : List ℕ) (i : ℕ) (body : Body) (is : body ≡ bodyAt t i) where
 
 -- Whether one of those from the i-th on has a fault.
 module _ (f : RawRecipient → Bool) (t : List ℕ) where
-  next-any : (i : ℕ) → i < saidCount t → any f (drop i (recipientsIn t)) ≡ (f (recipientAt t i) || any f (drop (i + 1) (recipientsIn t)))
+  next-any : (i : ℕ) → i < saidCount t →
+      any f (drop i (recipientsIn t)) ≡ (f (recipientAt t i) || any f (drop (i + 1) (recipientsIn t)))
   unfolding any
   next-any i h = ap (any f) (recipients-next t i h)
 

@@ -36,9 +36,9 @@ second-of c = c .before .before .before .before
 -- the protected header's entries
 kept : (c : tie.After-known-told) →
     let call = first-of c in
-    let s = start call in
-    (first (objectOrder (s .args .header .now) (protectedEntries (s .args .header .now))) ≡ 0)
-    × Collected (s .args .header .now) (protectedEntries (s .args .header .now)) 0 (replicate 768 0) (call .protected-entries .last .1 .0)
+    let header = start call .args .header .now in
+    (first (objectOrder header (protectedEntries header)) ≡ 0)
+    × Collected header (protectedEntries header) 0 (replicate 768 0) (call .protected-entries .last .1 .0)
     (c .before .protected .given .0 .0)
 kept c =
     let call = first-of c in

@@ -79,7 +79,8 @@ loop-again c =
     let l = start .args .levels in
     let loop = c .before .before .before .before .before .before .loop in
     let here = c .before .before .before .before .before .loop-test .taken in
-    let own = c .before .before .before .part .ensures .0 ∙ header-is t (loop .i) _ (c .before .before .before .before .recipient .ensures) in
+    let body = c .before .before .before .before .recipient .ensures in
+    let own = c .before .before .before .part .ensures .0 ∙ header-is t (loop .i) _ body in
     let passed = ap (unreadWithin l) (sym own) ∙ sym (c .before .before .unread-within .ensures) ∙ c .before .if1 .left in (
       omega (arith, here),
       (
@@ -92,7 +93,7 @@ returns-2 : tie.Need-returns-2 Inv-loop μ-loop
 returns-2 c =
     let start = c .before .before .before in
     let loop = c .before .loop in
-    end-any (faulty (start .args .levels)) (start .args .recipients .now) (loop .i) (omega (arith, c .loop-test .left, start .pre .1))
+    end-any (faulty (start .args .levels)) _ (loop .i) (omega (arith, c .loop-test .left, start .pre .1))
     ∙ loop .inv .1 .1
 
 pub own-unread-spec : {M : Type 1} → statement M
