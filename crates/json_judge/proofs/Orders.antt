@@ -1,18 +1,16 @@
 -- The tests on all texts, and the order that they make.
 use mathlib.Core.Path.{_≡_, refl, ap, ap₂, sym, _∙_}
 use mathlib.Core.Bool.{Bool, true, false, _||_}
-use mathlib.Core.List.{List, [], _∷_, _++_}
-use Prim.Native.Nat.{ℕ, zero, suc, _≤_, _<_}
+use mathlib.Core.List.{List, [], _∷_}
+use Prim.Native.Nat.{ℕ, _≤_, _<_}
 use native.Mathlib.Omega.{arith}
 use lib.ListN.{length}
 use borrow.Author.Tests.{lt-ltb, le-ltb}
 use Rattle.prelude.specs.Any.{any}
 use Rattle.prelude.specs.Limits.{levels, longest}
 use Rattle.prelude.specs.Refusals.{Test, _if_, first, stageOf}
-use Rattle.prelude.proofs.Refusals.{nonzero, first-fails, first-passes}
-use Rattle.prelude.specs.declared.Stage.{Stage}
-use Rattle.prelude.specs.declared.Stage.the-variants.{Passed, Refused}
-use Rattle.grammar.specs.Bounds.{Every}
+use Rattle.prelude.proofs.Refusals.{first-fails, first-passes}
+use Rattle.prelude.specs.declared.Stage.the-variants.{Refused}
 use Rattle.headers.specs.Headers.{tooLong}
 use Rattle.headers.proofs.Stages.{refuses}
 use Rattle.jose.specs.declared.Sizes.{Sizes}

@@ -1,14 +1,14 @@
 -- A loop over the recipients of a sound table: those from the next one on.
 use mathlib.Core.Path.{_≡_, ap, sym, subst, _∙_}
 use mathlib.Core.Bool.{Bool, true, false, _||_}
-use mathlib.Core.List.{List, [], _∷_}
+use mathlib.Core.List.{List}
 use Prim.Native.Nat.{ℕ, _+_, _<_, _≤_}
 use lib.ListN.{drop}
 use Rattle.prelude.specs.Any.{any}
 use Rattle.grammar.specs.Bounds.{Every}
 use Rattle.parts.specs.Parts.{part}
 use Rattle.recipients.specs.Table.{RawRecipient}
-use Rattle.recipients.specs.Parsed.{saidCount, bodyStart, headerLength, keyLength, recipientAt, recipientsIn, bodyAt}
+use Rattle.recipients.specs.Parsed.{saidCount, bodyStart, recipientAt, recipientsIn, bodyAt}
 use Rattle.recipients.specs.declared.Body.{Body}
 use Rattle.recipients.proofs.Places.{recipients-next, recipients-end, start-next}
 

@@ -1,7 +1,6 @@
 -- The texts one after the other.
 use mathlib.Core.Path.{sym, _∙_}
 use Rattle.json_judge.proofs.Orders.{hollow-first, hollow-second, hollow-third}
-use borrow.Author.Needs.{needs}
 use Rattle.json_judge.proofs.hollow_texts.Statement.{statement}
 use Rattle.json_judge.proofs.hollow_texts.Tie as tie
 

@@ -1,19 +1,16 @@
 -- The own entries are collected behind all recipients', and the rules asked of both.
-use mathlib.Core.Path.{_≡_, refl, ap, ap₂, sym, _∙_}
+use mathlib.Core.Path.{_≡_, ap, sym, _∙_}
 use mathlib.Core.List.{List}
-use Prim.Native.Nat.{ℕ, _+_, _*_, _≤_}
 use native.Mathlib.Omega.{arith}
-use lib.ListN.{length}
-use Rattle.prelude.specs.Refusals.{first, stageOf}
+use Rattle.prelude.specs.Refusals.{first}
 use Rattle.names.specs.Names.{names}
 use Rattle.rows.specs.Rows.{Entry, texts}
-use Rattle.jose.specs.HeaderRules.{recipientOrder, modeIn}
+use Rattle.jose.specs.HeaderRules.{recipientOrder}
 use Rattle.headers.specs.Headers.{objectOrder}
 use Rattle.headers.proofs.Stages.{refused-is}
 use Rattle.jwe.specs.Answers.{refusedBy}
 use Rattle.jwe.proofs.JsonShaped.{Collected}
 use Rattle.json_message.specs.Handed.{textEntries}
-use Rattle.json_judge.specs.Inner.Asked.{rulesTests}
 use Rattle.json_judge.proofs.Stages.{refused-stage}
 use Rattle.json_judge.proofs.Tables.{collected, keeps, all-entries, all-printed}
 use borrow.Author.Needs.{needs}

@@ -1,12 +1,11 @@
 -- One recipient after the other: what is known before each is `Walked`.
 use mathlib.Core.Path.{_≡_, refl, ap, ap₂, sym, subst, _∙_}
 use mathlib.Core.List.{List}
-use Prim.Native.Nat.{ℕ, _+_, _-_, _≤_, _<_}
+use Prim.Native.Nat.{ℕ, _-_, _<_}
 use native.Mathlib.Omega.{arith}
 use lib.ListN.{length}
 use Rattle.prelude.specs.Refusals.{first}
 use Rattle.names.specs.Names.{names}
-use Rattle.jose.specs.declared.Sizes.{Sizes}
 use Rattle.recipients.specs.Parsed.{saidCount, recipientAt}
 use Rattle.recipients.proofs.Places.{start-first, lengths-fit, body-fits, start-next, sound-few}
 use Rattle.json_judge.specs.Inner.Asked.{Readable, withKeySize, ownTests, rulesTests}

@@ -3,7 +3,6 @@
 use mathlib.Core.Path.{ap, ap₂, sym, subst, _∙_}
 use mathlib.Core.List.{List, flatten}
 use Prim.Native.Nat.{ℕ}
-use lib.ListN.{length}
 use Rattle.prelude.specs.Ascii.{ascii}
 use Rattle.prelude.specs.Refusals.{first, stageOf}
 use Rattle.grammar.specs.Grammar.{curly}
