@@ -31,11 +31,7 @@ pub(crate) fn capped(n: usize) -> usize
 fn encoded_length(octets: &[u8]) -> usize
     ensures { λ r. ⌜ r ≡ cut (length (encoded (now (octets .entry)))) ⌝ }
 {
-    let n = base64url::encoded_length(octets.len());
-    if OVER < n {
-        return OVER;
-    }
-    n
+    capped(base64url::encoded_length(octets.len()))
 }
 
 // A text of n octets more, behind a comma where something stands before.
