@@ -1,18 +1,16 @@
 -- The tests on all texts, and the order that they make.
 use mathlib.Core.Path.{_≡_, refl, ap, ap₂, sym, _∙_}
 use mathlib.Core.Bool.{Bool, true, false, _||_}
-use mathlib.Core.List.{List, [], _∷_, _++_}
-use Prim.Native.Nat.{ℕ, zero, suc, _≤_, _<_}
+use mathlib.Core.List.{List, [], _∷_}
+use Prim.Native.Nat.{ℕ, _≤_, _<_}
 use native.Mathlib.Omega.{arith}
 use lib.ListN.{length}
 use borrow.Author.Tests.{lt-ltb, le-ltb}
 use Rattle.prelude.specs.Any.{any}
 use Rattle.prelude.specs.Limits.{levels, longest}
 use Rattle.prelude.specs.Refusals.{Test, _if_, first, stageOf}
-use Rattle.prelude.proofs.Refusals.{nonzero, first-fails, first-passes}
-use Rattle.prelude.specs.declared.Stage.{Stage}
-use Rattle.prelude.specs.declared.Stage.the-variants.{Passed, Refused}
-use Rattle.grammar.specs.Bounds.{Every}
+use Rattle.prelude.proofs.Refusals.{first-fails, first-passes}
+use Rattle.prelude.specs.declared.Stage.the-variants.{Refused}
 use Rattle.headers.specs.Headers.{tooLong}
 use Rattle.headers.proofs.Stages.{refuses}
 use Rattle.jose.specs.declared.Sizes.{Sizes}
@@ -22,7 +20,8 @@ use Rattle.json_message.specs.Inner.Judged.{sharedLevels, ownLevels}
 use Rattle.json_message.specs.Inner.PiecesOrder.{hollowText}
 use Rattle.json_message.proofs.FieldEntries.{or-false}
 use Rattle.json_message.proofs.Unread.{text-iff, text-more}
-use Rattle.json_judge.specs.Inner.Asked.{Readable, OwnReadable, OwnShort, unreadTexts, hollowTexts, overTests, withinTests, parametersTests}
+use Rattle.json_judge.specs.Inner.Asked.{Readable, OwnReadable, OwnShort, unreadTexts, hollowTexts}
+use Rattle.json_judge.specs.Inner.Asked.{overTests, withinTests, parametersTests}
 
 -- One of three.
 module _ (a b c : Bool) where
@@ -97,7 +96,9 @@ module _ (header shared : List ℕ) (rs : List RawRecipient) (k : ℕ) where
   pub over-over : length header ≤ 4096 → unread ≡ false → Refused 2 ≡ stageOf over k
   unfolding overTests
   over-over h e =
-      stops 2 true [] k refl (omega arith) ∙ goes-on 7 unread _ k e ∙ goes-on 6 (tooLong header) _ k (le-ltb 4096 (length header) h)
+      stops 2 true [] k refl (omega arith)
+      ∙ goes-on 7 unread _ k e
+      ∙ goes-on 6 (tooLong header) _ k (le-ltb 4096 (length header) h)
 
 -- One that would not.
 module _ (general : Bool) (known : List (List ℕ)) (header shared : List ℕ) (z : Sizes) (rs : List RawRecipient) (k : ℕ) where
@@ -122,7 +123,9 @@ module _ (general : Bool) (known : List (List ℕ)) (header shared : List ℕ) (
     pub within-hollow : deep ≡ false → hollowTexts header shared rs ≡ true → Refused 10 ≡ stageOf within k
     unfolding withinTests
     within-hollow e f =
-        stops 10 (hollowTexts header shared rs) _ k f (omega arith) ∙ goes-on 7 deep _ k e ∙ goes-on 6 (tooLong header) _ k passes-six
+        stops 10 (hollowTexts header shared rs) _ k f (omega arith)
+        ∙ goes-on 7 deep _ k e
+        ∙ goes-on 6 (tooLong header) _ k passes-six
 
     pub within-rest : deep ≡ false → hollowTexts header shared rs ≡ false →
         stageOf (first (parametersTests known header shared z rs)) k ≡ stageOf within k
@@ -153,15 +156,15 @@ module _ (general : Bool) (header shared : List ℕ) (rs : List RawRecipient) (s
       let a = or-false (unreadWithin levels header) _ read in
       (a .0, or-false (unreadWithin sharedLevels shared) (any (λ r. unreadWithin (ownLevels general) (r .header)) rs) (a .1))
 
-  pub header-readable : Readable header
-  header-readable = record { short = omega (arith, short); reads = parts .0 }
-
-  pub shared-readable : Readable shared
-  shared-readable = record { short = sharedShort; reads = more-levels sharedLevels (omega arith) shared (parts .1 .0) }
-
   own-fewer : (g : Bool) → ownLevels g ≤ levels
   own-fewer true = omega arith
   own-fewer false = omega arith
 
-  pub all-readable : OwnReadable rs
-  all-readable = own-readable (ownLevels general) (own-fewer general) rs (parts .1 .1) ownShort
+  pub texts-readable : Readable header × (Readable shared × OwnReadable rs)
+  texts-readable = (
+    record { short = omega (arith, short); reads = parts .0 },
+    (
+      record { short = sharedShort; reads = more-levels sharedLevels (omega arith) shared (parts .1 .0) },
+      own-readable (ownLevels general) (own-fewer general) rs (parts .1 .1) ownShort,
+    ),
+  )

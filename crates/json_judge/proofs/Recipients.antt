@@ -1,7 +1,7 @@
 -- The tests of the recipients one after the other, as the loop comes to them.
-use mathlib.Core.Path.{_≡_, refl, ap, ap₂, sym, _∙_}
+use mathlib.Core.Path.{_≡_, refl, ap, sym, _∙_}
 use mathlib.Core.Bool.{Bool, true, false, cond}
-use mathlib.Core.List.{List, [], _∷_, _++_, flatMap}
+use mathlib.Core.List.{List, [], _∷_, flatMap}
 use Prim.Native.Nat.{ℕ, _+_, _<_, _≤_}
 use native.Mathlib.Omega.{arith}
 use lib.ListN.{length, drop}
@@ -56,8 +56,8 @@ module _ (t : List ℕ) (sound : soundTable t ≡ true) (i : ℕ) (h : i < saidC
       ap (λ (b : Body). b .key .len) is
       ∙ sym (part-length t (bodyStart t i + headerLength t i) (keyLength t i) (omega (arith, body-fits t sound i h)))
 
--- What is known before the i-th: the first entries of the table, which are all recipients', are there; those before passed 8 and 9; and
--- the first refusal of one of them by the rules.
+-- What is known before the i-th: the first entries of the table, which are all recipients', are there; those before passed
+-- 8 and 9; and the first refusal of one of them by the rules.
 pub record Walked (known : List (List ℕ)) (header shared : List ℕ) (z : Sizes) (t : List ℕ) (front size : ℕ) (table : List ℕ)
     (broken start i : ℕ) : Type 0 where
   pub within : i ≤ saidCount t
@@ -76,17 +76,25 @@ module _ (known : List (List ℕ)) (header shared : List ℕ) (z : Sizes) (t : L
   rules-sound : (r : RawRecipient) → nonzero (rulesOf known header shared z r) ≡ true
   rules-sound r = rules-nonzero known _ _ _
 
+  -- The first refusal of one from the i-th on.
+
+  abbrev objectsFrom : ℕ → ℕ
+  objectsFrom i = first (flatMap objectOf (drop i (recipientsIn t)))
+
+  abbrev rulesFrom : ℕ → ℕ
+  rulesFrom i = first (flatMap (rulesOf known header shared z) (drop i (recipientsIn t)))
+
   abbrev all : ℕ
   all = first (recipientsTests known header shared z (recipientsIn t))
 
   -- A recipient is refused 8 or 9.
   pub object-stops : (i n k : ℕ) → i < saidCount t → n ≡ first (objectOf (recipientAt t i)) → (n ≡ 0 → ⊥) →
-      first (flatMap objectOf (recipientsIn t)) ≡ first (flatMap objectOf (drop i (recipientsIn t))) → Refused n ≡ stageOf all k
+      objectsFrom 0 ≡ objectsFrom i → Refused n ≡ stageOf all k
   unfolding recipientsTests
   object-stops i n k h e some so =
-      let here : first (flatMap objectOf (recipientsIn t)) ≡ n =
+      let here : objectsFrom 0 ≡ n =
       so ∙ next-first objectOf object-sound t i n h e
-      ∙ ap (λ (b : Bool). cond b (first (flatMap objectOf (drop (i + 1) (recipientsIn t)))) n) (ne-eqb n 0 some) in
+      ∙ ap (λ (b : Bool). cond b (objectsFrom (i + 1)) n) (ne-eqb n 0 some) in
       let positive : 0 < n = omega (arith, some) in
       refuses k positive
       ∙ ap (λ (m : ℕ). stageOf m k)
@@ -94,36 +102,29 @@ module _ (known : List (List ℕ)) (header shared : List ℕ) (z : Sizes) (t : L
 
   -- It passes them.
   pub object-passes : (i n : ℕ) → i < saidCount t → n ≡ first (objectOf (recipientAt t i)) → n ≡ 0 →
-      first (flatMap objectOf (recipientsIn t)) ≡ first (flatMap objectOf (drop i (recipientsIn t))) →
-      first (flatMap objectOf (recipientsIn t)) ≡ first (flatMap objectOf (drop (i + 1) (recipientsIn t)))
+      objectsFrom 0 ≡ objectsFrom i → objectsFrom 0 ≡ objectsFrom (i + 1)
   object-passes i n h e none so =
       so ∙ next-first objectOf object-sound t i n h e
-      ∙ ap (λ (b : Bool). cond b (first (flatMap objectOf (drop (i + 1) (recipientsIn t)))) n) (eq-eqb n 0 none)
+      ∙ ap (λ (b : Bool). cond b (objectsFrom (i + 1)) n) (eq-eqb n 0 none)
 
   -- The first refusal by the rules, one recipient more.
   pub rules-next : (i n broken next : ℕ) → i < saidCount t → n ≡ first (rulesOf known header shared z (recipientAt t i)) →
       next ≡ cond (eqb broken 0) n broken →
-      first (flatMap (rulesOf known header shared z) (recipientsIn t))
-      ≡ cond (eqb broken 0) (first (flatMap (rulesOf known header shared z) (drop i (recipientsIn t)))) broken →
-      first (flatMap (rulesOf known header shared z) (recipientsIn t))
-      ≡ cond (eqb next 0) (first (flatMap (rulesOf known header shared z) (drop (i + 1) (recipientsIn t)))) next
+      rulesFrom 0 ≡ cond (eqb broken 0) (rulesFrom i) broken → rulesFrom 0 ≡ cond (eqb next 0) (rulesFrom (i + 1)) next
   rules-next i n broken next h e is so = so ∙ cases (eqb broken 0) refl is
     where
       cases : (b : Bool) → eqb broken 0 ≡ b → next ≡ cond b n broken →
-          cond b (first (flatMap (rulesOf known header shared z) (drop i (recipientsIn t)))) broken
-          ≡ cond (eqb next 0) (first (flatMap (rulesOf known header shared z) (drop (i + 1) (recipientsIn t)))) next
+          cond b (rulesFrom i) broken ≡ cond (eqb next 0) (rulesFrom (i + 1)) next
       cases true b is =
           next-first (rulesOf known header shared z) rules-sound t i n h e
-          ∙ ap (λ (k : ℕ). cond (eqb k 0) (first (flatMap (rulesOf known header shared z) (drop (i + 1) (recipientsIn t)))) k) (sym is)
+          ∙ ap (λ (k : ℕ). cond (eqb k 0) (rulesFrom (i + 1)) k) (sym is)
       cases false b is =
-          sym (ap (λ (x : Bool). cond x (first (flatMap (rulesOf known header shared z) (drop (i + 1) (recipientsIn t)))) broken) b)
-          ∙ ap (λ (k : ℕ). cond (eqb k 0) (first (flatMap (rulesOf known header shared z) (drop (i + 1) (recipientsIn t)))) k) (sym is)
+          sym (ap (λ (x : Bool). cond x (rulesFrom (i + 1)) broken) b)
+          ∙ ap (λ (k : ℕ). cond (eqb k 0) (rulesFrom (i + 1)) k) (sym is)
 
   -- All were asked.
-  module _ (i broken : ℕ) (done : saidCount t ≤ i)
-      (objects : first (flatMap objectOf (recipientsIn t)) ≡ first (flatMap objectOf (drop i (recipientsIn t))))
-      (rules : first (flatMap (rulesOf known header shared z) (recipientsIn t))
-      ≡ cond (eqb broken 0) (first (flatMap (rulesOf known header shared z) (drop i (recipientsIn t)))) broken) where
+  module _ (i broken : ℕ) (done : saidCount t ≤ i) (objects : objectsFrom 0 ≡ objectsFrom i)
+      (rules : rulesFrom 0 ≡ cond (eqb broken 0) (rulesFrom i) broken) where
     all-is : all ≡ cond (eqb broken 0) 0 broken
     unfolding recipientsTests
     all-is =

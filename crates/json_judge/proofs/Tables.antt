@@ -4,7 +4,7 @@ use mathlib.Core.Bool.{Bool, true, false, cond}
 use mathlib.Core.List.{List, [], _∷_, _++_, append-assoc}
 use Prim.Native.Nat.{ℕ, _+_, _*_, _≤_}
 use native.Mathlib.Omega.{arith}
-use lib.ListN.{length, take, drop}
+use lib.ListN.{length}
 use lib.Dec.{leb}
 use borrow.Author.Tests.{leb-true}
 use Rattle.prelude.specs.Buffer.{written}
@@ -14,7 +14,7 @@ use Rattle.prelude.specs.declared.Stage.the-variants.{Passed}
 use Rattle.rows.specs.Rows.{Entry, Texts, texts, textOf}
 use Rattle.rows.specs.Tables.{entriesOf, width}
 use Rattle.rows.specs.Inner.Prints.{flat, collectedTable, Printed}
-use Rattle.rows.proofs.Entries.{flat-length, entries-front, entries-more, entries-written}
+use Rattle.rows.proofs.Entries.{flat-length, entries-front, entries-more}
 use Rattle.rows.proofs.Printing.{StandIn, entries-stand, printed-kept, printed-more, printed-written}
 use Rattle.jose.specs.Registered.{registered}
 use Rattle.headers.specs.Headers.{outermost, protectedEntries, objectOrder}
@@ -78,7 +78,8 @@ module _ (header shared : List ℕ) (front : ℕ) (before : List ℕ) (f : Front
           last ≡ cond b (written (front * width) (flat own (textEntries 2 own)) before) before →
           (length last ≡ length before) × Front header shared front last
       cases true t e =
-          wrote (flat own (textEntries 2 own)) (omega (arith, room, flat-length own (textEntries 2 own), leb-true (length (textEntries 2 own)) 32 t)) e
+          let few = leb-true (length (textEntries 2 own)) 32 t in
+          wrote (flat own (textEntries 2 own)) (omega (arith, room, flat-length own (textEntries 2 own), few)) e
       cases false t e = (
         ap length e,
         record {

@@ -1,6 +1,6 @@
 -- A given text, absent or present.
 use mathlib.Core.Path.{_≡_, refl, ap, ap₂, sym, _∙_}
-use mathlib.Core.Bool.{Bool, true, false, true≢false}
+use mathlib.Core.Bool.{false, true≢false}
 use mathlib.Core.List.{List, [], _∷_, _++_, append-nil}
 use Prim.Native.Nat.{ℕ, _+_, _*_}
 use native.Mathlib.Omega.{arith}
@@ -81,7 +81,8 @@ module _ (o : ℕ) (w : List ℕ) (absent : length w ≡ 0) where
   unfolding collectedTable written flat
   absent-left from table =
       let none : written (from * width) [] table ≡ table =
-      ap (λ (n : ℕ). take (from * width) table ++ drop n table) (add-zero (from * width)) ∙ take-append-drop (from * width) table in
+      ap (λ (n : ℕ). take (from * width) table ++ drop n table) (add-zero (from * width))
+      ∙ take-append-drop (from * width) table in
       sym (ap (λ (es : List Entry). collectedTable from w es table) entries-absent ∙ none)
 
 pub entries-present : (o : ℕ) (w : List ℕ) → (length w ≡ 0 → ⊥) → (list : List ℕ) → names list ≡ registered → (at : ℕ) →

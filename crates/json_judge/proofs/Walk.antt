@@ -1,14 +1,14 @@
 -- A loop over the recipients of a sound table: those from the next one on.
 use mathlib.Core.Path.{_≡_, ap, sym, subst, _∙_}
 use mathlib.Core.Bool.{Bool, true, false, _||_}
-use mathlib.Core.List.{List, [], _∷_}
+use mathlib.Core.List.{List}
 use Prim.Native.Nat.{ℕ, _+_, _<_, _≤_}
 use lib.ListN.{drop}
 use Rattle.prelude.specs.Any.{any}
 use Rattle.grammar.specs.Bounds.{Every}
 use Rattle.parts.specs.Parts.{part}
 use Rattle.recipients.specs.Table.{RawRecipient}
-use Rattle.recipients.specs.Parsed.{saidCount, bodyStart, headerLength, keyLength, recipientAt, recipientsIn, bodyAt}
+use Rattle.recipients.specs.Parsed.{saidCount, bodyStart, recipientAt, recipientsIn, bodyAt}
 use Rattle.recipients.specs.declared.Body.{Body}
 use Rattle.recipients.proofs.Places.{recipients-next, recipients-end, start-next}
 
@@ -24,7 +24,8 @@ module _ (t : List ℕ) (i : ℕ) (body : Body) (is : body ≡ bodyAt t i) where
 
 -- Whether one of those from the i-th on has a fault.
 module _ (f : RawRecipient → Bool) (t : List ℕ) where
-  next-any : (i : ℕ) → i < saidCount t → any f (drop i (recipientsIn t)) ≡ (f (recipientAt t i) || any f (drop (i + 1) (recipientsIn t)))
+  next-any : (i : ℕ) → i < saidCount t →
+      any f (drop i (recipientsIn t)) ≡ (f (recipientAt t i) || any f (drop (i + 1) (recipientsIn t)))
   unfolding any
   next-any i h = ap (any f) (recipients-next t i h)
 

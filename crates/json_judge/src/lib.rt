@@ -18,8 +18,9 @@ ghost use Rattle.json_message.specs.WriteOrder.{unreadWithin};
 ghost use Rattle.json_message.specs.Inner.Judged.{ownLevels};
 ghost use Rattle.json_message.specs.Inner.PiecesOrder.{hollowText};
 ghost use Rattle.jwe.specs.Answers.{refusedBy};
-ghost use Rattle.json_judge.specs.Inner.Asked.{Readable, OwnReadable, OwnShort, Front, ownTests, rulesTests, recipientsTests, parametersTests};
-ghost use Rattle.json_judge.specs.Inner.Asked.{unreadTexts, hollowTexts, overTests, withinTests};
+ghost use Rattle.json_judge.specs.Inner.Asked.{Readable, OwnReadable, OwnShort, Front, unreadTexts, hollowTexts};
+ghost use Rattle.json_judge.specs.Inner.Asked.{ownTests, rulesTests, recipientsTests, parametersTests};
+ghost use Rattle.json_judge.specs.Inner.Asked.{overTests, withinTests};
 use jose::Sizes;
 use json::Found;
 use json::Position;
@@ -102,8 +103,10 @@ fn own_hollow(recipients: &[u8], n: usize) -> bool
 fn text_entries(text: &[u8], origin: u32, table: &mut [u32], from: usize) -> Stage
     requires { ⌜ Readable (now text) ⌝ }
     requires { ⌜ from * width + headerTable ≤ length (now table) ⌝ }
-    ensures { λ r. ⌜ r ≡ stageOf (first (objectOrder (now (text .entry)) (textEntries origin (now (text .entry))))) (length (textEntries origin (now (text .entry)))) ⌝ }
-    ensures { λ _. ⌜ now (table .exit) ≡ collectedTable from (now (text .entry)) (textEntries origin (now (text .entry))) (now (table .entry)) ⌝ }
+    ensures { λ r. ⌜ r ≡ stageOf (first (objectOrder (now (text .entry)) (textEntries origin (now (text .entry)))))
+        (length (textEntries origin (now (text .entry)))) ⌝ }
+    ensures { λ _. ⌜ now (table .exit) ≡ collectedTable from (now (text .entry)) (textEntries origin (now (text .entry)))
+        (now (table .entry)) ⌝ }
 {
     if text.len() == 0 {
         return Stage::Passed(0);
@@ -129,8 +132,8 @@ struct Faults {
     rules: u32,
 }
 
-// A recipient with this own header and these sizes judged. The first entries of the table are all recipients', and stay; what stands
-// behind them afterwards is free: the table is a caller's own.
+// A recipient with this own header and these sizes judged. The first entries of the table are all recipients', and
+// stay; what stands behind them afterwards is free: the table is a caller's own.
 fn judge_recipient(
     header: &[u8],
     shared: &[u8],
@@ -145,8 +148,10 @@ fn judge_recipient(
     requires { ⌜ front * width + headerTable ≤ length (now table) ⌝ }
     requires { ⌜ Front (now header) (now shared) front (now table) ⌝ }
     ensures { λ r. ⌜ r .object ≡ first (ownTests (now (own .entry))) ⌝ }
-    ensures { λ r. ⌜ (r .object ≡ 0 → r .rules ≡ first (rulesTests (names (now (known .entry))) (now (header .entry)) (now (shared .entry)) (now (own .entry)) sizes)) ⌝ }
-    ensures { λ _. ⌜ (length (now (table .exit)) ≡ length (now (table .entry))) × Front (now (header .entry)) (now (shared .entry)) front (now (table .exit)) ⌝ }
+    ensures { λ r. ⌜ (r .object ≡ 0 → r .rules ≡ first
+        (rulesTests (names (now (known .entry))) (now (header .entry)) (now (shared .entry)) (now (own .entry)) sizes)) ⌝ }
+    ensures { λ _. ⌜ (length (now (table .exit)) ≡ length (now (table .entry)))
+        × Front (now (header .entry)) (now (shared .entry)) front (now (table .exit)) ⌝ }
 {
     let collected = text_entries(own, 2, table, front);
     let Stage::Passed(count) = collected else {
@@ -169,8 +174,8 @@ fn earlier(a: u32, b: u32) -> u32
     if a == 0 { b } else { a }
 }
 
-// 8 and 9 on each recipient's own header, and 12 to 18 on each recipient. Each own header is collected once: while the later ones are
-// asked for 8 and 9, the first refusal of an earlier recipient waits.
+// 8 and 9 on each recipient's own header, and 12 to 18 on each recipient. Each own header is collected once: while the
+// later ones are asked for 8 and 9, the first refusal of an earlier recipient waits.
 fn judge_recipients(
     header: &[u8],
     shared: &[u8],
@@ -187,7 +192,8 @@ fn judge_recipients(
     requires { ⌜ OwnReadable (recipientsIn (now recipients)) ⌝ }
     requires { ⌜ front * width + headerTable ≤ length (now table) ⌝ }
     requires { ⌜ Front (now header) (now shared) front (now table) ⌝ }
-    ensures { λ r. ⌜ r ≡ stageOf (first (recipientsTests (names (now (known .entry))) (now (header .entry)) (now (shared .entry)) sizes (recipientsIn (now (recipients .entry))))) n ⌝ }
+    ensures { λ r. ⌜ r ≡ stageOf (first (recipientsTests (names (now (known .entry))) (now (header .entry)) (now (shared .entry)) sizes
+        (recipientsIn (now (recipients .entry))))) n ⌝ }
     ensures { λ _. ⌜ length (now (table .exit)) ≡ length (now (table .entry)) ⌝ }
 {
     let mut broken: u32 = 0;
@@ -231,7 +237,8 @@ fn judge_parameters(
     requires { ⌜ length (now header) ≤ longest ⌝ }
     requires { ⌜ Readable (now shared) ⌝ }
     requires { ⌜ OwnReadable (recipientsIn (now recipients)) ⌝ }
-    ensures { λ r. ⌜ r ≡ stageOf (first (parametersTests (names (now (known .entry))) (now (header .entry)) (now (shared .entry)) sizes (recipientsIn (now (recipients .entry))))) n ⌝ }
+    ensures { λ r. ⌜ r ≡ stageOf (first (parametersTests (names (now (known .entry))) (now (header .entry)) (now (shared .entry)) sizes
+        (recipientsIn (now (recipients .entry))))) n ⌝ }
 {
     let mut table = [0u32; rows::layout::RECIPIENT_TABLE];
     let protected = headers::protected_entries(header, &mut table);
@@ -265,7 +272,8 @@ fn unread_texts(
 ) -> bool
     requires { ⌜ soundTable (now recipients) ≡ true ⌝ }
     requires { ⌜ n ≡ saidCount (now recipients) ⌝ }
-    ensures { λ r. ⌜ r ≡ unreadTexts outer inner (now (header .entry)) (now (shared .entry)) (recipientsIn (now (recipients .entry))) ⌝ }
+    ensures { λ r. ⌜ r ≡ unreadTexts outer inner (now (header .entry)) (now (shared .entry))
+        (recipientsIn (now (recipients .entry))) ⌝ }
 {
     if unread_within(LEVELS, header) {
         return true;
@@ -305,7 +313,8 @@ fn own_levels(general: bool) -> u32
 pub fn judge_over(header: &[u8], shared: &[u8], recipients: &[u8], n: usize) -> Stage
     requires { ⌜ soundTable (now recipients) ≡ true ⌝ }
     requires { ⌜ n ≡ saidCount (now recipients) ⌝ }
-    ensures { λ r. ⌜ r ≡ stageOf (first (overTests (now (header .entry)) (now (shared .entry)) (recipientsIn (now (recipients .entry))))) n ⌝ }
+    ensures { λ r. ⌜ r ≡ stageOf (first (overTests (now (header .entry)) (now (shared .entry))
+        (recipientsIn (now (recipients .entry))))) n ⌝ }
 {
     if HEADER_ROOM < header.len() {
         return Stage::Refused(6);
@@ -331,7 +340,8 @@ pub fn judge_within(
     requires { ⌜ n ≡ saidCount (now recipients) ⌝ }
     requires { ⌜ length (now shared) ≤ longest ⌝ }
     requires { ⌜ OwnShort (recipientsIn (now recipients)) ⌝ }
-    ensures { λ r. ⌜ r ≡ stageOf (first (withinTests general (names (now (known .entry))) (now (header .entry)) (now (shared .entry)) sizes (recipientsIn (now (recipients .entry))))) n ⌝ }
+    ensures { λ r. ⌜ r ≡ stageOf (first (withinTests general (names (now (known .entry))) (now (header .entry)) (now (shared .entry)) sizes
+        (recipientsIn (now (recipients .entry))))) n ⌝ }
 {
     if HEADER_ROOM < header.len() {
         return Stage::Refused(6);

@@ -1,5 +1,5 @@
--- What the writer does not refuse the reader accepts and hands out: the message opens an object, and its refusals from 7 on, by the
--- pieces, are the same for each recipient.
+-- What the writer does not refuse the reader accepts and hands out: the message opens an object, and its refusals from 7
+-- on, by the pieces, are the same for each recipient.
 use mathlib.Core.Path.{_≡_, refl, sym, ap, ap₂, subst, _∙_}
 use mathlib.Core.List.{List, [], _∷_, _++_}
 use mathlib.Core.Bool.{Bool, true, false, not, _||_, cond}

@@ -1,5 +1,5 @@
--- What is shown of a written message, on one page: the writer can judge it by its pieces before it writes anything, and the reader
--- gives back what was written.
+-- What is shown of a written message, on one page: the writer can judge it by its pieces before it writes anything, and
+-- the reader gives back what was written.
 use mathlib.Core.Path.{_≡_, refl}
 use mathlib.Core.List.{List, [], _∷_}
 use mathlib.Core.Bool.{Bool, true, false}
@@ -74,8 +74,8 @@ written-reads-back general c octets some few known room list e recipient headerL
   back-handed general c octets some few known room e recipient below,
 )
 
--- Examples, octet for octet: general, one recipient, a shared header with space behind its bracket; flattened, a protected header,
--- a recipient's own header and no key; and a text without the space around it.
+-- Examples, octet for octet: general, one recipient, a shared header with space behind its bracket; flattened, a
+-- protected header, a recipient's own header and no key; and a text without the space around it.
 
 general-example : jsonText true (record {
   protected = [];

@@ -1,5 +1,5 @@
--- The flattened and the general serialization (RFC 7516, section 7.2) as they are written (request 1/12): a member of length 0 is left
--- out, ciphertext excepted; shared and own headers stand as given; no space is added.
+-- The flattened and the general serialization (RFC 7516, section 7.2) as they are written (request 1/12): a member of
+-- length 0 is left out, ciphertext excepted; shared and own headers stand as given; no space is added.
 use mathlib.Core.List.{List, [], _∷_, _++_, map}
 use mathlib.Core.Bool.{Bool, true, false}
 use Prim.Native.Nat.{ℕ}
@@ -9,8 +9,8 @@ use Rattle.grammar.specs.Grammar.{curly, square}
 use Rattle.json_text.specs.Pieces.{quoted, memberText, bracketed}
 use Rattle.recipients.specs.Table.{RawRecipient}
 
--- What the writer is given: the texts of the protected and the shared header, each absent where it has length 0, the recipients, and
--- the raw components.
+-- What the writer is given: the texts of the protected and the shared header, each absent where it has length 0, the
+-- recipients, and the raw components.
 pub record RawMessage : Type 0 where
   pub protected : List ℕ
   pub shared : List ℕ

@@ -1,5 +1,5 @@
--- The JSON writer (request 1/12): what it is given, and its refusals in order: 3; 20; 6; 7 on each text; 2, and then the reader's from 7
--- on; 1 last.
+-- The JSON writer (request 1/12): what it is given, and its refusals in order: 3; 20; 6; 7 on each text; 2, and then the
+-- reader's from 7 on; 1 last.
 use mathlib.Core.List.{List, _∷_}
 use mathlib.Core.Bool.{Bool, not, _||_}
 use Prim.Native.Nat.{ℕ}
@@ -10,8 +10,8 @@ use Rattle.recipients.specs.Parsed.{saidCount, recipientsIn, soundTable}
 use Rattle.json_message.specs.JsonText.{RawMessage, jsonText}
 use Rattle.json_message.specs.WriteOrder.{mostFor, messageOrder}
 
--- What the writer is given: the texts of the protected and the shared header, each absent where it has length 0; the raw components;
--- and the recipients, contents first.
+-- What the writer is given: the texts of the protected and the shared header, each absent where it has length 0; the raw
+-- components; and the recipients, contents first.
 pub record RawJson : Type 0 where
   pub protected : List ℕ
   pub shared : List ℕ

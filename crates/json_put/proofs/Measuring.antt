@@ -61,7 +61,8 @@ pub measured-append : (c r s : Cursor) (ws us : List (List ℕ)) → r ≡ measu
 measured-append c r s ws us e f =
     let b = begunAfter (c .begun) ws in
     let size = ap length (led-append (c .begun) ws us) ∙ length-append (led (c .begun) ws) (led b us) in
-    let at : cut (cut (c .at + length (led (c .begun) ws)) + length (led b us)) ≡ cut (c .at + length (led (c .begun) (ws ++ us))) =
+    let at : cut (cut (c .at + length (led (c .begun) ws)) + length (led b us))
+    ≡ cut (c .at + length (led (c .begun) (ws ++ us))) =
     omega (arith, size) in
     f ∙ ap (λ (x : Cursor). measured x us) e ∙ ap₂ cursor at (sym (begun-append (c .begun) ws us))
 

@@ -6,7 +6,7 @@ use Prim.Native.Nat.{ℕ, _+_}
 use native.Mathlib.Omega.{arith}
 use lib.ListN.{length, length-append}
 use Rattle.prelude.specs.Ascii.{ascii}
-use Rattle.grammar.specs.Grammar.{Bracket, curly, opening, closing, quote, colon}
+use Rattle.grammar.specs.Grammar.{curly, quote, colon}
 use Rattle.recipients.specs.Table.{RawRecipient}
 use Rattle.recipients.specs.Parsed.{bodyAt, recipientAt, recipientsIn, soundTable}
 use Rattle.recipients.proofs.Places.{recipients-next, sound-some}

@@ -30,7 +30,9 @@ pub fn text_length(
     table: &[u8],
 ) -> usize
     requires { ⌜ soundTable (now table) ≡ true ⌝ }
-    ensures { λ r. ⌜ r ≡ min (length (writtenText general (rawJson (now (protected .entry)) (now (shared .entry)) (now (aad .entry)) (now (iv .entry)) (now (ciphertext .entry)) (now (tag .entry)) (now (table .entry))))) (longest + 1) ⌝ }
+    ensures { λ r. ⌜ r ≡ min (length (writtenText general
+        (rawJson (now (protected .entry)) (now (shared .entry)) (now (aad .entry)) (now (iv .entry)) (now (ciphertext .entry))
+        (now (tag .entry)) (now (table .entry))))) (longest + 1) ⌝ }
 {
     let start = Cursor {
         at: 1,
@@ -55,9 +57,14 @@ pub fn put_text(
     out: &mut [u8],
 ) -> usize
     requires { ⌜ soundTable (now table) ≡ true ⌝ }
-    requires { ⌜ length (writtenText general (rawJson (now protected) (now shared) (now aad) (now iv) (now ciphertext) (now tag) (now table))) ≤ length (now out) ⌝ }
-    ensures { λ r. ⌜ r ≡ length (writtenText general (rawJson (now (protected .entry)) (now (shared .entry)) (now (aad .entry)) (now (iv .entry)) (now (ciphertext .entry)) (now (tag .entry)) (now (table .entry)))) ⌝ }
-    ensures { λ _. ⌜ now (out .exit) ≡ written 0 (writtenText general (rawJson (now (protected .entry)) (now (shared .entry)) (now (aad .entry)) (now (iv .entry)) (now (ciphertext .entry)) (now (tag .entry)) (now (table .entry)))) (now (out .entry)) ⌝ }
+    requires { ⌜ length (writtenText general
+        (rawJson (now protected) (now shared) (now aad) (now iv) (now ciphertext) (now tag) (now table))) ≤ length (now out) ⌝ }
+    ensures { λ r. ⌜ r ≡ length (writtenText general
+        (rawJson (now (protected .entry)) (now (shared .entry)) (now (aad .entry)) (now (iv .entry)) (now (ciphertext .entry))
+        (now (tag .entry)) (now (table .entry)))) ⌝ }
+    ensures { λ _. ⌜ now (out .exit) ≡ written 0 (writtenText general
+        (rawJson (now (protected .entry)) (now (shared .entry)) (now (aad .entry)) (now (iv .entry)) (now (ciphertext .entry))
+        (now (tag .entry)) (now (table .entry)))) (now (out .entry)) ⌝ }
 {
     out[0] = b'{';
     let start = Cursor {

@@ -31,11 +31,7 @@ pub(crate) fn capped(n: usize) -> usize
 fn encoded_length(octets: &[u8]) -> usize
     ensures { λ r. ⌜ r ≡ cut (length (encoded (now (octets .entry)))) ⌝ }
 {
-    let n = base64url::encoded_length(octets.len());
-    if OVER < n {
-        return OVER;
-    }
-    n
+    capped(base64url::encoded_length(octets.len()))
 }
 
 // A text of n octets more, behind a comma where something stands before.
@@ -170,7 +166,8 @@ pub(crate) fn headers(
 ) -> Cursor
     requires { ⌜ soundTable (now table) ≡ true ⌝ }
     requires { ⌜ cursor .at ≤ longest + 1 ⌝ }
-    ensures { λ r. ⌜ r ≡ measured cursor (headMembers many (now (protected .entry)) (now (shared .entry)) (recipientsIn (now (table .entry)))) ⌝ }
+    ensures { λ r. ⌜ r ≡ measured cursor
+        (headMembers many (now (protected .entry)) (now (shared .entry)) (recipientsIn (now (table .entry)))) ⌝ }
 {
     let first = component(b"protected", protected, cursor);
     let second = header(b"unprotected", shared, first);
@@ -186,7 +183,8 @@ pub(crate) fn components(
     cursor: Cursor,
 ) -> Cursor
     requires { ⌜ cursor .at ≤ longest + 1 ⌝ }
-    ensures { λ r. ⌜ r ≡ measured cursor (tailMembers (now (aad .entry)) (now (iv .entry)) (now (ciphertext .entry)) (now (tag .entry))) ⌝ }
+    ensures { λ r. ⌜ r ≡ measured cursor
+        (tailMembers (now (aad .entry)) (now (iv .entry)) (now (ciphertext .entry)) (now (tag .entry))) ⌝ }
 {
     let first = component(b"aad", aad, cursor);
     let second = component(b"iv", iv, first);

@@ -61,7 +61,8 @@ fn header(name: &[u8], text: &[u8], out: &mut [u8], cursor: Cursor) -> Cursor
 // A component as a member, encoded, also where it is empty.
 fn encoded(name: &[u8], octets: &[u8], out: &mut [u8], cursor: Cursor) -> Cursor
     requires { ⌜ Room cursor (encodedMember (now name) (now octets)) (now out) ⌝ }
-    ensures { λ r. ⌜ Puts cursor (encodedMember (now (name .entry)) (now (octets .entry))) (now (out .entry)) r (now (out .exit)) ⌝ }
+    ensures { λ r. ⌜ Puts cursor (encodedMember (now (name .entry)) (now (octets .entry)))
+        (now (out .entry)) r (now (out .exit)) ⌝ }
 {
     let first = comma(out, cursor.at, cursor.begun);
     let at = member_name(name, out, first);
@@ -77,7 +78,8 @@ fn encoded(name: &[u8], octets: &[u8], out: &mut [u8], cursor: Cursor) -> Cursor
 // A component as a member, encoded; nothing where it is empty.
 fn component(name: &[u8], octets: &[u8], out: &mut [u8], cursor: Cursor) -> Cursor
     requires { ⌜ Room cursor (componentMember (now name) (now octets)) (now out) ⌝ }
-    ensures { λ r. ⌜ Puts cursor (componentMember (now (name .entry)) (now (octets .entry))) (now (out .entry)) r (now (out .exit)) ⌝ }
+    ensures { λ r. ⌜ Puts cursor (componentMember (now (name .entry)) (now (octets .entry)))
+        (now (out .entry)) r (now (out .exit)) ⌝ }
 {
     if octets.len() == 0 {
         return cursor;
@@ -139,7 +141,8 @@ fn elements(table: &[u8], out: &mut [u8], cursor: Cursor) -> Cursor
 fn general(table: &[u8], out: &mut [u8], cursor: Cursor) -> Cursor
     requires { ⌜ soundTable (now table) ≡ true ⌝ }
     requires { ⌜ Room cursor (recipientMembers true (recipientsIn (now table))) (now out) ⌝ }
-    ensures { λ r. ⌜ Puts cursor (recipientMembers true (recipientsIn (now (table .entry)))) (now (out .entry)) r (now (out .exit)) ⌝ }
+    ensures { λ r. ⌜ Puts cursor (recipientMembers true (recipientsIn (now (table .entry))))
+        (now (out .entry)) r (now (out .exit)) ⌝ }
 {
     let first = comma(out, cursor.at, cursor.begun);
     let at = member_name(b"recipients", out, first);
@@ -161,7 +164,8 @@ fn general(table: &[u8], out: &mut [u8], cursor: Cursor) -> Cursor
 fn recipient_members(many: bool, table: &[u8], out: &mut [u8], cursor: Cursor) -> Cursor
     requires { ⌜ soundTable (now table) ≡ true ⌝ }
     requires { ⌜ Room cursor (recipientMembers many (recipientsIn (now table))) (now out) ⌝ }
-    ensures { λ r. ⌜ Puts cursor (recipientMembers many (recipientsIn (now (table .entry)))) (now (out .entry)) r (now (out .exit)) ⌝ }
+    ensures { λ r. ⌜ Puts cursor (recipientMembers many (recipientsIn (now (table .entry))))
+        (now (out .entry)) r (now (out .exit)) ⌝ }
 {
     if many {
         return general(table, out, cursor);
@@ -182,7 +186,8 @@ pub(crate) fn headers(
 ) -> Cursor
     requires { ⌜ soundTable (now table) ≡ true ⌝ }
     requires { ⌜ Room cursor (headMembers many (now protected) (now shared) (recipientsIn (now table))) (now out) ⌝ }
-    ensures { λ r. ⌜ Puts cursor (headMembers many (now (protected .entry)) (now (shared .entry)) (recipientsIn (now (table .entry)))) (now (out .entry)) r (now (out .exit)) ⌝ }
+    ensures { λ r. ⌜ Puts cursor (headMembers many (now (protected .entry)) (now (shared .entry)) (recipientsIn (now (table .entry))))
+        (now (out .entry)) r (now (out .exit)) ⌝ }
 {
     let first = component(b"protected", protected, out, cursor);
     let second = header(b"unprotected", shared, out, first);
@@ -199,7 +204,8 @@ pub(crate) fn components(
     cursor: Cursor,
 ) -> Cursor
     requires { ⌜ Room cursor (tailMembers (now aad) (now iv) (now ciphertext) (now tag)) (now out) ⌝ }
-    ensures { λ r. ⌜ Puts cursor (tailMembers (now (aad .entry)) (now (iv .entry)) (now (ciphertext .entry)) (now (tag .entry))) (now (out .entry)) r (now (out .exit)) ⌝ }
+    ensures { λ r. ⌜ Puts cursor (tailMembers (now (aad .entry)) (now (iv .entry)) (now (ciphertext .entry)) (now (tag .entry)))
+        (now (out .entry)) r (now (out .exit)) ⌝ }
 {
     let first = component(b"aad", aad, out, cursor);
     let second = component(b"iv", iv, out, first);

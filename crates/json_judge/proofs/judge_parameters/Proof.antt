@@ -1,19 +1,15 @@
 -- The protected header, the shared one, the recipients: each stage hands up its refusal.
-use mathlib.Core.Path.{_≡_, refl, ap, sym, _∙_}
-use mathlib.Core.List.{List}
-use Prim.Native.Nat.{ℕ, _*_}
+use mathlib.Core.Path.{_≡_, ap, sym, _∙_}
+use Prim.Native.Nat.{ℕ}
 use native.Mathlib.Omega.{arith}
 use lib.ListN.{length, replicate}
 use Rattle.prelude.specs.Refusals.{first, stageOf}
 use Rattle.prelude.proofs.Refusals.{first-skip}
-use Rattle.names.specs.Names.{names}
-use Rattle.rows.specs.Inner.Prints.{collectedTable}
 use Rattle.headers.specs.Headers.{protectedEntries, objectOrder}
 use Rattle.headers.proofs.Stages.{refused-is, object-nonzero, stopped, refuses}
 use Rattle.jwe.proofs.JsonShaped.{Collected}
-use Rattle.recipients.specs.Parsed.{recipientsIn}
 use Rattle.json_message.specs.Handed.{textEntries}
-use Rattle.json_judge.specs.Inner.Asked.{parametersTests, recipientsTests}
+use Rattle.json_judge.specs.Inner.Asked.{parametersTests}
 use Rattle.json_judge.proofs.Tables.{collected, collected-length, front-is}
 use borrow.Author.Needs.{needs}
 use Rattle.json_judge.proofs.judge_parameters.Statement.{statement}
@@ -36,9 +32,9 @@ second-of c = c .before .before .before .before
 -- the protected header's entries
 kept : (c : tie.After-known-told) →
     let call = first-of c in
-    let s = start call in
-    (first (objectOrder (s .args .header .now) (protectedEntries (s .args .header .now))) ≡ 0)
-    × Collected (s .args .header .now) (protectedEntries (s .args .header .now)) 0 (replicate 768 0) (call .protected-entries .last .1 .0)
+    let header = start call .args .header .now in
+    (first (objectOrder header (protectedEntries header)) ≡ 0)
+    × Collected header (protectedEntries header) 0 (replicate 768 0) (call .protected-entries .last .1 .0)
     (c .before .protected .given .0 .0)
 kept c =
     let call = first-of c in

@@ -1,19 +1,16 @@
 -- The own entries are collected behind all recipients', and the rules asked of both.
-use mathlib.Core.Path.{_≡_, refl, ap, ap₂, sym, _∙_}
+use mathlib.Core.Path.{_≡_, ap, sym, _∙_}
 use mathlib.Core.List.{List}
-use Prim.Native.Nat.{ℕ, _+_, _*_, _≤_}
 use native.Mathlib.Omega.{arith}
-use lib.ListN.{length}
-use Rattle.prelude.specs.Refusals.{first, stageOf}
+use Rattle.prelude.specs.Refusals.{first}
 use Rattle.names.specs.Names.{names}
 use Rattle.rows.specs.Rows.{Entry, texts}
-use Rattle.jose.specs.HeaderRules.{recipientOrder, modeIn}
+use Rattle.jose.specs.HeaderRules.{recipientOrder}
 use Rattle.headers.specs.Headers.{objectOrder}
 use Rattle.headers.proofs.Stages.{refused-is}
 use Rattle.jwe.specs.Answers.{refusedBy}
 use Rattle.jwe.proofs.JsonShaped.{Collected}
 use Rattle.json_message.specs.Handed.{textEntries}
-use Rattle.json_judge.specs.Inner.Asked.{rulesTests}
 use Rattle.json_judge.proofs.Stages.{refused-stage}
 use Rattle.json_judge.proofs.Tables.{collected, keeps, all-entries, all-printed}
 use borrow.Author.Needs.{needs}
@@ -30,8 +27,9 @@ call-of c = c .before .before .before .before .before
 kept : (c : tie.After-known-told) →
     let call = call-of c in
     let s = start call in
-    (first (objectOrder (s .args .own .now) (textEntries 2 (s .args .own .now))) ≡ 0)
-    × Collected (s .args .own .now) (textEntries 2 (s .args .own .now)) (s .args .front) (s .args .table .now) (call .text-entries .last .1 .1 .0)
+    let own = s .args .own .now in
+    (first (objectOrder own (textEntries 2 own)) ≡ 0)
+    × Collected own (textEntries 2 own) (s .args .front) (s .args .table .now) (call .text-entries .last .1 .1 .0)
     (c .before .collected .given .0 .0)
 kept c =
     let call = call-of c in
@@ -64,8 +62,7 @@ returns c =
     let told = c .before .enum-told .given in
     let r = refused-is (told .0 .0) _ _ (sym (told .1) ∙ call .text-entries .ensures .0) in
     let object = c .number .ensures ∙ ap refusedBy (call .text-entries .ensures .0) ∙ refused-stage _ _ in
-    let stays = keeps (s .args .header .now) (s .args .shared .now) (s .args .front) (s .args .table .now) (s .pre .1 .1 .1) (s .pre .1 .1 .0) own _
-    (call .text-entries .ensures .1) in
+    let stays = keeps _ _ _ _ (s .pre .1 .1 .1) (s .pre .1 .1 .0) own _ (call .text-entries .ensures .1) in
     (object, ((λ z. absurd (omega (arith, z, object, r .0, r .1))), stays))
 
 add-judge : tie.Need-add-judge
@@ -83,7 +80,7 @@ judge-requires c κs =
     let sh = s .args .shared .now in
     let own = s .args .own .now in
     let fits = s .pre .1 .1 .0 in
-    let stays = keeps h sh (s .args .front) (s .args .table .now) (s .pre .1 .1 .1) fits own _ (call .text-entries .ensures .1) in (
+    let stays = keeps _ _ _ _ (s .pre .1 .1 .1) fits own _ (call .text-entries .ensures .1) in (
       s .pre .0,
       (
         omega (arith, kept told .1 .short, fits, stays .0),

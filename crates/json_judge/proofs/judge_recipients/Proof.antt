@@ -1,12 +1,11 @@
 -- One recipient after the other: what is known before each is `Walked`.
 use mathlib.Core.Path.{_≡_, refl, ap, ap₂, sym, subst, _∙_}
 use mathlib.Core.List.{List}
-use Prim.Native.Nat.{ℕ, _+_, _-_, _≤_, _<_}
+use Prim.Native.Nat.{ℕ, _-_, _<_}
 use native.Mathlib.Omega.{arith}
 use lib.ListN.{length}
 use Rattle.prelude.specs.Refusals.{first}
 use Rattle.names.specs.Names.{names}
-use Rattle.jose.specs.declared.Sizes.{Sizes}
 use Rattle.recipients.specs.Parsed.{saidCount, recipientAt}
 use Rattle.recipients.proofs.Places.{start-first, lengths-fit, body-fits, start-next, sound-few}
 use Rattle.json_judge.specs.Inner.Asked.{Readable, withKeySize, ownTests, rulesTests}
@@ -43,7 +42,8 @@ own-is c =
     ∙ header-is (start at .args .recipients .now) (at .loop .i) _ (c .before .before .before .recipient .ensures)
 
 object-is : (c : tie.After-judge-recipient Inv-loop μ-loop) →
-    c .judge-recipient .result .object ≡ first (ownTests (recipientAt (start (loop-of c) .args .recipients .now) (loop-of c .loop .i) .header))
+    let at = loop-of c in
+    c .judge-recipient .result .object ≡ first (ownTests (recipientAt (start at .args .recipients .now) (at .loop .i) .header))
 object-is c = c .judge-recipient .ensures .0 ∙ ap (λ (w : List ℕ). first (ownTests w)) (own-is c)
 
 mul-start : tie.Need-mul-start Inv-loop μ-loop
@@ -102,8 +102,7 @@ returns c =
     let call = c .before .before .before .before in
     let at = loop-of call in
     let s = start at in (
-      object-stops (names (s .args .known .now)) (s .args .header .now) (s .args .shared .now) (s .args .sizes) (s .args .recipients .now)
-          (at .loop .i) _ (s .args .n) (below call) (object-is call) (c .if1 .taken) (at .loop .inv .objects),
+      object-stops _ _ _ _ _ (at .loop .i) _ _ (below call) (object-is call) (c .if1 .taken) (at .loop .inv .objects),
       call .judge-recipient .ensures .1 .1 .0 ∙ at .loop .inv .same,
     )
 
@@ -164,9 +163,8 @@ returns-2 c =
     let at = c .before .before in
     let s = start at in
     let inv = at .loop .inv in (
-      all-refuse (names (s .args .known .now)) (s .args .header .now) (s .args .shared .now) (s .args .sizes) (s .args .recipients .now)
-          (at .loop .i) (at .loop .broken) (omega (arith, c .before .loop-test .left, s .pre .1 .1 .0)) (inv .objects) (inv .rules) (s .args .n)
-          (c .if2 .taken),
+      all-refuse _ _ _ _ _ (at .loop .i) (at .loop .broken) (omega (arith, c .before .loop-test .left, s .pre .1 .1 .0))
+          (inv .objects) (inv .rules) _ (c .if2 .taken),
       inv .same,
     )
 
@@ -178,9 +176,8 @@ returns-3 c =
     let at = c .before .before in
     let s = start at in
     let inv = at .loop .inv in (
-      all-pass (names (s .args .known .now)) (s .args .header .now) (s .args .shared .now) (s .args .sizes) (s .args .recipients .now)
-          (at .loop .i) (at .loop .broken) (omega (arith, c .before .loop-test .left, s .pre .1 .1 .0)) (inv .objects) (inv .rules) (s .args .n)
-          (c .if2 .left),
+      all-pass _ _ _ _ _ (at .loop .i) (at .loop .broken) (omega (arith, c .before .loop-test .left, s .pre .1 .1 .0))
+          (inv .objects) (inv .rules) _ (c .if2 .left),
       inv .same,
     )
 

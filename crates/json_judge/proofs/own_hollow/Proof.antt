@@ -1,13 +1,12 @@
 -- Those before have a member; the first without one is found.
 use mathlib.Core.Path.{_≡_, refl, ap, sym, subst, _∙_}
 use mathlib.Core.Bool.{Bool}
-use mathlib.Core.List.{List}
-use Prim.Native.Nat.{ℕ, _-_, _≤_}
+use Prim.Native.Nat.{_-_, _≤_}
 use native.Mathlib.Omega.{arith}
-use lib.ListN.{length, drop}
+use lib.ListN.{drop}
 use Rattle.prelude.specs.Any.{any}
 use Rattle.recipients.specs.Table.{RawRecipient}
-use Rattle.recipients.specs.Parsed.{bodyStart, recipientsIn, recipientAt}
+use Rattle.recipients.specs.Parsed.{bodyStart, recipientsIn}
 use Rattle.recipients.proofs.Places.{start-first, lengths-fit, body-fits, start-next}
 use Rattle.json_message.specs.Inner.PiecesOrder.{hollowText}
 use Rattle.json_judge.specs.Inner.Asked.{Readable, OwnReadable}
@@ -35,7 +34,9 @@ add-start : tie.Need-add-start Inv-loop μ-loop
 add-start c = omega (arith, lengths-fit (c .before .args .recipients .now) (c .before .pre .0), c .before .pre .1 .0)
 
 loop-holds : tie.Need-loop-holds Inv-loop μ-loop
-loop-holds c = (omega arith, (omega (arith, start-first (c .before .args .recipients .now), c .before .pre .1 .0), (refl, c .before .pre .1 .1)))
+loop-holds c =
+    let s = c .before in
+    (omega arith, (omega (arith, start-first (s .args .recipients .now), s .pre .1 .0), (refl, s .pre .1 .1)))
 
 recipient-requires : tie.Need-recipient-requires Inv-loop μ-loop
 recipient-requires c κs =
@@ -52,7 +53,8 @@ hollow-text-requires c κs =
     let loop = c .before .before .before .loop in
     let here = c .before .before .loop-test .taken in
     let own = c .part .ensures .0 ∙ header-is t (loop .i) _ (c .before .recipient .ensures) in
-    subst Readable (sym own) (next-every (λ r. Readable (r .header)) t (loop .i) (omega (arith, here, start .pre .1 .0)) (loop .inv .1 .1 .1) .0)
+    let next = next-every (λ r. Readable (r .header)) t (loop .i) (omega (arith, here, start .pre .1 .0)) (loop .inv .1 .1 .1) in
+    subst Readable (sym own) (next .0)
 
 returns : tie.Need-returns Inv-loop μ-loop
 returns c =
@@ -85,7 +87,8 @@ loop-again c =
     let t = start .args .recipients .now in
     let loop = c .before .before .before .before .before .before .loop in
     let here = c .before .before .before .before .before .loop-test .taken in
-    let own = c .before .before .before .part .ensures .0 ∙ header-is t (loop .i) _ (c .before .before .before .before .recipient .ensures) in
+    let body = c .before .before .before .before .recipient .ensures in
+    let own = c .before .before .before .part .ensures .0 ∙ header-is t (loop .i) _ body in
     let passed = ap hollowText (sym own) ∙ sym (c .before .before .hollow-text .ensures) ∙ c .before .if1 .left in (
       omega (arith, here),
       (

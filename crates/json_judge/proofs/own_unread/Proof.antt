@@ -1,13 +1,12 @@
 -- Those before have a reading; the first without one is found.
 use mathlib.Core.Path.{_≡_, refl, ap, sym, _∙_}
 use mathlib.Core.Bool.{Bool}
-use mathlib.Core.List.{List}
 use Prim.Native.Nat.{ℕ, _-_, _≤_}
 use native.Mathlib.Omega.{arith}
-use lib.ListN.{length, drop}
+use lib.ListN.{drop}
 use Rattle.prelude.specs.Any.{any}
 use Rattle.recipients.specs.Table.{RawRecipient}
-use Rattle.recipients.specs.Parsed.{bodyStart, recipientsIn, recipientAt}
+use Rattle.recipients.specs.Parsed.{bodyStart, recipientsIn}
 use Rattle.recipients.proofs.Places.{start-first, lengths-fit, body-fits, start-next}
 use Rattle.json_message.specs.WriteOrder.{unreadWithin}
 use Rattle.json_judge.proofs.Walk.{header-is, next-start, found-any, passed-any, end-any}
@@ -79,7 +78,8 @@ loop-again c =
     let l = start .args .levels in
     let loop = c .before .before .before .before .before .before .loop in
     let here = c .before .before .before .before .before .loop-test .taken in
-    let own = c .before .before .before .part .ensures .0 ∙ header-is t (loop .i) _ (c .before .before .before .before .recipient .ensures) in
+    let body = c .before .before .before .before .recipient .ensures in
+    let own = c .before .before .before .part .ensures .0 ∙ header-is t (loop .i) _ body in
     let passed = ap (unreadWithin l) (sym own) ∙ sym (c .before .before .unread-within .ensures) ∙ c .before .if1 .left in (
       omega (arith, here),
       (
@@ -92,7 +92,7 @@ returns-2 : tie.Need-returns-2 Inv-loop μ-loop
 returns-2 c =
     let start = c .before .before .before in
     let loop = c .before .loop in
-    end-any (faulty (start .args .levels)) (start .args .recipients .now) (loop .i) (omega (arith, c .loop-test .left, start .pre .1))
+    end-any (faulty (start .args .levels)) _ (loop .i) (omega (arith, c .loop-test .left, start .pre .1))
     ∙ loop .inv .1 .1
 
 pub own-unread-spec : {M : Type 1} → statement M

@@ -1,9 +1,8 @@
--- An absent text has no entries; of a present one they are collected. The list in the source is the list of the registered names, by
--- computing.
+-- An absent text has no entries; of a present one they are collected. The list in the source is that of the registered
+-- names, by computing.
 use mathlib.Core.Path.{ap, ap₂, sym, subst, _∙_}
 use mathlib.Core.List.{List, flatten}
 use Prim.Native.Nat.{ℕ}
-use lib.ListN.{length}
 use Rattle.prelude.specs.Ascii.{ascii}
 use Rattle.prelude.specs.Refusals.{first, stageOf}
 use Rattle.grammar.specs.Grammar.{curly}

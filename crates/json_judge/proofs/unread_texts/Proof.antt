@@ -1,6 +1,5 @@
 -- The texts one after the other.
 use mathlib.Core.Path.{sym, _∙_}
-use Rattle.recipients.specs.Parsed.{recipientsIn}
 use Rattle.json_judge.proofs.Orders.{unread-first, unread-second, unread-third}
 use borrow.Author.Needs.{needs}
 use Rattle.json_judge.proofs.unread_texts.Statement.{statement}
@@ -10,17 +9,14 @@ unread-within-requires : tie.Need-unread-within-requires
 unread-within-requires c κs = search needs
 
 returns : tie.Need-returns
-returns c =
-    let args = c .before .before .before .before .before .args in
-    unread-first (args .outer) (args .inner) (args .header .now) (args .shared .now) (recipientsIn (args .recipients .now)) (sym (c .before .unread-within .ensures) ∙ c .if1 .taken)
+returns c = unread-first _ _ _ _ _ (sym (c .before .unread-within .ensures) ∙ c .if1 .taken)
 
 unread-within-requires-2 : tie.Need-unread-within-requires-2
 unread-within-requires-2 c κs = search needs
 
 returns-2 : tie.Need-returns-2
 returns-2 c =
-    let args = c .before .before .before .before .before .before .before .args in
-    unread-second (args .outer) (args .inner) (args .header .now) (args .shared .now) (recipientsIn (args .recipients .now)) (sym (c .before .before .before .unread-within .ensures) ∙ c .before .before .if1 .left)
+    unread-second _ _ _ _ _ (sym (c .before .before .before .unread-within .ensures) ∙ c .before .before .if1 .left)
     (sym (c .before .unread-within2 .ensures) ∙ c .if2 .taken)
 
 own-unread-requires : tie.Need-own-unread-requires
@@ -28,9 +24,9 @@ own-unread-requires c κs = search needs
 
 returns-3 : tie.Need-returns-3
 returns-3 c =
-    let args = c .before .before .before .before .before .before .before .before .args in
     c .own-unread .ensures
-    ∙ unread-third (args .outer) (args .inner) (args .header .now) (args .shared .now) (recipientsIn (args .recipients .now)) (sym (c .before .before .before .before .unread-within .ensures) ∙ c .before .before .before .if1 .left)
+    ∙ unread-third _ _ _ _ _
+    (sym (c .before .before .before .before .unread-within .ensures) ∙ c .before .before .before .if1 .left)
     (sym (c .before .before .unread-within2 .ensures) ∙ c .before .if2 .left)
 
 pub unread-texts-spec : {M : Type 1} → statement M

@@ -22,13 +22,13 @@ returns-2 : tie.Need-returns-2
 returns-2 c =
     let start = c .before .before .before .before .before .args in
     ap noValue (sym (c .enum-told2 .given .1))
-    ∙ unread-present (start .levels) (start .text .now) (c .before .before .before .if1 .left) _ (c .before .before .judge .ensures)
+    ∙ unread-present _ _ (c .before .before .before .if1 .left) _ (c .before .before .judge .ensures)
 
 returns-3 : tie.Need-returns-3
 returns-3 c =
     let start = c .before .before .before .before .before .args in
     ap noValue (sym (c .enum-told .given .1))
-    ∙ unread-present (start .levels) (start .text .now) (c .before .before .before .if1 .left) _ (c .before .before .judge .ensures)
+    ∙ unread-present _ _ (c .before .before .before .if1 .left) _ (c .before .before .judge .ensures)
 
 pub unread-within-spec : {M : Type 1} → statement M
 unread-within-spec =

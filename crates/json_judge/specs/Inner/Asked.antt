@@ -32,8 +32,8 @@ OwnReadable rs = Every (λ r. Readable (r .header)) rs
 abbrev pub OwnShort : List RawRecipient → Type 0
 OwnShort rs = Every (λ r. length (r .header) ≤ longest) rs
 
--- The first entries of a table are those of the protected and the shared header, with the fingerprints of their names; whatever the
--- recipient's own header is.
+-- The first entries of a table are those of the protected and the shared header, with the fingerprints of their names;
+-- whatever the recipient's own header is.
 pub record Front (header shared : List ℕ) (front : ℕ) (table : List ℕ) : Type 0 where
   pub entries : entriesOf front table ≡ protectedEntries header ++ textEntries 1 shared
   pub printed : (own : List ℕ) → Printed (texts header shared own) front table

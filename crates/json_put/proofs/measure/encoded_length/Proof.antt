@@ -8,15 +8,13 @@ use Rattle.json_put.proofs.measure.encoded_length.Tie as tie
 encoded-length-requires : tie.Need-encoded-length-requires
 encoded-length-requires c κs = search needs
 
+capped-requires : tie.Need-capped-requires
+capped-requires c κs = search needs
+
 returns : tie.Need-returns
 returns c =
     let octets = c .before .before .before .args .octets .now in
-    omega (arith, encoded-length octets, c .before .encoded-length .ensures)
-
-returns-2 : tie.Need-returns-2
-returns-2 c =
-    let octets = c .before .before .before .args .octets .now in
-    omega (arith, encoded-length octets, c .before .encoded-length .ensures)
+    omega (arith, encoded-length octets, c .before .encoded-length .ensures, c .capped .ensures)
 
 pub encoded-length-spec : {M : Type 1} → statement M
-encoded-length-spec = tie.close (tie.spec encoded-length-requires returns returns-2)
+encoded-length-spec = tie.close (tie.spec encoded-length-requires capped-requires returns)

@@ -16,7 +16,8 @@ use Rattle.json_put.proofs.put.elements.Statement.{statement}
 use Rattle.json_put.proofs.put.elements.Tie as tie
 
 abbrev Inv-loop : tie.InvT-loop
-Inv-loop table out₀ n start₀ next₀ i₀ out start next i = (i ≤ n) × ((start ≡ bodyStart table i) × PutsElements table next₀ out₀ i next out)
+Inv-loop table out₀ n start₀ next₀ i₀ out start next i =
+    (i ≤ n) × ((start ≡ bodyStart table i) × PutsElements table next₀ out₀ i next out)
 
 abbrev μ-loop : tie.MeasureT-loop
 μ-loop table out₀ n start₀ next₀ i₀ out start next i = n - i
