@@ -128,6 +128,15 @@ pub fn write_json(
         (now (known .entry)) (now (out .entry)) r (now (out .exit)) ⌝ }
 {
     json_write::write(
-        general, protected, shared, aad, iv, ciphertext, tag, known, recipients, out,
+        general,
+        protected,
+        shared,
+        aad,
+        iv,
+        ciphertext,
+        tag,
+        known,
+        recipients,
+        out,
     )
 }

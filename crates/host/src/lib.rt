@@ -125,7 +125,16 @@ pub extern "C" fn jwe_write_flattened(
         (now (out .entry)) r (now (octets .exit)) (now (out .exit)) ⌝ }
 {
     let answer = gateway::write_json(
-        false, protected, shared, aad, iv, ciphertext, tag, known, recipients, out,
+        false,
+        protected,
+        shared,
+        aad,
+        iv,
+        ciphertext,
+        tag,
+        known,
+        recipients,
+        out,
     );
     match answer {
         Stage::Passed(count) => {
@@ -164,11 +173,20 @@ pub extern "C" fn jwe_write_general(
         (now (out .entry)) r (now (octets .exit)) (now (out .exit)) ⌝ }
 {
     let answer = gateway::write_json(
-        true, protected, shared, aad, iv, ciphertext, tag, known, recipients, out,
+        true,
+        protected,
+        shared,
+        aad,
+        iv,
+        ciphertext,
+        tag,
+        known,
+        recipients,
+        out,
     );
     match answer {
-        Stage::Passed(count) => {
-            *octets = count;
+        Stage::Passed(size) => {
+            *octets = size;
             0
         }
         Stage::Refused(n) => {
