@@ -15,7 +15,8 @@ use Rattle.jose.specs.declared.Sizes.{Sizes}
 use Rattle.headers.proofs.Stages.{object-nonzero, stopped, refuses, passes}
 use Rattle.jwe.proofs.CompactOrder.{rules-nonzero}
 use Rattle.recipients.specs.Table.{RawRecipient}
-use Rattle.recipients.specs.Parsed.{saidCount, bodyStart, headerLength, keyLength, recipientAt, recipientsIn, soundTable, bodyAt}
+use Rattle.recipients.specs.Parsed.{saidCount, bodyStart, headerLength, keyLength, recipientAt, recipientsIn, soundTable}
+use Rattle.recipients.specs.Inner.Answers.{bodyAt}
 use Rattle.recipients.specs.declared.Body.{Body}
 use Rattle.recipients.proofs.Places.{recipients-next, recipients-end, body-fits}
 use Rattle.json_judge.specs.Inner.Asked.{OwnReadable, Front, withKeySize, ownTests, rulesTests, recipientsTests}

@@ -113,8 +113,10 @@ module _ {header shared before table last : List ℕ} {p s : ℕ} (a : Collected
     entries = behind a b long;
     printed = λ own. (
         let ts = texts header shared own in
+        let stand = entries-stand registered ts header 0 (outermost header) refl in
         let first = subst₂ (Printed ts) (sym (a .count)) (sym (a .wrote))
-        (printed-written ts header (protectedEntries header) before (entries-stand registered ts header 0 (outermost header) refl)) in
+        (printed-written ts header (protectedEntries header) before stand) in
         subst₂ (Printed ts) (ap (λ (n : ℕ). p + n) (sym (b .count))) (sym (b .wrote))
-        (printed-more ts p shared (textEntries 1 shared) table (omega (arith, a .short, long)) (text-stands ts 1 shared refl) first));
+        (printed-more ts p shared (textEntries 1 shared) table (omega (arith, a .short, long))
+        (text-stands ts 1 shared refl) first));
   }

@@ -8,7 +8,8 @@ use Rattle.prelude.specs.Any.{any}
 use Rattle.grammar.specs.Bounds.{Every}
 use Rattle.parts.specs.Parts.{part}
 use Rattle.recipients.specs.Table.{RawRecipient}
-use Rattle.recipients.specs.Parsed.{saidCount, bodyStart, recipientAt, recipientsIn, bodyAt}
+use Rattle.recipients.specs.Parsed.{saidCount, bodyStart, recipientAt, recipientsIn}
+use Rattle.recipients.specs.Inner.Answers.{bodyAt}
 use Rattle.recipients.specs.declared.Body.{Body}
 use Rattle.recipients.proofs.Places.{recipients-next, recipients-end, start-next}
 

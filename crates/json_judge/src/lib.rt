@@ -192,8 +192,8 @@ fn judge_recipients(
     requires { ⌜ OwnReadable (recipientsIn (now recipients)) ⌝ }
     requires { ⌜ front * width + headerTable ≤ length (now table) ⌝ }
     requires { ⌜ Front (now header) (now shared) front (now table) ⌝ }
-    ensures { λ r. ⌜ r ≡ stageOf (first (recipientsTests (names (now (known .entry))) (now (header .entry)) (now (shared .entry)) sizes
-        (recipientsIn (now (recipients .entry))))) n ⌝ }
+    ensures { λ r. ⌜ r ≡ stageOf (first (recipientsTests (names (now (known .entry))) (now (header .entry)) (now (shared .entry))
+        sizes (recipientsIn (now (recipients .entry))))) n ⌝ }
     ensures { λ _. ⌜ length (now (table .exit)) ≡ length (now (table .entry)) ⌝ }
 {
     let mut broken: u32 = 0;
@@ -237,8 +237,8 @@ fn judge_parameters(
     requires { ⌜ length (now header) ≤ longest ⌝ }
     requires { ⌜ Readable (now shared) ⌝ }
     requires { ⌜ OwnReadable (recipientsIn (now recipients)) ⌝ }
-    ensures { λ r. ⌜ r ≡ stageOf (first (parametersTests (names (now (known .entry))) (now (header .entry)) (now (shared .entry)) sizes
-        (recipientsIn (now (recipients .entry))))) n ⌝ }
+    ensures { λ r. ⌜ r ≡ stageOf (first (parametersTests (names (now (known .entry))) (now (header .entry)) (now (shared .entry))
+        sizes (recipientsIn (now (recipients .entry))))) n ⌝ }
 {
     let mut table = [0u32; rows::layout::RECIPIENT_TABLE];
     let protected = headers::protected_entries(header, &mut table);
@@ -340,8 +340,8 @@ pub fn judge_within(
     requires { ⌜ n ≡ saidCount (now recipients) ⌝ }
     requires { ⌜ length (now shared) ≤ longest ⌝ }
     requires { ⌜ OwnShort (recipientsIn (now recipients)) ⌝ }
-    ensures { λ r. ⌜ r ≡ stageOf (first (withinTests general (names (now (known .entry))) (now (header .entry)) (now (shared .entry)) sizes
-        (recipientsIn (now (recipients .entry))))) n ⌝ }
+    ensures { λ r. ⌜ r ≡ stageOf (first (withinTests general (names (now (known .entry))) (now (header .entry)) (now (shared .entry))
+        sizes (recipientsIn (now (recipients .entry))))) n ⌝ }
 {
     if HEADER_ROOM < header.len() {
         return Stage::Refused(6);

@@ -23,7 +23,8 @@ use Rattle.grammar.proofs.Theorems.{read-complete}
 use Rattle.headers.specs.Headers.{outermost}
 use Rattle.shape.specs.Shape.{hollow}
 use Rattle.jwe.specs.General.{isHollow}
-use Rattle.json_text.specs.Moved.{moved, movedMember}
+use Rattle.json_text.specs.Moved.{movedMember}
+use Rattle.json_text.specs.Inner.Placed.{moved}
 use Rattle.json_text.proofs.Embedded.{Stands, stands-whole, here, shown-members, embedded-members}
 use Rattle.json_text.proofs.Made.{given, given-kind, given-levels, made-placed}
 use Rattle.json_text.proofs.Fields.{made-shows, placed-from}

@@ -8,7 +8,8 @@ use lib.ListN.{length, length-append}
 use Rattle.prelude.specs.Ascii.{ascii}
 use Rattle.grammar.specs.Grammar.{curly, quote, colon}
 use Rattle.recipients.specs.Table.{RawRecipient}
-use Rattle.recipients.specs.Parsed.{bodyAt, recipientAt, recipientsIn, soundTable}
+use Rattle.recipients.specs.Parsed.{recipientAt, recipientsIn, soundTable}
+use Rattle.recipients.specs.Inner.Answers.{bodyAt}
 use Rattle.recipients.proofs.Places.{recipients-next, sound-some}
 use Rattle.json_text.specs.Pieces.{quoted, memberText, bracketed}
 use Rattle.json_text.specs.Inner.Led.{led}

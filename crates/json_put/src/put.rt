@@ -186,7 +186,8 @@ pub(crate) fn headers(
 ) -> Cursor
     requires { ⌜ soundTable (now table) ≡ true ⌝ }
     requires { ⌜ Room cursor (headMembers many (now protected) (now shared) (recipientsIn (now table))) (now out) ⌝ }
-    ensures { λ r. ⌜ Puts cursor (headMembers many (now (protected .entry)) (now (shared .entry)) (recipientsIn (now (table .entry))))
+    ensures { λ r. ⌜ Puts cursor
+        (headMembers many (now (protected .entry)) (now (shared .entry)) (recipientsIn (now (table .entry))))
         (now (out .entry)) r (now (out .exit)) ⌝ }
 {
     let first = component(b"protected", protected, out, cursor);

@@ -19,7 +19,8 @@ use Rattle.grammar.proofs.Positions.{Rest}
 use Rattle.grammar.proofs.Shown.{everywhere}
 use Rattle.grammar.proofs.Decide.{rest-value}
 use Rattle.grammar.proofs.Theorems.{read-complete, read-shows}
-use Rattle.json_text.specs.Moved.{movedPlace, moved, movedParts, movedMember}
+use Rattle.json_text.specs.Moved.{movedMember}
+use Rattle.json_text.specs.Inner.Placed.{movedPlace, moved, movedParts}
 use Rattle.json_text.proofs.Moved.{placed-moved, members-moved}
 
 -- From octet m on stands w in s, and behind it nothing that a number could go on with.

@@ -18,7 +18,7 @@ use Rattle.grammar.proofs.Scan.{halts, isNumber}
 use Rattle.grammar.proofs.Positions.{Rest, rest-along, rest-next}
 use Rattle.grammar.proofs.Shown.{everywhere}
 use Rattle.json_text.specs.Pieces.{quoted, memberText, joined, bracketed}
-use Rattle.json_text.specs.Moved.{moved}
+use Rattle.json_text.specs.Inner.Placed.{moved}
 use Rattle.json_text.proofs.Moved.{placed-moved}
 use Rattle.json_text.proofs.Embedded.{Stands, here, shown-members, shown-elements}
 use Rattle.json_text.proofs.Assembled.{slotText, assembled-placed, partsFrom}

@@ -13,7 +13,8 @@ use borrow.Author.Tests.{le-leb, lt-leb, leb-true, eqb-true, eq-eqb, ne-eqb}
 use Rattle.prelude.specs.Limits.{mostRecipients}
 use Rattle.recipients.specs.Table.{RawRecipient}
 use Rattle.recipients.specs.Parsed.{saidCount, headerLength, keyLength, bodyStart, recipientAt, recipientsFrom}
-use Rattle.recipients.specs.Parsed.{recipientsIn, soundTable, countAnswer}
+use Rattle.recipients.specs.Parsed.{recipientsIn, soundTable}
+use Rattle.recipients.specs.Inner.Answers.{countAnswer}
 use Rattle.recipients.specs.declared.Counted.the-variants.{Recipients, Malformed}
 
 -- Where bodies begin

@@ -1,16 +1,13 @@
 -- The recipients of a table by their places in it, and whether it is sound. That these undo `tableOf` and decide `Sound` is
 -- in proofs/Laws.
 use mathlib.Core.List.{List, [], _∷_}
-use mathlib.Core.Bool.{Bool, _&&_, cond}
+use mathlib.Core.Bool.{Bool, _&&_}
 use Prim.Native.Nat.{ℕ, zero, suc, _+_, _*_}
 use lib.ListN.{length, getD}
 use lib.Dec.{eqb, leb}
 use Rattle.parts.specs.Parts.{part}
 use Rattle.prelude.specs.Limits.{mostRecipients}
 use Rattle.recipients.specs.Table.{RawRecipient}
-use Rattle.recipients.specs.declared.Body.{Body}
-use Rattle.recipients.specs.declared.Counted.{Counted}
-use Rattle.recipients.specs.declared.Counted.the-variants.{Recipients, Malformed}
 
 -- How many recipients a table says that it has.
 abbrev pub saidCount : List ℕ → ℕ
@@ -53,14 +50,3 @@ recipientsIn t = recipientsFrom t (saidCount t) 0
 unfoldable pub soundTable : List ℕ → Bool
 soundTable t =
     leb 1 (saidCount t) && (leb (saidCount t) mostRecipients && eqb (bodyStart t (saidCount t)) (length t))
-
--- The answers of the code: how many recipients there are, where the table is sound, ..
-unfoldable pub countAnswer : List ℕ → Counted
-countAnswer t = cond (soundTable t) (Recipients (saidCount t)) Malformed
-
--- .. and where the i-th recipient's header and key stand.
-unfoldable pub bodyAt : List ℕ → ℕ → Body
-bodyAt t i = record {
-  header = record { start = bodyStart t i; len = headerLength t i };
-  key = record { start = bodyStart t i + headerLength t i; len = keyLength t i };
-}

@@ -3,7 +3,8 @@
 ghost use mathlib.Core.Path.{_≡_};
 ghost use mathlib.Core.Bool.{true};
 ghost use Prim.Native.Nat.{_<_};
-ghost use Rattle.recipients.specs.Parsed.{saidCount, bodyStart, soundTable, countAnswer, bodyAt};
+ghost use Rattle.recipients.specs.Parsed.{saidCount, bodyStart, soundTable};
+ghost use Rattle.recipients.specs.Inner.Answers.{countAnswer, bodyAt};
 use prelude::Place;
 use prelude::limits::MOST_RECIPIENTS;
 

@@ -3,7 +3,8 @@ use mathlib.Core.Path.{_≡_}
 use native.Mathlib.Omega.{arith}
 use Prim.Native.Nat.{ℕ, _+_, _*_, _≤_}
 use lib.ListN.{length}
-use Rattle.recipients.specs.Parsed.{headerLength, keyLength, bodyAt}
+use Rattle.recipients.specs.Parsed.{headerLength, keyLength}
+use Rattle.recipients.specs.Inner.Answers.{bodyAt}
 use Rattle.recipients.proofs.Places.{lengths-fit, body-fits}
 use Rattle.recipients.specs.declared.Body.{Body}
 use Rattle.recipients.proofs.recipient.Statement.{statement}

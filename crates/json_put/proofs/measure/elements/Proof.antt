@@ -5,7 +5,8 @@ use mathlib.Core.List.{[], _∷_}
 use native.Mathlib.Omega.{arith}
 use Rattle.recipients.specs.Table.{RawRecipient}
 use Rattle.recipients.specs.declared.Body.{Body}
-use Rattle.recipients.specs.Parsed.{bodyStart, bodyAt}
+use Rattle.recipients.specs.Parsed.{bodyStart}
+use Rattle.recipients.specs.Inner.Answers.{bodyAt}
 use Rattle.recipients.proofs.Places.{start-first, start-next, sound-few, lengths-fit, body-fits}
 use Rattle.json_message.specs.JsonText.{elementText}
 use Rattle.json_put.specs.Inner.Members.{measured, shown}

@@ -4,7 +4,8 @@ use mathlib.Core.Bool.{Bool, false}
 use mathlib.Core.List.{List}
 use Prim.Native.Nat.{ℕ}
 use native.Mathlib.Omega.{arith}
-use Rattle.recipients.specs.Parsed.{recipientsIn, bodyAt}
+use Rattle.recipients.specs.Parsed.{recipientsIn}
+use Rattle.recipients.specs.Inner.Answers.{bodyAt}
 use Rattle.recipients.specs.declared.Body.{Body}
 use Rattle.recipients.proofs.Places.{start-first, sound-some, sound-few, lengths-fit}
 use Rattle.json_message.specs.JsonText.{ownMembers, recipientMembers}
