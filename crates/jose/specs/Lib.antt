@@ -1,3 +1,4 @@
 pub mod Registered
 pub mod HeaderRules
+pub mod ContentAlgorithm
 pub mod Inner

@@ -1,12 +1,14 @@
 -- Loops that ask something of one entry after the other: what is asked from an entry on stays the answer of the whole,
 -- until one passes or none is left.
 use mathlib.Core.Path.{_≡_, ap, sym, _∙_}
-use mathlib.Core.Bool.{Bool, true, false, _||_}
-use mathlib.Core.List.{List}
+use mathlib.Core.Bool.{Bool, true, false, _||_, cond}
+use mathlib.Core.List.{List, [], _∷_}
 use Prim.Native.Nat.{ℕ, _+_, _*_, _≤_, _<_}
 use lib.ListN.{drop}
+use lib.Dec.{eqb}
+use borrow.Author.Tests.{eq-eqb, ne-eqb}
 use Rattle.prelude.specs.Any.{any, anyPair}
-use Rattle.rows.specs.Rows.{Entry}
+use Rattle.rows.specs.Rows.{Entry, having}
 use Rattle.rows.specs.Tables.{firstOf, entriesOf, width}
 use Rattle.rows.proofs.Entries.{entry-at, entries-done}
 
@@ -50,3 +52,30 @@ module _ (f : Entry → Entry → Bool) (answer : Bool) (count i : ℕ) (t : Lis
   pub pair-done : count ≤ i → false ≡ answer
   unfolding anyPair
   pair-done h = sym (ap (anyPair f) (entries-done i count t h)) ∙ so
+
+-- Those that have a number, from entry i on.
+module _ (n count i : ℕ) (t : List ℕ) where
+  module _ (h : i < count) where
+    abbrev by : Bool → List Entry
+    by b =
+        let rest = having n (drop (i + 1) (entriesOf count t)) in
+        cond b (firstOf (drop (i * width) t) ∷ rest) rest
+
+    having-here : having n (drop i (entriesOf count t)) ≡ by (eqb (firstOf (drop (i * width) t) .number) n)
+    unfolding having
+    having-here = ap (having n) (entry-at i count t h)
+
+    -- This one has another ..
+    pub having-turn : (firstOf (drop (i * width) t) .number ≡ n → ⊥) →
+        having n (drop (i + 1) (entriesOf count t)) ≡ having n (drop i (entriesOf count t))
+    having-turn d = sym (having-here ∙ ap by (ne-eqb (firstOf (drop (i * width) t) .number) n d))
+
+    -- .. or has it.
+    pub having-found : firstOf (drop (i * width) t) .number ≡ n →
+        having n (drop i (entriesOf count t)) ≡ firstOf (drop (i * width) t) ∷ having n (drop (i + 1) (entriesOf count t))
+    having-found e = having-here ∙ ap by (eq-eqb (firstOf (drop (i * width) t) .number) n e)
+
+  -- There are no more.
+  pub having-done : count ≤ i → having n (drop i (entriesOf count t)) ≡ []
+  unfolding having
+  having-done h = ap (having n) (entries-done i count t h)

@@ -79,6 +79,11 @@ numbered n e = eqb (e .number) n
 unfoldable pub present : ℕ → List Entry → Bool
 present n es = any (numbered n) es
 
+-- All that do.
+unfoldable pub having : ℕ → List Entry → List Entry
+having n [] = []
+having n (e ∷ es) = let rest = having n es in cond (numbered n e) (e ∷ rest) rest
+
 -- The place of the value of the first one, with quotation marks; 0, 0 where there is none.
 unfoldable pub valueOf : ℕ → List Entry → Place
 valueOf n [] = record { start = 0; size = 0 }

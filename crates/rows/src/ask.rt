@@ -3,7 +3,7 @@ ghost use mathlib.Core.Path.{_≡_};
 ghost use Prim.Native.Nat.{_+_, _-_, _*_, _≤_, _<_};
 ghost use lib.ListN.{length, drop, getD};
 ghost use Rattle.prelude.specs.Limits.{numberLimit};
-ghost use Rattle.rows.specs.Rows.{spelledName, spelledValue, present, valueOf};
+ghost use Rattle.rows.specs.Rows.{spelledName, spelledValue, present, having, valueOf};
 ghost use Rattle.rows.specs.Tables.{firstOf, entriesOf, width};
 use crate::layout;
 use prelude::Place;
@@ -51,6 +51,24 @@ pub fn present(table: &[u32], count: usize, n: u32) -> bool
         i += 1;
     }
     false
+}
+
+// The first entry from one on that has the n-th of the names; `count` where none does.
+pub fn next(table: &[u32], from: usize, count: usize, n: u32) -> usize
+    requires { ⌜ count * width ≤ length (now table) ⌝ }
+    requires { ⌜ from ≤ count ⌝ }
+    ensures { λ r. ⌜ (from ≤ r) × (r ≤ count) ⌝ }
+    ensures { λ r. ⌜ having n (drop r (entriesOf count (now (table .entry)))) ≡ having n (drop from (entriesOf count (now (table .entry)))) ⌝ }
+    ensures { λ r. ⌜ (r < count → firstOf (drop (r * width) (now (table .entry))) .number ≡ n) ⌝ }
+{
+    let mut i = from;
+    while i < count {
+        if field(table, i, layout::NUMBER) == n as usize {
+            return i;
+        }
+        i += 1;
+    }
+    count
 }
 
 // The place of the value of the first one that does, with quotation marks; 0, 0 where there is none.
