@@ -7,3 +7,5 @@ pub mod Walks
 pub mod Order
 -- On what the rules depend.
 pub mod Alike
+-- The content algorithm of a recipient.
+pub mod ContentAlgorithm

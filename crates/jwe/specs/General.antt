@@ -2,6 +2,7 @@
 -- in order.
 use mathlib.Core.List.{List, [], _∷_, _++_, map, flatMap}
 use mathlib.Core.Bool.{Bool, true, false, cond}
+use mathlib.Core.Option.{Option}
 use Prim.Native.Nat.{ℕ}
 use lib.ListN.{length}
 use lib.Dec.{leb}
@@ -10,6 +11,7 @@ use Rattle.prelude.specs.Any.{any}
 use Rattle.rows.specs.Rows.{Entry, readTexts}
 use Rattle.prelude.specs.Refusals.{Test, _if_}
 use Rattle.jose.specs.HeaderRules.{recipientOrder}
+use Rattle.jose.specs.ContentAlgorithm.{contentAlgorithm, differing}
 use Rattle.headers.specs.Components.{Components, misspelled, sizesOf}
 use Rattle.headers.specs.Headers.{headerText, textOrder, outermost, protectedEntries, headerEntries, objectOrder}
 use Rattle.shape.specs.Shape.{Recipient}
@@ -58,6 +60,14 @@ recipientsOrder known header message t rs =
     (λ r. recipientOrder known (readTexts header message) (parameters header message t r) (sizesOf (componentsIn t r)))
     rs
 
+-- The content algorithm of a recipient.
+abbrev pub contentOf : List ℕ → List ℕ → Top → Recipient → Option (List ℕ)
+contentOf header message t r = contentAlgorithm (readTexts header message) (parameters header message t r)
+
+-- 21: all recipients have that of the first.
+unfoldable pub contentOrder : List ℕ → List ℕ → Top → List Recipient → List Test
+contentOrder header message t rs = 21 if differing 0 (map (contentOf header message t) rs) ∷ []
+
 -- The refusals of a JSON message until its spelling is judged: from 7 on, and 5.
 unfoldable pub jsonSpelled : List ℕ → List Test
 jsonSpelled message =
@@ -70,7 +80,8 @@ jsonLater known message t rs recipient =
     let header = headerText message (t .components .protected) in
     protectedOrder t header
     ++ (headersOrder header message t rs
-    ++ (recipientsOrder known header message t rs ++ (19 if leb (length rs) recipient ∷ [])))
+    ++ (recipientsOrder known header message t rs
+    ++ (contentOrder header message t rs ++ (19 if leb (length rs) recipient ∷ []))))
 
 -- The refusals of a JSON message, from 7 on.
 unfoldable pub jsonOrder : List ℕ → List (List ℕ) → ℕ → List Test

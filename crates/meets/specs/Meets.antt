@@ -17,7 +17,8 @@ use Rattle.grammar.specs.Places.{kind}
 use Rattle.grammar.specs.Bounds.{Every}
 use Rattle.grammar.specs.Readings.{Reading}
 use Rattle.meets.specs.Members.{Member, membersOf, elementsOf, namesOf, IsString, Distinct, Named, Absent}
-use Rattle.meets.specs.Rules.{EveryNamed, Present, Rules}
+use Rattle.meets.specs.Members.{EveryTwo}
+use Rattle.meets.specs.Rules.{EveryNamed, Present, Rules, SameContent}
 
 -- Octets.
 abbrev pub Octets : List ℕ → Type 0
@@ -137,6 +138,18 @@ EachRuled known protected shared [] each = Unit {0}
 EachRuled known protected shared (ms ∷ rs) each =
     Ruled known protected shared (each .0) × EachRuled known protected shared rs (each .1)
 
+-- Their own headers.
+abbrev pub owns : (rs : List (List Member)) → Every Recipient rs → List (List Member)
+owns [] each = []
+owns (ms ∷ rs) each = each .0 .own ∷ owns rs (each .1)
+
+-- Every two of several recipients, by their own headers, have the same content algorithm.
+abbrev pub OneContent : List Member → List Member → List (List Member) → Type 0
+OneContent protected shared =
+    EveryTwo (λ own other.
+    SameContent (record { protected = protected; shared = shared; own = own })
+    (record { protected = protected; shared = shared; own = other }))
+
 pub record Json (known : List (List ℕ)) (message : List ℕ) : Type 0 where
   pub reading : Reading levels message
   pub object : Object (membersOf (reading .text .value))
@@ -163,6 +176,7 @@ pub record Json (known : List (List ℕ)) (message : List ℕ) : Type 0 where
   pub few : length recipients ≤ mostRecipients
   pub each : Every Recipient recipients
   pub rules : EachRuled known protected shared recipients each
+  pub content : OneContent protected shared (owns recipients each)
 
 -- The form is told by the first octet that is not space: a JSON message has an opening curly bracket there.
 pub record OpensCurly (message : List ℕ) : Type 0 where

@@ -58,6 +58,11 @@ abbrev pub Some : {A : Type 0} → (A → Type 0) → List A → Type 0
 Some P [] = ⊥
 Some P (x ∷ xs) = P x ⊎ Some P xs
 
+-- Something holds of every two in a list, the first of them before the second.
+abbrev pub EveryTwo : {A : Type 0} → (A → A → Type 0) → List A → Type 0
+EveryTwo R [] = Unit {0}
+EveryTwo R (x ∷ xs) = Every (R x) xs × EveryTwo R xs
+
 -- Lists of one length whose elements are related, one for one.
 abbrev pub OneForOne : {A B : Type 0} → (A → B → Type 0) → List A → List B → Type 0
 OneForOne R [] [] = Unit {0}

@@ -99,3 +99,14 @@ pub record Rules (known : List (List ℕ)) (h : Headers) (key : List ℕ) : Type
   pub critProtected : EveryNamed (ascii "crit") (λ v. ⊥) (h .shared ++ h .own)
   pub critical : EveryNamed (ascii "crit") (Critical known (parameters h)) (parameters h)
   pub keyFits : (a : Alg) → EveryNamed (ascii "alg") (λ v. ValueAmong (algName a ∷ []) v → KeyFits (mode a) key) (parameters h)
+
+-- 21 (request 2/12): two recipients have the same content algorithm.
+
+-- Values that are strings which say the same.
+abbrev pub SameString : Value → Value → Type 0
+SameString v w = IsString (λ x. IsString (SayAlike x) w) v
+
+-- Each `enc` of one's parameters is the same string as each of the other's.
+abbrev pub SameContent : Headers → Headers → Type 0
+SameContent h k =
+    EveryNamed (ascii "enc") (λ v. EveryNamed (ascii "enc") (SameString v) (parameters k)) (parameters h)

@@ -15,7 +15,8 @@ use Rattle.algorithms.specs.declared.Alg.{Alg}
 use Rattle.meets.specs.Members.{Member, membersOf, namesOf, Distinct}
 use Rattle.meets.specs.Rules.{Headers, parameters, EveryNamed, NamesApart, Present, stringNames, objectNames, arrayNames}
 use Rattle.meets.specs.Rules.{OfKind, ValueAmong, Critical, KeyFits}
-use Rattle.meets.specs.Meets.{Octets, RecipientShape, TopShape, Component, HeaderIn, RecipientsIn, OpensCurly, Known}
+use Rattle.meets.specs.Meets.{Octets, RecipientShape, TopShape, Component, HeaderIn, RecipientsIn, OneContent, OpensCurly}
+use Rattle.meets.specs.Meets.{Known}
 use Rattle.refusals.specs.Table.{Table, pass, rule, given, fork}
 
 -- On an object whose names are compared: 8, over 32 members; 9, a name twice.
@@ -120,7 +121,12 @@ recipientsTable known protected shared (ms ∷ rs) o k rest =
     recipientTable known (record { protected = protected; shared = shared; own = o .0 .0 }) (k .0 .0)
     (recipientsTable known protected shared rs (o .1) (k .1) rest)
 
--- From the protected header's members on: 8 and 9 on each header, 12 to 18 for each recipient, 19.
+-- The own headers of the recipients.
+abbrev pub ownsOf : (rs : List (List Member)) → Every Own rs → List (List Member)
+ownsOf [] o = []
+ownsOf (ms ∷ rs) o = o .0 .0 ∷ ownsOf rs (o .1)
+
+-- From the protected header's members on: 8 and 9 on each header, 12 to 18 for each recipient, 21, 19.
 unfoldable pub headersTable : List (List ℕ) → List Member → (rs : List (List Member)) → Every Key rs → ℕ → List Member →
     Table
 headersTable known ps rs k recipient protected =
@@ -130,7 +136,8 @@ headersTable known ps rs k recipient protected =
     (given (Every Own rs) λ o.
     ownsTable rs o
     (recipientsTable known protected (s .0) rs o k
-    (rule 19 (recipient < length rs) λ asked. pass))))
+    (rule 21 (OneContent protected (s .0) (ownsOf rs o)) λ content.
+    rule 19 (recipient < length rs) λ asked. pass))))
 
 unfoldable pub jsonTable : List (List ℕ) → List ℕ → ℕ → Table
 jsonTable known message recipient =
