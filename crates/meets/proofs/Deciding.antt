@@ -142,6 +142,13 @@ module _ {A B : Type 0} (R : A → B → Type 0) (P : A → Type 0) where
         TrueWhere (any f ys) (Some P xs)
     some-where w z = Iff·symm (zip-any R P f (λ x y r. Iff·symm (w x y r)) xs ys z)
 
+pub every-left : {A B : Type 0} (R : A → B → Type 0) (P : A → Type 0) → ((x : A) (y : B) → R x y → P x) →
+    (xs : List A) (ys : List B) → OneForOne R xs ys → Every P xs
+every-left R P f [] [] z = tt
+every-left R P f [] (y ∷ ys) z = absurd z
+every-left R P f (x ∷ xs) [] z = absurd z
+every-left R P f (x ∷ xs) (y ∷ ys) z = (f x y (z .0), every-left R P f xs ys (z .1))
+
 pub every-right : {A B : Type 0} (R : A → B → Type 0) (Q : B → Type 0) → ((x : A) (y : B) → R x y → Q y) →
     (xs : List A) (ys : List B) → OneForOne R xs ys → Every Q ys
 every-right R Q f [] [] z = tt

@@ -5,7 +5,7 @@ use mathlib.Core.Logic.{inl, inr}
 use mathlib.Core.List.{List, [], _∷_}
 use Prim.Native.Nat.{ℕ}
 use lib.Dec.{eqb}
-use Rattle.grammar.specs.Grammar.{Str, Value}
+use Rattle.grammar.specs.Grammar.{Str, Value, string}
 use Rattle.grammar.specs.Places.{kind}
 use Rattle.grammar.specs.Places as places
 use Rattle.grammar.specs.Strings.{SayAlike, HasOctets}
@@ -79,17 +79,21 @@ module _ (names : List (List ℕ)) (ts : Texts) (p : Member) (e : Entry)
         (λ h. t .1 (inl h)),
       )
 
-  -- A string value is listed exactly where it is found among the names.
+  -- The entry's value spells the string that the member has ..
+  pub value-spells : (x : Str) → p .value ≡ string x → Spells (valueIn ts e) x
+  value-spells x i =
+      let s = textOf ts (e .origin) in
+      let at = e .member .valueStart in
+      let size = e .member .valueSize in
+      string-spells s x at size (subst (λ (v : Value). Stands s v at size) i (r .stands))
+
+  -- .. so it is listed exactly where it is found among the names.
   pub value-where : (ws : List (List ℕ)) → kind (p .value) ≡ 2 →
       FalseWhere (eqb (numberIn ws (valueIn ts e)) 0) (ValueAmong ws (p .value))
   value-where ws k =
       let (x, i) = kind-string (p .value) k in
-      let s = textOf ts (e .origin) in
-      let at = e .member .valueStart in
-      let size = e .member .valueSize in
-      let t = string-spells s x at size (subst (λ (v : Value). Stands s v at size) i (r .stands)) in
       subst (λ (v : Value). FalseWhere (eqb (numberIn ws (valueIn ts e)) 0) (ValueAmong ws v)) (sym i)
-      (number-where (valueIn ts e) x t ws)
+      (number-where (valueIn ts e) x (value-spells x i) ws)
 
 -- Strings that say the same
 

@@ -14,7 +14,7 @@ use Rattle.grammar.specs.Bounds.{Every}
 use Rattle.grammar.proofs.Theorems.{says-octets}
 use Rattle.names.specs.Names.{numberIn}
 use Rattle.names.proofs.Laws.{number-alike}
-use Rattle.rows.specs.Rows.{Entry, Texts, textOf, valueIn, numbered}
+use Rattle.rows.specs.Rows.{Entry, Texts, valueIn, numbered}
 use Rattle.algorithms.specs.declared.Alg.{Alg}
 use Rattle.algorithms.specs.declared.Alg.the-variants.{Rsa15, RsaOaep, RsaOaep256, A128Kw, A192Kw, A256Kw}
 use Rattle.algorithms.specs.declared.Alg.the-variants.{A128GcmKw, A192GcmKw, A256GcmKw, Pbes2A128Kw}
@@ -27,11 +27,11 @@ use Rattle.jose.specs.HeaderRules.{modeIn, keyless, wrongKey}
 use Rattle.meets.specs.Members.{Member, namesOf, Some, Among, Distinct, Absent}
 use Rattle.meets.specs.Rules.{EveryNamed, Present, ValueAmong, KeyFits}
 use Rattle.meets.proofs.OneForOne.{OneForOne}
-use Rattle.meets.proofs.Standing.{Stands, is-string}
-use Rattle.meets.proofs.Saying.{string-spells, refuted}
+use Rattle.meets.proofs.Standing.{is-string}
+use Rattle.meets.proofs.Saying.{refuted}
 use Rattle.meets.proofs.Deciding.{TrueWhere, FalseWhere, either, eqb-where, every-map}
 use Rattle.meets.proofs.Numbering.{octets-undone}
-use Rattle.meets.proofs.Entries.{Seen, numbered-where}
+use Rattle.meets.proofs.Entries.{Seen, numbered-where, value-spells}
 use Rattle.meets.proofs.Parameters.{alg-number}
 
 -- A mode and a key
@@ -98,7 +98,7 @@ same-octets x y w s t p q = ap points (sym (says-octets x s) ∙ p ∙ sym q ∙
 
 module _ (ts : Texts) where
   -- So a name stands once where no name stands twice.
-  once : (x : Str) (w : List ℕ) → T (sayable x) → HasOctets x w → (ps : List Member) (es : List Entry) →
+  pub once : (x : Str) (w : List ℕ) → T (sayable x) → HasOctets x w → (ps : List Member) (es : List Entry) →
       OneForOne (Seen registered ts) ps es → Every (λ y. SayAlike x y → ⊥) (namesOf ps) → Absent w ps
   once x w s p [] es z h = tt
   once x w s p (m ∷ ms) [] z h = absurd z
@@ -115,10 +115,7 @@ module _ (ts : Texts) where
       here e ≡ mode a
   mode-here p e r a h =
       let (x, i, among) = is-string (Among (algName a ∷ [])) (p .value) .0 h in
-      let s = textOf ts (e .origin) in
-      let at = e .member .valueStart in
-      let size = e .member .valueSize in
-      let t = string-spells s x at size (subst (λ (v : Value). Stands s v at size) i (r .stands)) in
+      let t = value-spells registered ts p e r x i in
       let has : HasOctets x (algName a) = elim among [ inl q ↦ q | inr n ↦ absurd n ] in
       let u : undo (valueIn ts e) ≡ undo (algName a) =
       octets-undone (valueIn ts e) x t (algName a) has ∙ sym (alg-mode a .0) in

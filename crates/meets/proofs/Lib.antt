@@ -18,6 +18,8 @@ pub mod Parameters
 pub mod CriticalNames
 pub mod KeyFits
 pub mod RulesDecided
+-- One content algorithm for all recipients.
+pub mod ContentDecided
 -- Tests in order.
 pub mod InOrder
 -- The compact form: its parts, their spelling, its header, and all of it.

@@ -159,7 +159,7 @@ alg-string : any (equal (ascii "alg")) stringNames ≡ true
 unfolding any equal ascii stringNames
 alg-string = refl
 
-enc-string : any (equal (ascii "enc")) stringNames ≡ true
+pub enc-string : any (equal (ascii "enc")) stringNames ≡ true
 unfolding any equal ascii stringNames
 enc-string = refl
 
