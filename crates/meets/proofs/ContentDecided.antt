@@ -2,12 +2,11 @@
 -- refuse, each has one `enc`, a string, which one of its entries spells. Saying the same is an equality, so that every two say the
 -- same exactly where each says the same as the first.
 use mathlib.Core.Path.{_≡_, refl, ap, sym, subst₂, _∙_}
-use mathlib.Core.Bool.{Bool, true, false, not, cond}
+use mathlib.Core.Bool.{Bool, true, false, cond}
 use mathlib.Core.Option.{Option, none, some}
 use mathlib.Core.Logic.{_↔_, inl, inr, Iff·symm, Iff·trans}
 use mathlib.Core.List.{List, [], _∷_, _++_, map}
 use Prim.Native.Nat.{ℕ}
-use lib.Dec.{eqb}
 use borrow.Author.Tests.{eq-eqb}
 use Rattle.prelude.specs.Ascii.{ascii}
 use Rattle.prelude.specs.Any.{any}

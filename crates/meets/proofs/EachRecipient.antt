@@ -1,9 +1,9 @@
 -- Refusals 5, 8, 9 and 12 to 18 on each recipient: they decide that its key is spelled, its own header an object whose
--- names are compared, and the rules kept by its headers and its key.
+-- names are compared, and the rules kept by its headers and its key. And 21 on all of them, which have then one `enc` each.
 use mathlib.Core.Path.{_≡_, sym, subst}
 use mathlib.Core.Bool.{true, false}
 use mathlib.Core.Logic.{_↔_}
-use mathlib.Core.List.{List, [], _∷_}
+use mathlib.Core.List.{List, [], _∷_, map}
 use Prim.Native.Nat.{ℕ}
 use lib.Dec.{eqb}
 use Rattle.prelude.specs.Ascii.{ascii}
@@ -12,13 +12,14 @@ use Rattle.rows.specs.Rows.{Entry, readTexts, present, valueOf}
 use Rattle.prelude.specs.Refusals.{first}
 use Rattle.jose.specs.Registered.{registered}
 use Rattle.jose.specs.HeaderRules.{recipientOrder}
+use Rattle.jose.specs.ContentAlgorithm.{differing}
 use Rattle.headers.specs.Components.{misspelled, sizesOf}
 use Rattle.headers.specs.Headers.{outermost, protectedEntries, headerEntries, objectOrder}
 use Rattle.headers.specs.Headers as headers
 use Rattle.shape.specs.Shape.{inner, Recipient, recipientOf}
 use Rattle.base64url.specs.Base64url.{decodedLength}
 use Rattle.shape.specs.Recipients.{topOf, componentsIn}
-use Rattle.jwe.specs.General.{sharedEntries, ownEntries, parameters}
+use Rattle.jwe.specs.General.{sharedEntries, ownEntries, parameters, contentOf}
 use Rattle.meets.specs.Members.{Member, namesOf, Distinct}
 use Rattle.meets.specs.Rules.{Headers, EveryNamed, Rules}
 use Rattle.meets.specs.Meets.{Octets, Object, Plain, Component, HeaderIn}
@@ -28,7 +29,8 @@ use Rattle.meets.proofs.Standing.{MemberStands}
 use Rattle.meets.proofs.Deciding.{every-map}
 use Rattle.meets.proofs.Entries.{EntryStands}
 use Rattle.meets.proofs.NamesApart.{object-decided}
-use Rattle.meets.proofs.RulesDecided.{rules-decided}
+use Rattle.meets.proofs.RulesDecided.{parameters-distinct, rules-decided}
+use Rattle.meets.proofs.ContentDecided.{ContentStands, content-decided}
 use Rattle.meets.proofs.MemberEntries.{Holds, entries-of, header-number, key-number}
 use Rattle.meets.proofs.Shapes.{Field, Whole}
 use Rattle.meets.proofs.Lookups.{Lookup, lookup, header-found, header-stands}
@@ -59,6 +61,23 @@ module _ (header message : List ℕ) where
     pub own-entries : OneForOne (EntryStands registered (readTexts header message) 2) hs (ownEntries message r)
     unfolding ownEntries headerEntries
     own-entries = entries-of registered (readTexts header message) 2 hs (headers.membersOf message (r .header)) z
+
+  -- 21, where each recipient has a content algorithm
+
+  abbrev pub ContentIn : List Member → List Member → List Member → Recipient → Type 0
+  ContentIn protected shared own r = ContentStands (readTexts header message) protected shared own (ownEntries message r)
+
+  module _ (es : List Entry) (protected shared : List Member)
+      (zp : OneForOne (MemberStands header) protected (outermost header))
+      (zs : OneForOne (MemberStands message) shared (headers.membersOf message (valueOf 2 es .start))) where
+    pub contents-decided : (owns : List (List Member)) (rs : List Recipient) →
+        OneForOne (ContentIn protected shared) owns rs →
+        (differing 0 (map (contentOf header message (topOf es)) rs) ≡ false) ↔ meets.OneContent protected shared owns
+    unfolding parameters
+    contents-decided =
+        content-decided (readTexts header message) protected shared (protectedEntries header)
+        (sharedEntries message (topOf es)) (protected-entries protected zp) (shared-entries es shared zs)
+        (ownEntries message)
 
 module _ (known : List (List ℕ)) (header message : List ℕ) (protected shared : List Member) (es : List Entry)
     (zp : OneForOne (MemberStands header) protected (outermost header))
@@ -189,3 +208,39 @@ module _ (known : List (List ℕ)) (header message : List ℕ) (protected shared
   recipients-decided rs us z =
       let all = every-together (Holder message) Keeps Formed Spelled OwnPasses RulesPass recipient-decided rs us z in
       ((λ h. rules-apart rs (all .0 h)), (λ h. all .1 (rules-beside rs (h .0) (h .1))))
+
+  -- 21 on all that keep them.
+
+  abbrev contentIn : List Member → Recipient → Type 0
+  contentIn = ContentIn header message protected shared
+
+  content-in : (ms : List Member) (u : Recipient) → Holder message ms u → (x : meets.Recipient ms) →
+      meets.Ruled known protected shared x → contentIn (x .own) u
+  content-in ms u h x rules =
+      let z = own-stands ms (h .entries) (h .holds) (x .object, x .shape) (x .own) (x .header) in
+      subst (contentIn (x .own)) (sym (h .made)) (
+        own-entries header message (recipientOf (h .entries)) (x .own) z,
+        record {
+          distinct =
+              parameters-distinct (record { protected = protected; shared = shared; own = x .own })
+              (record { protected = dp; shared = ds; own = x .ownObject .distinct }) (rules .apart);
+          enc = rules .enc;
+          strings = rules .strings;
+        },
+      )
+
+  contents-in : (rs : List (List Member)) (us : List Recipient) → OneForOne (Holder message) rs us →
+      (each : Every meets.Recipient rs) → meets.EachRuled known protected shared rs each →
+      OneForOne contentIn (meets.owns rs each) us
+  contents-in [] [] z each rules = tt
+  contents-in [] (u ∷ us) z each rules = absurd z
+  contents-in (ms ∷ rs) [] z each rules = absurd z
+  contents-in (ms ∷ rs) (u ∷ us) z each rules =
+      (content-in ms u (z .0) (each .0) (rules .0), contents-in rs us (z .1) (each .1) (rules .1))
+
+  pub one-content-decided : (rs : List (List Member)) (us : List Recipient) → OneForOne (Holder message) rs us →
+      (each : Every meets.Recipient rs) → meets.EachRuled known protected shared rs each →
+      (differing 0 (map (contentOf header message (topOf es)) us) ≡ false)
+      ↔ meets.OneContent protected shared (meets.owns rs each)
+  one-content-decided rs us z each rules =
+      contents-decided header message es protected shared zp zs (meets.owns rs each) us (contents-in rs us z each rules)

@@ -37,6 +37,7 @@ use Rattle.meets.proofs.RecipientsDecided.{Holder, recipients-found, re
 use Rattle.meets.proofs.RecipientsDecided.{elements-order-decided}
 use Rattle.meets.proofs.ProtectedDecided.{protected-stands, protected-decided}
 use Rattle.meets.proofs.EachRecipient.{plain-of, protected-entries, shared-entries, recipients-decided}
+use Rattle.meets.proofs.EachRecipient.{one-content-decided}
 use Rattle.meets.proofs.JsonTests.{Passed, top-passes, components-pass, headers-pass, recipients-pass}
 use Rattle.meets.proofs.JsonTests.{json-passes}
 
@@ -163,6 +164,8 @@ module _ (known : List (List ℕ)) (message : List ℕ) (recipient : ℕ) where
         several .1 .1,
         (texts .1 .1 .1 .1 .1, (heads .1 .1, recipients-pass H message es us known .0 (t .rules))),
       ) in
+      let content = one-content-decided known H message hs ss es zp zs (protected-one .distinct) (shared-one .distinct) rs
+      us zr (each .0) (each .1) .0 (t .content) in
       let many = zip-length (Holder message) rs us zr in
       let last = leb-false (length us) recipient (t .asked) in
       let j : Json known message = record {
@@ -191,6 +194,7 @@ module _ (known : List (List ℕ)) (message : List ℕ) (recipient : ℕ) where
         few = several .1 .0;
         each = each .0;
         rules = each .1;
+        content = content;
       } in
       (j, omega arith)
 
@@ -256,6 +260,9 @@ module _ (known : List (List ℕ)) (message : List ℕ) (recipient : ℕ) where
           (shared-object message (j .shared) zs .1 (j .sharedObject), each .1 .1 .0),
         );
         rules = recipients-pass H message es us known .1 (each .1 .1 .1);
+        content =
+            one-content-decided known H message (j .protected) (j .shared) es zp zs (j .protectedObject .distinct)
+            (j .sharedObject .distinct) (j .recipients) us zr (j .each) (j .rules) .1 (j .content);
         asked = lt-leb (length us) recipient (omega arith);
       }
 

@@ -18,7 +18,7 @@ use Rattle.headers.specs.Headers.{headerText, tooLong, unread, textOrder, outer
 use Rattle.shape.specs.Shape.{protected, recipients, component, wrongTop, wrongElements, Recipient}
 use Rattle.shape.specs.Recipients.{topOf, topEntries, topOrder, elementsIn, elementOrder, elementsOrder, recipientsIn}
 use Rattle.jwe.specs.General.{anyMisspelled, sharedEntries, ownEntries, isHollow, protectedOrder, headersOrder}
-use Rattle.jwe.specs.General.{recipientsOrder, jsonLater, jsonOrder}
+use Rattle.jwe.specs.General.{recipientsOrder, contentOrder, jsonLater, jsonOrder}
 use Rattle.jwe.proofs.JsonOrder.{json-is}
 use Rattle.meets.proofs.Deciding.{any-append, every-map, first-none}
 use Rattle.meets.proofs.InOrder.{unnumbered, first-append}
@@ -152,7 +152,7 @@ headers-passed header message es rs e =
 module _ (known : List (List ℕ)) (message : List ℕ) (recipient : ℕ)
     (accepted : first (jsonOrder message known recipient) ≡ 0) where
   pub json-passed : (unread message ≡ false) × Passed message recipient (topEntries message)
-  unfolding jsonLater topOrder objectOrder any
+  unfolding jsonLater topOrder objectOrder contentOrder any
   json-passed =
       let es = topEntries message in
       let rs = recipientsIn message es in
@@ -163,11 +163,12 @@ module _ (known : List (List ℕ)) (message : List ℕ) (recipient : ℕ)
       let d = first-append (protectedOrder (topOf es) header) _ (protected-numbered es header) .0 (c .1) in
       let f = first-append (headersOrder header message (topOf es) rs) _ (headers-numbered header message es rs) .0 (d .1) in
       let g =
-      first-append (recipientsOrder known header message (topOf es) rs) (19 if leb (length rs) recipient ∷ [])
-      (recipients-numbered known header message es rs) .0 (f .1) in
+      first-append (recipientsOrder known header message (topOf es) rs) _ (recipients-numbered known header message es rs) .0
+      (f .1) in
+      let k = first-append (contentOrder header message (topOf es) rs) (19 if leb (length rs) recipient ∷ []) refl .0 (g .1) in
       let top = first-none (topOrder message) refl .0 (a .0) in
       let five = first-none (5 if anyMisspelled message es ∷ []) refl .0 (c .0) in
-      let last = first-none (19 if leb (length rs) recipient ∷ []) refl .0 (g .1) in (
+      let last = first-none (19 if leb (length rs) recipient ∷ []) refl .0 (k .1) in (
         top .0,
         record {
           repeats = top .1 .1 .0;

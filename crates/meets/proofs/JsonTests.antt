@@ -3,7 +3,7 @@
 use mathlib.Core.Path.{_≡_, refl, sym, subst}
 use mathlib.Core.Bool.{false}
 use mathlib.Core.Logic.{_↔_}
-use mathlib.Core.List.{List, [], _∷_, _++_, flatMap}
+use mathlib.Core.List.{List, [], _∷_, _++_, map, flatMap}
 use Prim.Native.Nat.{ℕ}
 use lib.ListN.{length}
 use lib.Dec.{eqb, leb}
@@ -12,12 +12,13 @@ use Rattle.prelude.specs.Any.{any}
 use Rattle.rows.specs.Rows.{Entry, readTexts}
 use Rattle.prelude.specs.Refusals.{Test, _if_, first}
 use Rattle.jose.specs.HeaderRules.{recipientOrder}
+use Rattle.jose.specs.ContentAlgorithm.{differing}
 use Rattle.headers.specs.Components.{misspelled, sizesOf}
 use Rattle.headers.specs.Headers.{unread, headerText, protectedEntries, objectOrder}
 use Rattle.shape.specs.Shape.{component, wrongTop, Recipient}
 use Rattle.shape.specs.Recipients.{topOf, topEntries, topOrder, elementsOrder, recipientsIn, componentsIn}
 use Rattle.jwe.specs.General.{sharedEntries, ownEntries, parameters, allPlaces, anyMisspelled, protectedOrder}
-use Rattle.jwe.specs.General.{headersOrder, recipientsOrder, jsonLater, jsonOrder}
+use Rattle.jwe.specs.General.{headersOrder, recipientsOrder, contentOf, contentOrder, jsonLater, jsonOrder}
 use Rattle.jwe.proofs.JsonOrder.{json-is}
 use Rattle.meets.proofs.Deciding.{any-every}
 use Rattle.meets.proofs.Orders.{Numbered, numbered-append, numbered-flat, none-append, none-one, none-flat}
@@ -167,12 +168,20 @@ module _ (known : List (List ℕ)) (message : List ℕ) (recipient : ℕ) where
         (recipientsOrder known (headerText message (component 1 (topEntries message))) message (topOf (topEntries message))
         (recipientsIn message (topEntries message)))
         ≡ 0
+    pub content :
+        differing 0
+        (map (contentOf (headerText message (component 1 (topEntries message))) message (topOf (topEntries message)))
+        (recipientsIn message (topEntries message)))
+        ≡ false
     pub asked : leb (length (recipientsIn message (topEntries message))) recipient ≡ false
 
   -- What is left after each stage.
 
+  abbrev after-content : List Test
+  after-content = 19 if leb (length rs) recipient ∷ []
+
   abbrev after-rules : List Test
-  after-rules = 19 if leb (length rs) recipient ∷ []
+  after-rules = contentOrder header message (topOf es) rs ++ after-content
 
   abbrev after-headers : List Test
   after-headers = recipientsOrder known header message (topOf es) rs ++ after-rules
@@ -186,11 +195,14 @@ module _ (known : List (List ℕ)) (message : List ℕ) (recipient : ℕ) where
   abbrev after-elements : List Test
   after-elements = 5 if anyMisspelled message es ∷ after-spelled
 
+  rules-left : Numbered after-rules
+  unfolding any contentOrder
+  rules-left = refl
+
   headers-left : Numbered after-headers
-  unfolding any
   headers-left =
       numbered-append (recipientsOrder known header message (topOf es) rs) after-rules
-      (recipients-numbered header message es rs known) refl
+      (recipients-numbered header message es rs known) rules-left
 
   protected-left : Numbered after-protected
   protected-left =
@@ -210,7 +222,7 @@ module _ (known : List (List ℕ)) (message : List ℕ) (recipient : ℕ) where
   order-is = json-is message known recipient
 
   stages-pass : (first (topOrder message ++ (elementsOrder message es ++ after-elements)) ≡ 0) ↔ Passed
-  unfolding any
+  unfolding any contentOrder
   stages-pass =
       let a = none-append (topOrder message) (elementsOrder message es ++ after-elements) (top-numbered message)
       (numbered-append (elementsOrder message es) after-elements (elements-numbered message es) elements-left) in
@@ -220,8 +232,10 @@ module _ (known : List (List ℕ)) (message : List ℕ) (recipient : ℕ) where
       let e = none-append (headersOrder header message (topOf es) rs) after-headers (headers-numbered header message es rs)
       headers-left in
       let f = none-append (recipientsOrder known header message (topOf es) rs) after-rules
-      (recipients-numbered header message es rs known) refl in
+      (recipients-numbered header message es rs known) rules-left in
+      let g = none-append (contentOrder header message (topOf es) rs) after-content refl refl in
       let five = none-one 5 (anyMisspelled message es) refl in
+      let same = none-one 21 (differing 0 (map (contentOf header message (topOf es)) rs)) refl in
       let last = none-one 19 (leb (length rs) recipient) refl in (
         (λ t.
             let u = a .0 t in
@@ -230,6 +244,7 @@ module _ (known : List (List ℕ)) (message : List ℕ) (recipient : ℕ) where
             let x = d .0 (w .1) in
             let y = e .0 (x .1) in
             let z = f .0 (y .1) in
+            let k = g .0 (z .1) in
             record {
               top = u .0;
               elements = v .0;
@@ -237,7 +252,8 @@ module _ (known : List (List ℕ)) (message : List ℕ) (recipient : ℕ) where
               protected = x .0;
               headers = y .0;
               rules = z .0;
-              asked = last .0 (z .1);
+              content = same .0 (k .0);
+              asked = last .0 (k .1);
             }),
         (λ p.
             a .1 (
@@ -246,7 +262,10 @@ module _ (known : List (List ℕ)) (message : List ℕ) (recipient : ℕ) where
                 p .elements,
                 c .1 (
                   five .1 (p .spelled),
-                  d .1 (p .protected, e .1 (p .headers, f .1 (p .rules, last .1 (p .asked)))),
+                  d .1 (
+                    p .protected,
+                    e .1 (p .headers, f .1 (p .rules, g .1 (same .1 (p .content), last .1 (p .asked)))),
+                  ),
                 ),
               ),
             )),

@@ -158,7 +158,7 @@ module _ (known : List (List ℕ)) (message : List ℕ) (recipient : ℕ) (key :
       (first (recipientOrder known (readTexts header message) xs sizes ++ lastOrder)))
       (append-nil es)
       (recipient-refuses known (readTexts header message) (alone ms) es [] [] key sizes (protected-stands header message p) tt tt
-      (record { protected = once; shared = tt; own = tt }) keyed lastTable lastOrder asked-refuses)
+      (record { protected = once; shared = tt; own = tt }) keyed lastTable lastOrder λ has. asked-refuses)
 
 pub compact-refuses : (known : List (List ℕ)) (message : List ℕ) (recipient : ℕ) →
     Refuses (compactTable known message recipient) (first (compactOrder message known recipient))

@@ -17,7 +17,8 @@ use Rattle.prelude.specs.Refusals.{Test, _if_, first}
 use Rattle.headers.specs.Headers.{textOrder, headerText, outermost, objectOrder}
 use Rattle.shape.specs.Shape.{memberNames, component, Recipient}
 use Rattle.shape.specs.Recipients.{topEntries, topOrder, recipientsIn, topOf, elementsOrder}
-use Rattle.jwe.specs.General.{anyMisspelled, protectedOrder, headersOrder, recipientsOrder, jsonOrder, isHollow, jsonLater}
+use Rattle.jwe.specs.General.{anyMisspelled, isHollow, protectedOrder, headersOrder, recipientsOrder, contentOrder}
+use Rattle.jwe.specs.General.{jsonLater, jsonOrder}
 use Rattle.meets.specs.Members.{Member, membersOf}
 use Rattle.meets.specs.Rules.{Present}
 use Rattle.meets.specs.Meets.{Object, TopShape, Component}
@@ -80,7 +81,8 @@ module _ (known : List (List ℕ)) (message : List ℕ) (recipient : ℕ) (readi
     abbrev left : List ℕ → List Test
     left header =
         headersOrder header message (topOf es) us
-        ++ (recipientsOrder known header message (topOf es) us ++ (19 if leb (length us) recipient ∷ []))
+        ++ (recipientsOrder known header message (topOf es) us
+        ++ (contentOrder header message (topOf es) us ++ (19 if leb (length us) recipient ∷ [])))
 
     module _ (header : List ℕ) (c : Component (ascii "protected") ps header) where
       rest-refuses : (hs : List Member) → OneForOne (MemberStands header) hs (outermost header) →
@@ -132,7 +134,8 @@ module _ (known : List (List ℕ)) (message : List ℕ) (recipient : ℕ) (readi
   tests header =
       protectedOrder (topOf es) header
       ++ (headersOrder header message (topOf es) us
-      ++ (recipientsOrder known header message (topOf es) us ++ (19 if leb (length us) recipient ∷ [])))
+      ++ (recipientsOrder known header message (topOf es) us
+      ++ (contentOrder header message (topOf es) us ++ (19 if leb (length us) recipient ∷ []))))
 
   pub spelled-refuses : (rs : List (List Member)) → OneForOne (Kept message) rs us →
       Refuses (spelledTable known message recipient reading rs)

@@ -10,6 +10,7 @@ pub mod HeadersRefuse
 pub mod JsonRefuses
 -- The whole order.
 pub mod Refused
+pub mod GeneralAlone
 -- No exchange of numbers meets it.
 pub mod Renumbered
 -- The header walk, decoding, the AAD and the compact writer.

@@ -24,6 +24,7 @@ use Rattle.meets.proofs.Parameters.{required-decided, kinds-decided, listed-dec
 use Rattle.meets.proofs.CriticalNames.{critical-decided}
 use Rattle.meets.proofs.KeyFits.{key-decided}
 use Rattle.meets.proofs.RulesDecided.{NamesOnce, all-seen, parameters-distinct}
+use Rattle.meets.proofs.ContentDecided.{HasContent}
 use Rattle.refusals.specs.Table.{Table, Refuses}
 use Rattle.refusals.specs.Numbers.{objectTable, textTable, recipientTable}
 use Rattle.refusals.proofs.Steps.{step}
@@ -49,13 +50,13 @@ text-refuses header t ts f =
     step 7 _ _ _ (unread-decides header) λ r.
     f short r
 
--- 12 to 18
+-- 12 to 18; what passes them has a content algorithm
 module _ (known : List (List ℕ)) (ts : Texts) (h : Headers) (ps ss os : List Entry) (key : List ℕ)
     (sizes : Sizes) (zp : OneForOne (EntryStands registered ts 0) (h .protected) ps)
     (zs : OneForOne (EntryStands registered ts 1) (h .shared) ss)
     (zo : OneForOne (EntryStands registered ts 2) (h .own) os) (once : NamesOnce h)
     (keyed : (eqb (sizes .key) 0 ≡ true) ↔ (key ≡ [])) where
-  pub recipient-refuses : (t : Table) (later : List Test) → Refuses t (first later) →
+  pub recipient-refuses : (t : Table) (later : List Test) → (HasContent h → Refuses t (first later)) →
       Refuses (recipientTable known h key t) (first (recipientOrder known ts (ps ++ (ss ++ os)) sizes ++ later))
   unfolding recipientTable recipientOrder
   recipient-refuses t later f =
@@ -63,11 +64,11 @@ module _ (known : List (List ℕ)) (ts : Texts) (h : Headers) (ps ss os : List E
       let es = ps ++ (ss ++ os) in
       let seen = all-seen ts h ps ss os zp zs zo in
       step 12 _ _ _ (names-apart-decided registered ts h ps ss os zp zs zo) λ apart.
+      let distinct = parameters-distinct h once apart in
       step 13 _ _ _ (required-decided ts ms es seen) λ there.
       step 14 _ _ _ (kinds-decided ts ms es seen) λ kinds.
       step 15 _ _ _ (listed-decided ts ms es seen (kinds .0)) λ listed.
       step 16 _ _ _ (protected-decided ts h ps ss os zp zs zo) λ inside.
       step 17 _ _ _ (critical-decided known ts ms es seen (kinds .2)) λ critical.
-      step 18 _ _ _
-      (key-decided ts ms es key sizes seen (parameters-distinct h once apart) (there .0) (listed .0) keyed)
-      λ fits. f
+      step 18 _ _ _ (key-decided ts ms es key sizes seen distinct (there .0) (listed .0) keyed) λ fits.
+      f (record { distinct = distinct; enc = there .1; strings = kinds .0 })
