@@ -20,34 +20,13 @@ use Rattle.jwe.specs.Judge.{Call, refusal}
 use Rattle.aad.specs.Aad.{aadText, aadOrder, aadRefusal, aadBuffer}
 use Rattle.jwe_write.specs.Write.{Raw, compactText, writeOrder, writeRefusal}
 use Rattle.jwe_write.specs.Answers.{writeBuffer}
-use Rattle.meets.proofs.Refused.{refusal-numbered}
+use Rattle.jwe.proofs.SmallRefusals.{refusal-given}
 use Rattle.gateway.specs.Numbers.{readNumbers, decodeNumbers, aadNumbers, writeNumbers}
 
 -- Reading
 
-among : ℕ → List ℕ → Bool
-among n [] = false
-among n (m ∷ ms) = eqb n m || among n ms
-
-one-of : (n : ℕ) (ns : List ℕ) → T (among n ns) → OneOf n ns
-unfolding among
-one-of n [] t = absurd t
-one-of n (m ∷ ms) t = cases (eqb n m) refl (one-of n ms) t
-  where
-    cases : (b : Bool) → eqb n m ≡ b → (T (among n ms) → OneOf n ms) → T (b || among n ms) → OneOf n (m ∷ ms)
-    cases true e rest t = inl (eqb-true n m e)
-    cases false e rest t = inr (rest t)
-
--- A number from 1 to 19 is one of the table, by a test over all.
-numbered : (n : ℕ) → (n ≡ 0 → ⊥) → n ≤ 19 → OneOf n readNumbers
-unfolding among
-numbered n some low =
-    one-of n readNumbers
-    (subst (λ (b : Bool). T (b || among n readNumbers)) (ne-eqb n 0 some)
-    (below (λ (k : ℕ). eqb k 0 || among k readNumbers) 20 tt n (omega arith)))
-
 pub read-listed : (c : Call) → (refusal c ≡ 0 → ⊥) → OneOf (refusal c) readNumbers
-read-listed c n = numbered (refusal c) n (refusal-numbered c n .1)
+read-listed = refusal-given
 
 -- Decoding, AAD and writing: the numbers of their orders
 

@@ -16,6 +16,7 @@ use Rattle.prelude.specs.Any.{any}
 use Rattle.rows.specs.Rows.{Entry, Texts, textOf, spelledValue, valueIn, numbered, present, having}
 use Rattle.rows.specs.Tables.{firstOf, entriesOf, width}
 use Rattle.rows.proofs.Asking.{having-found, having-done}
+use Rattle.rows.proofs.Printing.{StandIn}
 use Rattle.jose.specs.Registered.{enc, string}
 use Rattle.jose.specs.ContentAlgorithm.{soleString, contentAlgorithm, differ, differing}
 use Rattle.jose.specs.declared.content.Named.{Named}
@@ -151,20 +152,19 @@ content-own ts front own h =
     ap (soleString ts)
     (having-append enc front own ∙ ap (λ (l : List Entry). l ++ having enc own) (having-none enc front h))
 
--- It stands in the recipient's own text.
-pub content-shown : (ts : Texts) (es : List Entry) → Every (λ e. e .origin ≡ 2) es →
-    contentAlgorithm ts es ≡ shownIn (ts .own) (namedIn es)
+-- Where all entries stand in one text, it is what that text shows there.
+pub content-shown : (ts : Texts) (s : List ℕ) (es : List Entry) → StandIn ts s es →
+    contentAlgorithm ts es ≡ shownIn s (namedIn es)
 unfolding contentAlgorithm namedIn
-content-shown ts es h = cases (having enc es) (having-every (λ e. e .origin ≡ 2) enc es h)
+content-shown ts s es h = cases (having enc es) (having-every (λ e. textOf ts (e .origin) ≡ s) enc es h)
   where
-    one : (b : Bool) (e : Entry) → e .origin ≡ 2 →
+    one : (b : Bool) (e : Entry) → textOf ts (e .origin) ≡ s →
         cond {A = Option (List ℕ)} b (some (valueIn ts e)) none
-        ≡ shownIn (ts .own)
-        (cond b (At (record { start = e .member .valueStart + 1; len = e .member .valueSize - 2 })) Nothing)
-    one true e o = ap (λ (n : ℕ). some (spelledValue (textOf ts n) (e .member))) o
+        ≡ shownIn s (cond b (At (record { start = e .member .valueStart + 1; len = e .member .valueSize - 2 })) Nothing)
+    one true e o = ap (λ (w : List ℕ). some (spelledValue w (e .member))) o
     one false e o = refl
 
-    cases : (fs : List Entry) → Every (λ e. e .origin ≡ 2) fs → soleString ts fs ≡ shownIn (ts .own) (placeOf fs)
+    cases : (fs : List Entry) → StandIn ts s fs → soleString ts fs ≡ shownIn s (placeOf fs)
     cases [] z = refl
     cases (e ∷ []) z = one (eqb (e .member .kind) string) e (z .0)
     cases (e ∷ (f ∷ fs)) z = refl

@@ -18,11 +18,11 @@ use Rattle.prelude.specs.declared.Stage.the-variants.{Refused}
 use Rattle.shape.specs.Shape.{Recipient}
 use Rattle.jwe.specs.Judge.{Outcome, place, accepted, refused}
 use Rattle.jwe.specs.Answers.{numbers, refusedBy, Judges}
-use Rattle.jwe.specs.Inner.Stages.{ownTests, ruleTests, allTests, headedOrder, Heads}
+use Rattle.jwe.specs.Inner.Stages.{ownTests, ruleTests, ruledTests, allTests, headedOrder, Heads}
 use Rattle.headers.specs.declared.Components.{Components}
 use Rattle.jwe.specs.declared.Result.{Result}
 use Rattle.jwe.proofs.Answering.{answered-refused, refuses}
-use Rattle.jwe.proofs.JsonOrder.{stop, skip, own-nonzero, rule-nonzero}
+use Rattle.jwe.proofs.JsonOrder.{stop, skip, own-nonzero, rule-nonzero, content-nonzero}
 
 module _ (known : List (List ℕ)) (header message : List ℕ) (front : List Entry) (q : headers.Components)
     (rs : List Recipient) (recipient : ℕ) where
@@ -36,9 +36,11 @@ module _ (known : List (List ℕ)) (header message : List ℕ) (front : List Ent
   all = allTests known header message front q rs
 
   all-nonzero : nonzero all ≡ true
-  unfolding allTests
+  unfolding allTests ruledTests
   all-nonzero =
-      nonzero-append (ownTests message rs) _ (own-nonzero message rs) (rule-nonzero known header message front q rs)
+      nonzero-append (ownTests message rs) _ (own-nonzero message rs)
+      (nonzero-append (ruleTests known header message front q rs) _ (rule-nonzero known header message front q rs)
+      (content-nonzero header message front rs))
 
   -- A recipient refused, or all of them passed.
   pub heads-all : {n : ℕ} → first all ≡ n → 0 < n → first order ≡ n
@@ -63,7 +65,7 @@ module _ (known : List (List ℕ)) (header message : List ℕ) (front : List Ent
   unfolding allTests
   own-refuses e h = stop (ownTests message rs) _ (own-nonzero message rs) e h
 
-  pub own-passes : first (ownTests message rs) ≡ 0 → first all ≡ first (ruleTests known header message front q rs)
+  pub own-passes : first (ownTests message rs) ≡ 0 → first all ≡ first (ruledTests known header message front q rs)
   unfolding allTests
   own-passes e = skip (ownTests message rs) _ (own-nonzero message rs) e
 

@@ -3,7 +3,8 @@
 -- comes behind it decides. No test has the number 0, so that stages can be put one behind the other.
 use mathlib.Core.Path.{_≡_, refl, ap, ap₂, sym, _∙_}
 use mathlib.Core.Bool.{Bool, true, false, cond}
-use mathlib.Core.List.{List, [], _∷_, _++_, flatMap, append-assoc}
+use mathlib.Core.List.{List, [], _∷_, _++_, map, flatMap, append-assoc}
+use mathlib.Core.Option.{Option}
 use Prim.Native.Nat.{ℕ, _<_}
 use native.Mathlib.Omega.{arith}
 use lib.ListN.{length}
@@ -12,6 +13,7 @@ use Rattle.grammar.specs.Places.{Element}
 use Rattle.rows.specs.Rows.{Entry, readTexts, present}
 use Rattle.prelude.specs.Refusals.{Test, _if_, first}
 use Rattle.jose.specs.HeaderRules.{recipientOrder}
+use Rattle.jose.specs.ContentAlgorithm.{contentAlgorithm, differing}
 use Rattle.prelude.proofs.Refusals.{nonzero, nonzero-append, first-fails, first-passes, first-skip, first-stop}
 use Rattle.prelude.specs.Limits.{mostRecipients}
 use Rattle.headers.specs.Components.{Components, withKey, sizesOf}
@@ -20,11 +22,12 @@ use Rattle.shape.specs.Shape.{recipients, wrongElements, Recipient}
 use Rattle.shape.specs.Recipients.{topEntries, topOrder, elementsIn, elementOrder, elementsOrder, recipientsIn}
 use Rattle.shape.specs.Recipients.{Top, topOf, componentsIn}
 use Rattle.jwe.specs.General.{sharedEntries, ownEntries, parameters, anyMisspelled, isHollow}
-use Rattle.jwe.specs.General.{protectedOrder, headersOrder, recipientsOrder, jsonSpelled, jsonLater, jsonOrder}
+use Rattle.jwe.specs.General.{protectedOrder, headersOrder, recipientsOrder, contentOf, contentOrder}
+use Rattle.jwe.specs.General.{jsonSpelled, jsonLater, jsonOrder}
 use Rattle.jwe.specs.Judge.{Outcome, asked}
 use Rattle.jwe.specs.Inner.Outcomes.{outcomeOf, jsonOutcome}
-use Rattle.jwe.specs.Inner.Stages.{textTests, protectedTests, ownTests, ruleTests, allTests, headedOrder}
-use Rattle.jwe.specs.Inner.Stages.{headedOutcome}
+use Rattle.jwe.specs.Inner.Stages.{textTests, protectedTests, ownTests, ruleTests, contentTests, ruledTests}
+use Rattle.jwe.specs.Inner.Stages.{allTests, headedOrder, headedOutcome}
 use Rattle.jwe.proofs.CompactOrder.{rules-nonzero}
 
 -- A stage, and what comes behind it
@@ -91,6 +94,11 @@ unfolding ownTests
 own-nonzero message rs =
     nonzero-each (λ (r : Recipient). objectOrder message (ownEntries message r))
     (λ (r : Recipient). object-nonzero message (ownEntries message r)) rs
+
+pub content-nonzero : (header message : List ℕ) (front : List Entry) (rs : List Recipient) →
+    nonzero (contentTests header message front rs) ≡ true
+unfolding contentTests
+content-nonzero header message front rs = refl
 
 pub rule-nonzero : (known : List (List ℕ)) (header message : List ℕ) (front : List Entry) (q : Components)
     (rs : List Recipient) → nonzero (ruleTests known header message front q rs) ≡ true
@@ -168,26 +176,42 @@ module _ (known : List (List ℕ)) (message : List ℕ) (t : Top) where
       (parameters-is r))
       (rules-is rs)
 
+  contents-are : (rs : List Recipient) →
+      map (contentOf header message t) rs
+      ≡ map (λ r. contentAlgorithm (readTexts header message) (front ++ ownEntries message r)) rs
+  contents-are [] = refl
+  contents-are (r ∷ rs) =
+      ap₂ _∷_ (ap (contentAlgorithm (readTexts header message)) (parameters-is r)) (contents-are rs)
+
+  content-is : (rs : List Recipient) → contentOrder header message t rs ≡ contentTests header message front rs
+  unfolding contentOrder contentTests
+  content-is rs = ap (λ (l : List (Option (List ℕ))). 21 if differing 0 l ∷ []) (contents-are rs)
+
   module _ (rs : List Recipient) (recipient : ℕ) where
     pub shaped-is : jsonLater known message t rs recipient
         ≡ textTests (t .protected) header
         ++ (protectedTests (t .protected) header
         ++ (objectOrder message (sharedEntries message t) ++ headedOrder known header message front (t .components) rs recipient))
-    unfolding jsonLater protectedOrder headersOrder textTests protectedTests textOrder objectOrder headedOrder allTests ownTests
+    unfolding jsonLater protectedOrder headersOrder textTests protectedTests textOrder objectOrder headedOrder allTests ownTests ruledTests
     shaped-is = cases (t .protected)
       where
         asks : List Test
         asks = 19 if leb (length rs) recipient ∷ []
 
-        tail-is : ownTests message rs ++ (recipientsOrder known header message t rs ++ asks)
+        tail-is : ownTests message rs ++ (recipientsOrder known header message t rs ++ (contentOrder header message t rs ++ asks))
             ≡ headedOrder known header message front (t .components) rs recipient
         tail-is =
-            ap (λ (g : List Test). ownTests message rs ++ (g ++ asks)) (rules-is rs)
-            ∙ sym (append-assoc (ownTests message rs) (ruleTests known header message front (t .components) rs) asks)
+            let rules = ruleTests known header message front (t .components) rs in
+            let content = contentTests header message front rs in
+            ap₂ (λ (g k : List Test). ownTests message rs ++ (g ++ (k ++ asks))) (rules-is rs) (content-is rs)
+            ∙ ap (λ (l : List Test). ownTests message rs ++ l) (sym (append-assoc rules content asks))
+            ∙ sym (append-assoc (ownTests message rs) (rules ++ content) asks)
 
         cases : (b : Bool) →
             cond b (textOrder header ++ (10 if isHollow (outermost header) ∷ [])) []
-            ++ (headersOrder header message t rs ++ (recipientsOrder known header message t rs ++ (19 if leb (length rs) recipient ∷ [])))
+            ++ (headersOrder header message t rs
+            ++ (recipientsOrder known header message t rs
+            ++ (contentOrder header message t rs ++ (19 if leb (length rs) recipient ∷ []))))
             ≡ textTests b header
             ++ (protectedTests b header
             ++ (objectOrder message (sharedEntries message t) ++ headedOrder known header message front (t .components) rs recipient))

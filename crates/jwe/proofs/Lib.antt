@@ -4,6 +4,8 @@ pub mod JsonOrder
 pub mod RecipientRows
 -- Own headers collected one beside the other.
 pub mod OwnHeaders
+-- Their content algorithms.
+pub mod Contents
 -- The headers of a JSON message.
 pub mod JsonHeaders
 -- The places of components.

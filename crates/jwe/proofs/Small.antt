@@ -1,4 +1,4 @@
--- Every number of the result is below 2 to the 32: a refusal's number is at most 19, and what an accepted message hands
+-- Every number of the result is below 2 to the 32: a refusal's number is at most 21, and what an accepted message hands
 -- out is bounded by its length, which is at most 16777216 where test 2 passed.
 use mathlib.Core.Path.{_≡_, refl, sym, subst}
 use mathlib.Core.Bool.{Bool, true, false, not, _||_, cond}
@@ -34,7 +34,7 @@ accepted-small message recipient h =
     accepted-below limit (length message) message (outcome message recipient) (omega (arith, h))
     (outcome-bounded message recipient)
 
-pub refused-small : (n : ℕ) → n ≤ 19 → AllBelow limit (refused n)
+pub refused-small : (n : ℕ) → n ≤ 21 → AllBelow limit (refused n)
 unfolding refused
 refused-small n h =
     let z : 0 < limit = omega arith in (

@@ -1,44 +1,71 @@
--- The number of a refusal is at most 19: the first failing test of an order has one of the order's numbers, and no test
--- of any order has a number beyond.
-use mathlib.Core.Path.{_≡_, refl}
-use mathlib.Core.Bool.{Bool, true, false, _||_, cond, true≢false}
+-- The number of a refusal is one of a list: the first failing test of an order has one of the order's numbers, and these are in it.
+use mathlib.Core.Path.{_≡_, refl, sym}
+use mathlib.Core.Bool.{Bool, true, false, not, _||_, cond, true≢false}
+use mathlib.Core.Logic.{inl, inr}
 use mathlib.Core.List.{List, [], _∷_, _++_, flatMap}
-use Prim.Native.Nat.{ℕ, _≤_, zero-le}
-use lib.Dec.{ltb}
-use borrow.Author.Tests.{ltb-false}
+use Prim.Native.Nat.{ℕ, _≤_}
+use native.Mathlib.Omega.{arith}
+use lib.Dec.{eqb, ltb}
+use borrow.Author.Tests.{not-false, eqb-true, eqb-false, ltb-false}
 use Rattle.grammar.specs.Reader.{opensObject}
 use Rattle.grammar.specs.Places.{Element}
 use Rattle.names.specs.Names.{names}
 use Rattle.prelude.specs.Any.{any}
 use Rattle.rows.specs.Rows.{Entry, Texts, present}
-use Rattle.prelude.specs.Refusals.{Test, first}
+use Rattle.prelude.specs.Refusals.{Test, first, OneOf}
 use Rattle.jose.specs.declared.Sizes.{Sizes}
 use Rattle.jose.specs.HeaderRules.{recipientOrder}
 use Rattle.headers.specs.Headers.{textOrder, objectOrder}
 use Rattle.shape.specs.Shape.{Recipient, recipients}
 use Rattle.shape.specs.Recipients.{Top, topOf, topEntries, topOrder, elementOrder, elementsIn, elementsOrder, recipientsIn}
 use Rattle.jwe.specs.Compact.{compactOrder}
-use Rattle.jwe.specs.General.{ownEntries, protectedOrder, headersOrder, recipientsOrder, jsonSpelled, jsonLater, jsonOrder}
+use Rattle.jwe.specs.General.{ownEntries, protectedOrder, headersOrder, recipientsOrder, contentOrder, jsonSpelled}
+use Rattle.jwe.specs.General.{jsonLater, jsonOrder}
 use Rattle.jwe.specs.Judge.{Call, order, refusal}
 
--- A test whose number is not in document 01's table.
+-- The numbers that the reader refuses with, in document 01's order.
+abbrev pub given : List ℕ
+given = 1 ∷ 2 ∷ 3 ∷ 4 ∷ 5 ∷ 6 ∷ 7 ∷ 8 ∷ 9 ∷ 10 ∷ 11 ∷ 12 ∷ 13 ∷ 14 ∷ 15 ∷ 16 ∷ 17 ∷ 18 ∷ 21 ∷ 19 ∷ []
+
+-- A test that has none of them.
 abbrev beyond : Test → Bool
-beyond t = ltb 19 (t .number)
+beyond t = not (any (eqb (t .number)) given)
 
-first-low : (ts : List Test) → any beyond ts ≡ false → first ts ≤ 19
-unfolding any first
-first-low [] h = zero-le
-first-low (t ∷ ts) h =
-    let m = parts (beyond t) (any beyond ts) h in
-    cases (t .fails) (ltb-false 19 (t .number) (m .0)) (first-low ts (m .1))
+parts : (a b : Bool) → a || b ≡ false → (a ≡ false) × (b ≡ false)
+parts true b h = absurd (true≢false h)
+parts false b h = (refl, h)
+
+one-of : (n : ℕ) (ms : List ℕ) → any (eqb n) ms ≡ true → OneOf n ms
+unfolding any
+one-of n [] h = absurd (true≢false (sym h))
+one-of n (m ∷ ms) h = cases (eqb n m) refl h (one-of n ms)
   where
-    parts : (a b : Bool) → a || b ≡ false → (a ≡ false) × (b ≡ false)
-    parts true b h = absurd (true≢false h)
-    parts false b h = (refl, h)
+    cases : (b : Bool) → eqb n m ≡ b → b || any (eqb n) ms ≡ true → (any (eqb n) ms ≡ true → OneOf n ms) → OneOf n (m ∷ ms)
+    cases true e h later = inl (eqb-true n m e)
+    cases false e h later = inr (later h)
 
-    cases : (b : Bool) → t .number ≤ 19 → first ts ≤ 19 → cond b (t .number) (first ts) ≤ 19
-    cases true here rest = here
-    cases false here rest = rest
+one-low : (n : ℕ) (ms : List ℕ) → any (ltb 21) ms ≡ false → OneOf n ms → n ≤ 21
+unfolding any
+one-low n [] h o = absurd o
+one-low n (m ∷ ms) h o =
+    let p = parts (ltb 21 m) (any (ltb 21) ms) h in
+    elim o [ inl e ↦ omega (arith, e, ltb-false 21 m (p .0)) | inr r ↦ one-low n ms (p .1) r ]
+
+given-low : any (ltb 21) given ≡ false
+unfolding any
+given-low = refl
+
+first-given : (ts : List Test) → any beyond ts ≡ false → (first ts ≡ 0 → ⊥) → OneOf (first ts) given
+unfolding any first
+first-given [] h n = absurd (n refl)
+first-given (t ∷ ts) h n =
+    let m = parts (beyond t) (any beyond ts) h in
+    cases (t .fails) n (one-of (t .number) given (not-false (any (eqb (t .number)) given) (m .0))) (first-given ts (m .1))
+  where
+    cases : (b : Bool) → (cond b (t .number) (first ts) ≡ 0 → ⊥) → OneOf (t .number) given →
+        ((first ts ≡ 0 → ⊥) → OneOf (first ts) given) → OneOf (cond b (t .number) (first ts)) given
+    cases true n here rest = here
+    cases false n here rest = rest n
 
 -- Orders made of orders
 
@@ -111,7 +138,7 @@ recipients-low known header message t rs = each-low _ (λ r. recipient-low known
 
 json-low : (message : List ℕ) (known : List (List ℕ)) (recipient : ℕ) →
     any beyond (jsonOrder message known recipient) ≡ false
-unfolding any jsonOrder jsonSpelled jsonLater
+unfolding any jsonOrder jsonSpelled jsonLater contentOrder
 json-low message known recipient =
     let es = topEntries message in
     let rs = recipientsIn message es in
@@ -134,6 +161,15 @@ module _ (c : Call) where
       cases true = json-low (c .message) (names (c .known)) (c .recipient)
       cases false = compact-low (c .message) (names (c .known)) (c .recipient)
 
-  pub refusal-low : refusal c ≤ 19
+  -- A refusal is one of them ..
+  pub refusal-given : (refusal c ≡ 0 → ⊥) → OneOf (refusal c) given
   unfolding refusal
-  refusal-low = first-low (order c) order-low
+  refusal-given = first-given (order c) order-low
+
+  -- .. and so at most 21.
+  pub refusal-low : refusal c ≤ 21
+  refusal-low = cases (eqb (refusal c) 0) refl
+    where
+      cases : (b : Bool) → eqb (refusal c) 0 ≡ b → refusal c ≤ 21
+      cases true e = omega (arith, eqb-true (refusal c) 0 e)
+      cases false e = one-low (refusal c) given given-low (refusal-given (eqb-false (refusal c) 0 e))

@@ -4,7 +4,7 @@
 ghost use mathlib.Core.Path.{_≡_};
 ghost use mathlib.Core.Bool.{true, false};
 ghost use mathlib.Core.List.{_++_, map};
-ghost use Prim.Native.Nat.{_+_, _*_, _≤_, _<_};
+ghost use Prim.Native.Nat.{ℕ, _+_, _*_, _≤_, _<_};
 ghost use lib.ListN.{length, take, drop, getD};
 ghost use Rattle.prelude.specs.Buffer.{written};
 ghost use Rattle.prelude.specs.Limits.{headerRoom, longest, mostMembers, mostRecipients};
@@ -22,12 +22,17 @@ ghost use Rattle.jwe.specs.General.{allPlaces, jsonLater, jsonOrder};
 ghost use Rattle.jwe.specs.Judge.{accepted};
 ghost use Rattle.jwe.specs.Inner.Outcomes.{outcomeOf, jsonOutcome};
 ghost use Rattle.jwe.specs.Answers.{numbers, BeginsWith, Judges};
+ghost use Rattle.jose.specs.ContentAlgorithm.{differing};
+ghost use Rattle.jose.specs.Inner.Content.{namedIn};
 ghost use Rattle.jwe.specs.Inner.Stages.{recipientAt, recipientsOf, Owned, LeavesOwn, textTests, protectedTests, ownTests, ruleTests};
+ghost use Rattle.jwe.specs.Inner.Stages.{ownContents, ruledTests};
 ghost use Rattle.jwe.specs.Inner.Stages.{HeaderKnown, HeadersKnown, allTests, headedOrder, headedOutcome, Heads, ownTable};
 use crate::Result;
 use crate::handed;
 use crate::refused;
 use headers::Components;
+use jose::content::Named;
+use jose::lists::ENC;
 use json::Position;
 use prelude::Place;
 use prelude::Stage;
@@ -228,7 +233,97 @@ fn rules(
     Stage::Passed(number)
 }
 
-// All recipients judged: 8 and 9 on their own headers, whose parameters are left in a table, and 12 to 18 on each. The first
+// Where the content algorithm of a recipient's own header stands.
+fn own_content(own: &[u32], counts: &[usize], i: usize) -> Named
+    requires { ⌜ i < mostRecipients ⌝ }
+    requires { ⌜ length (now own) ≡ ownTable ⌝ }
+    requires { ⌜ length (now counts) ≡ mostRecipients ⌝ }
+    requires { ⌜ getD (now counts) i 0 ≤ mostMembers ⌝ }
+    ensures { λ r. ⌜ r ≡ namedIn (entriesOf (getD (now (counts .entry)) i 0) (drop (i * headerTable) (now (own .entry)))) ⌝ }
+{
+    let start = i * layout::HEADER_TABLE;
+    jose::content::sole(&own[start..], counts[i])
+}
+
+// 21 on own headers: whether the content algorithm of one differs from that of recipient `with`.
+fn contents_differ(
+    message: &[u8],
+    own: &[u32],
+    counts: &[usize],
+    number: usize,
+    with: usize,
+) -> bool
+    requires { ⌜ number ≤ mostRecipients ⌝ }
+    requires { ⌜ length (now own) ≡ ownTable ⌝ }
+    requires { ⌜ length (now counts) ≡ mostRecipients ⌝ }
+    requires { ⌜ ((k : ℕ) → k < number → getD (now counts) k 0 ≤ mostMembers) ⌝ }
+    ensures { λ r. ⌜ r ≡ differing «with» (ownContents (now (message .entry)) (now (own .entry)) (now (counts .entry)) 0 number) ⌝ }
+{
+    if number <= with {
+        return false;
+    }
+    let asked = own_content(own, counts, with);
+    let mut i: usize = 0;
+    while i < number {
+        let other = own_content(own, counts, i);
+        if jose::content::differ(message, asked, message, other) {
+            return true;
+        }
+        i += 1;
+    }
+    false
+}
+
+// 12 to 18 on each recipient in turn, and 21: where a header that all of them share has `enc`, no two can differ. The first entries
+// of the table, which are all recipients', stay as they are.
+fn ruled(
+    header: &[u8],
+    message: &[u8],
+    known: &[u8],
+    q: Components,
+    of: &[usize],
+    number: usize,
+    own: &[u32],
+    counts: &[usize],
+    table: &mut [u32],
+    front: usize,
+) -> Stage
+    requires { ⌜ filled (now known) ≡ true ⌝ }
+    requires { ⌜ number ≤ mostRecipients ⌝ }
+    requires { ⌜ number * recipientWidth ≤ length (now of) ⌝ }
+    requires { ⌜ length (now own) ≡ ownTable ⌝ }
+    requires { ⌜ length (now counts) ≡ mostRecipients ⌝ }
+    requires { ⌜ Owned number (now message) (now of) (now own) (now counts) ⌝ }
+    requires { ⌜ front * width + headerTable ≤ length (now table) ⌝ }
+    requires { ⌜ Printed (readTexts (now header) (now message)) front (now table) ⌝ }
+    ensures { λ r. ⌜ r ≡ stageOf (first (ruledTests (names (now (known .entry))) (now (header .entry)) (now (message .entry)) (entriesOf front (now (table .entry))) (componentsOf q) (recipientsOf number (now (of .entry))))) number ⌝ }
+    ensures { λ _. ⌜ entriesOf front (now (table .exit)) ≡ entriesOf front (now (table .entry)) ⌝ }
+{
+    let each = rules(
+        header,
+        message,
+        known,
+        q,
+        of,
+        number,
+        own,
+        counts,
+        table,
+        front,
+    );
+    let Stage::Passed(_) = each else {
+        return each;
+    };
+    if rows::ask::present(table, front, ENC) {
+        return Stage::Passed(number);
+    }
+    if contents_differ(message, own, counts, number, 0) {
+        return Stage::Refused(21);
+    }
+    Stage::Passed(number)
+}
+
+// All recipients judged: 8 and 9 on their own headers, whose parameters are left in a table, 12 to 18 on each, and 21. The first
 // entries of the working table, which are all recipients', stay as they are.
 fn judged(
     header: &[u8],
@@ -259,7 +354,7 @@ fn judged(
     let Stage::Passed(_) = collected else {
         return collected;
     };
-    rules(
+    ruled(
         header,
         message,
         known,

@@ -1,16 +1,13 @@
--- A refusal has a number of document 01's table, 1 to 19, and changes nothing: the result is the number and zeros, and
--- the lent header buffer and list are unchanged.
-use mathlib.Core.Path.{_≡_, refl, ap}
+-- A refusal changes nothing: the result is the number and zeros, and the lent header buffer and list are unchanged.
+use mathlib.Core.Path.{_≡_, ap}
 use mathlib.Core.Bool.{Bool, false, cond}
 use mathlib.Core.List.{List}
-use Prim.Native.Nat.{ℕ, zero, suc, _≤_}
-use native.Mathlib.Omega.{arith}
+use Prim.Native.Nat.{ℕ}
 use lib.Dec.{eqb}
 use borrow.Author.Tests.{ne-eqb}
 use Rattle.prelude.specs.Buffer.{written}
 use Rattle.rows.specs.Tables.{listed}
 use Rattle.jwe.specs.Judge.{Call, refusal, outcome, accepted, refused, result, headerAfter, listAfter}
-use Rattle.jwe.proofs.SmallRefusals.{refusal-low}
 
 -- The result of a refusal is its number and zeros ..
 module _ (c : Call) (n : refusal c ≡ 0 → ⊥) where
@@ -36,11 +33,3 @@ module _ (c : Call) (n : refusal c ≡ 0 → ⊥) where
   pub refusal-changes-nothing : (buffer list : List ℕ) →
       (result c ≡ refused (refusal c)) × (headerAfter c buffer ≡ buffer) × (listAfter c list ≡ list)
   refusal-changes-nothing buffer list = (refused-result, refused-header buffer, refused-list list)
-
-  -- A refusal is a number of the table.
-  pub refusal-numbered : (1 ≤ refusal c) × (refusal c ≤ 19)
-  refusal-numbered = (positive (refusal c) n, refusal-low c)
-    where
-      positive : (k : ℕ) → (k ≡ 0 → ⊥) → 1 ≤ k
-      positive zero n = absurd (n refl)
-      positive (suc k) n = omega arith

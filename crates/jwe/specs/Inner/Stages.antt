@@ -1,8 +1,9 @@
 -- The JSON serialization's tables and refusals, stage by stage, as the code comes to them.
 use mathlib.Core.Path.{_≡_}
-use mathlib.Core.List.{List, [], _∷_, _++_, flatMap}
+use mathlib.Core.List.{List, [], _∷_, _++_, map, flatMap}
 use mathlib.Core.Bool.{Bool, cond}
-use Prim.Native.Nat.{ℕ, zero, suc, _*_, _≤_, _<_}
+use mathlib.Core.Option.{Option}
+use Prim.Native.Nat.{ℕ, zero, suc, _+_, _*_, _≤_, _<_}
 use lib.ListN.{length, take, drop, getD}
 use lib.Dec.{leb}
 use Rattle.prelude.specs.Limits.{levels, mostMembers, mostRecipients}
@@ -10,10 +11,12 @@ use Rattle.grammar.specs.Grammar.{curly}
 use Rattle.grammar.specs.Bounds.{Every}
 use Rattle.json.specs.Inner.Known.{KnownIn}
 use Rattle.rows.specs.Rows.{Entry, readTexts}
-use Rattle.rows.specs.Tables.{width, headerTable, recipientTable}
+use Rattle.rows.specs.Tables.{entriesOf, width, headerTable, recipientTable}
 use Rattle.rows.specs.Inner.Prints.{flat}
 use Rattle.prelude.specs.Refusals.{Test, _if_, first}
 use Rattle.jose.specs.HeaderRules.{recipientOrder}
+use Rattle.jose.specs.ContentAlgorithm.{contentAlgorithm, differing}
+use Rattle.jose.specs.Inner.Content.{namedIn, shownIn}
 use Rattle.headers.specs.Headers.{textOrder, outermost, protectedEntries, objectOrder}
 use Rattle.prelude.specs.declared.Stage.{Stage}
 use Rattle.prelude.specs.declared.Stage.the-variants.{Passed, Refused}
@@ -66,6 +69,15 @@ abbrev pub LeavesOwn : ℕ → List ℕ → List ℕ → List ℕ → List ℕ �
 LeavesOwn number message of own counts (Passed n) = Owned number message of own counts
 LeavesOwn number message of own counts (Refused n) = (length own ≡ ownTable) × (length counts ≡ mostRecipients)
 
+-- The content algorithm of the k-th own header, and those of n of them from the k-th on.
+
+abbrev pub ownContent : List ℕ → List ℕ → List ℕ → ℕ → Option (List ℕ)
+ownContent message own counts k = shownIn message (namedIn (entriesOf (getD counts k 0) (drop (k * headerTable) own)))
+
+unfoldable pub ownContents : List ℕ → List ℕ → List ℕ → ℕ → ℕ → List (Option (List ℕ))
+ownContents message own counts k zero = []
+ownContents message own counts k (suc n) = ownContent message own counts k ∷ ownContents message own counts (k + 1) n
+
 -- What is known of the headers of a message that has been judged: where one stands, what opens in it reads.
 
 abbrev pub HeaderKnown : List ℕ → ℕ → Type 0
@@ -98,9 +110,19 @@ ruleTests known header message front q rs =
     recipientOrder known (readTexts header message) (front ++ ownEntries message r) (sizesOf (withKey q (r .key))))
     rs
 
--- Both: all recipients judged.
+-- 21 on all of them.
+unfoldable pub contentTests : List ℕ → List ℕ → List Entry → List Recipient → List Test
+contentTests header message front rs =
+    21 if differing 0 (map (λ r. contentAlgorithm (readTexts header message) (front ++ ownEntries message r)) rs) ∷ []
+
+-- Both.
+unfoldable pub ruledTests : List (List ℕ) → List ℕ → List ℕ → List Entry → Components → List Recipient → List Test
+ruledTests known header message front q rs =
+    ruleTests known header message front q rs ++ contentTests header message front rs
+
+-- All recipients judged.
 unfoldable pub allTests : List (List ℕ) → List ℕ → List ℕ → List Entry → Components → List Recipient → List Test
-allTests known header message front q rs = ownTests message rs ++ ruleTests known header message front q rs
+allTests known header message front q rs = ownTests message rs ++ ruledTests known header message front q rs
 
 -- From the own headers on.
 unfoldable pub headedOrder : List (List ℕ) → List ℕ → List ℕ → List Entry → Components → List Recipient → ℕ → List Test

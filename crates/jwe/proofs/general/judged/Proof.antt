@@ -85,8 +85,8 @@ returns c =
       (own .own-headers .ensures .1, refl),
     )
 
-rules-requires : tie.Need-rules-requires
-rules-requires c κs =
+ruled-requires : tie.Need-ruled-requires
+ruled-requires c κs =
     let own = c .before .before .before .before .before .before .before .before .before in
     let pre = start own .pre in
     let has = owned own (c .before .before .before .enum-told .given .1) in (
@@ -123,7 +123,7 @@ returns-2 c =
     let all = own-passes (names (args .known .now)) (args .header .now) (args .message .now) (front s)
     (componentsOf (args .q)) (rs s) 0 (passed .0) in
     let has = owned own told in
-    let call = c .before .before .rules in (
+    let call = c .before .before .ruled in (
       call .ensures .0 ∙ ap (λ (n : ℕ). stageOf n (args .number)) (sym all),
       (leaves (args .number) (args .message .now) (args .of .now) _ _ (has .0) (has .1 .0) (has .1 .1) (call .result), call .ensures .1),
     )
@@ -138,7 +138,7 @@ judged-spec =
     same-length
     same-length-2
     returns
-    rules-requires
+    ruled-requires
     same-length-3
     same-length-4
     same-length-5
