@@ -1,6 +1,6 @@
--- Refusal 21: the test on all recipients decides that every two have the same content algorithm. Where 9 and 12 to 14 do not
--- refuse, each has one `enc`, a string, which one of its entries spells. Saying the same is an equality, so that every two say the
--- same exactly where each says the same as the first.
+-- Refusal 21: the test on all recipients decides that every two have the same content algorithm. Where 9 and 12 to 14 do
+-- not refuse, each has one `enc`, a string, which one of its entries spells. Saying the same is an equality, so that every
+-- two say the same exactly where each says the same as the first.
 use mathlib.Core.Path.{_≡_, refl, ap, sym, subst₂, _∙_}
 use mathlib.Core.Bool.{Bool, true, false, cond}
 use mathlib.Core.Option.{Option, none, some}
@@ -63,8 +63,8 @@ module _ (h k : Headers) (x y : Str) (a : EncIs (parameters h) x) (b : EncIs (pa
         (parameters h) (a .only)),
   )
 
--- Every two of a list are related exactly where each is to the first, if each is to itself, and those to which one is are to each
--- other.
+-- Every two of a list are related exactly where the first is to each, if each is to itself and those to which one is are to
+-- each other.
 module _ {A : Type 0} (G : A → Type 0) (R : A → A → Type 0) (itself : (x : A) → G x → R x x)
     (each-other : (x y z : A) → G x → G y → G z → R x y → R x z → R y z) where
   two-by-one : (x : A) → G x → (ys : List A) → Every G ys → Every (R x) ys → EveryTwo R ys
@@ -92,7 +92,8 @@ record Spelled (ps : List Member) (c : Option (List ℕ)) : Type 0 where
 -- In the entries of parameters
 
 module _ (ts : Texts) where
-  enc-where : (p : Member) (e : Entry) → Seen registered ts p e → TrueWhere (numbered enc e) (HasOctets (p .name) (ascii "enc"))
+  enc-where : (p : Member) (e : Entry) → Seen registered ts p e →
+      TrueWhere (numbered enc e) (HasOctets (p .name) (ascii "enc"))
   enc-where p e r = numbered-where registered ts p e r enc (ascii "enc") enc-number
 
   none-having : (ps : List Member) (es : List Entry) → OneForOne (Seen registered ts) ps es → Absent (ascii "enc") ps →

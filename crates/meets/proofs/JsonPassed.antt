@@ -163,9 +163,11 @@ module _ (known : List (List ℕ)) (message : List ℕ) (recipient : ℕ)
       let d = first-append (protectedOrder (topOf es) header) _ (protected-numbered es header) .0 (c .1) in
       let f = first-append (headersOrder header message (topOf es) rs) _ (headers-numbered header message es rs) .0 (d .1) in
       let g =
-      first-append (recipientsOrder known header message (topOf es) rs) _ (recipients-numbered known header message es rs) .0
-      (f .1) in
-      let k = first-append (contentOrder header message (topOf es) rs) (19 if leb (length rs) recipient ∷ []) refl .0 (g .1) in
+      first-append (recipientsOrder known header message (topOf es) rs) _
+      (recipients-numbered known header message es rs) .0 (f .1) in
+      let k =
+      first-append (contentOrder header message (topOf es) rs) (19 if leb (length rs) recipient ∷ []) refl .0
+      (g .1) in
       let top = first-none (topOrder message) refl .0 (a .0) in
       let five = first-none (5 if anyMisspelled message es ∷ []) refl .0 (c .0) in
       let last = first-none (19 if leb (length rs) recipient ∷ []) refl .0 (k .1) in (

@@ -1,6 +1,6 @@
--- 21 is given to general messages alone (document 01: those with a member `recipients`). A rule of another number is not the one that
--- is broken, so the rules after it say 21. The compact form has no rule of that number, and the flattened form has one recipient,
--- of which there are no two that could differ.
+-- 21 is given to general messages alone: those that read as JSON and have a member `recipients` at the top level (document
+-- 01). A rule of another number is not the one that is broken, so the rules after it say 21. The compact form has no rule of
+-- that number, and the flattened form has one recipient, of which there are no two that could differ.
 use mathlib.Core.Path.{_≡_, refl, subst}
 use mathlib.Core.Bool.{false}
 use mathlib.Core.Logic.{inl, inr}
@@ -19,7 +19,7 @@ use Rattle.grammar.specs.Readings.{Reading}
 use Rattle.jwe.specs.Judge.{refusal}
 use Rattle.meets.specs.Members.{Member, membersOf}
 use Rattle.meets.specs.Rules.{Headers, Present}
-use Rattle.meets.specs.Meets.{RecipientsIn}
+use Rattle.meets.specs.Meets.{RecipientsIn, OneContent}
 use Rattle.meets.proofs.Deciding.{some-map}
 use Rattle.refusals.specs.Table.{Table, pass, rule, given, fork, Refuses}
 use Rattle.refusals.specs.Numbers.{Key, objectTable, recipientTable, compactTable, elementsTable, ownsTable}
@@ -32,17 +32,22 @@ abbrev recipientsLeft : List (List ℕ) → (message : List ℕ) → ℕ → Rea
 recipientsLeft known message recipient r rs =
     rule 11 (length rs ≤ mostRecipients) λ few. elementsTable rs (spelledTable known message recipient r rs)
 
--- What follows where a table says 21, from what follows where what comes after its beginning does.
+-- One recipient has one content algorithm.
+no-two : (protected shared own : List Member) → OneContent protected shared (own ∷ [])
+no-two protected shared own = (tt, tt)
+
+-- What follows where a table says 21, from what follows where the rules after its first one do.
 module _ {C : Type 0} where
-  -- That rule has another number.
+  -- The first one has another number, so that it is kept ..
   other : {P : Type 0} (n : ℕ) (rest : P → Table) → eqb 21 n ≡ false → ((p : P) → Refuses (rest p) 21 → C) →
       Refuses (rule n P rest) 21 → C
   unfolding Refuses
   other n rest d f (inl a) = absurd (eqb-false 21 n d (a .1))
   other n rest d f (inr a) = f (a .0) (a .1 (a .0))
 
-  -- It is kept.
-  kept : {P : Type 0} (n : ℕ) (rest : P → Table) → P → ((p : P) → Refuses (rest p) 21 → C) → Refuses (rule n P rest) 21 → C
+  -- .. or is kept all the same.
+  kept : {P : Type 0} (n : ℕ) (rest : P → Table) → P → ((p : P) → Refuses (rest p) 21 → C) →
+      Refuses (rule n P rest) 21 → C
   unfolding Refuses
   kept n rest p f (inl a) = absurd (a .0 p)
   kept n rest p f (inr a) = f p (a .1 p)
@@ -79,7 +84,8 @@ module _ {C : Type 0} where
       f
 
   -- Compact
-  compact-never : (known : List (List ℕ)) (message : List ℕ) (recipient : ℕ) → Refuses (compactTable known message recipient) 21 → C
+  compact-never : (known : List (List ℕ)) (message : List ℕ) (recipient : ℕ) →
+      Refuses (compactTable known message recipient) 21 → C
   unfolding compactTable
   compact-never known message recipient =
       other 4 _ refl λ f.
@@ -100,7 +106,7 @@ module _ {C : Type 0} where
       (there _ λ o.
       past-object (o .0 .0) _
       (past-recipient known _ (k .0 .0) _
-      (kept 21 _ (tt, tt) λ content.
+      (kept 21 _ (no-two hs (s .0) (o .0 .0)) λ content.
       other 19 _ refl λ asked.
       none-left))))
 
@@ -122,7 +128,6 @@ module _ {C : Type 0} where
       one-never known ps ps (c .5) recipient (membersOf (h .text .value)))
       (one-never known ps ps (c .5) recipient []))
 
--- A message that reads as JSON and has a member `recipients` at its top level.
 abbrev General : List ℕ → Type 0
 General message = (r : Reading levels message) × Present (ascii "recipients") (membersOf (r .text .value))
 

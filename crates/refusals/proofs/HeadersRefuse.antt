@@ -138,7 +138,8 @@ module _ (known : List (List ℕ)) (header message : List ℕ) (recipient : ℕ)
       step 21 _ _ _ (contents-decided header message es hs ss zp zs (ownsOf rs o) us each) λ content. asked-refuses
 
   abbrev pub headersLeft : List Test
-  headersLeft = headersOrder header message (topOf es) us ++ (recipientsOrder known header message (topOf es) us ++ contentLeft)
+  headersLeft =
+      headersOrder header message (topOf es) us ++ (recipientsOrder known header message (topOf es) us ++ contentLeft)
 
   pub headers-refuse : (hs : List Member) → OneForOne (MemberStands header) hs (outermost header) →
       Refuses (headersTable known ps rs k recipient hs) (first headersLeft)
@@ -157,4 +158,4 @@ module _ (known : List (List ℕ)) (header message : List ℕ) (recipient : ℕ)
       owns-refuse message rs us z o (recipientsTable known hs ss rs o k (contentTable hs ss o))
       (recipientsOrder known header message (topOf es) us ++ contentLeft) λ all.
       rules-refuse known header message es hs ss zp zs once shared-once rs us z o k all (contentTable hs ss o) contentLeft
-      λ each. content-refuses hs ss o zp zs each
+      (content-refuses hs ss o zp zs)
