@@ -188,7 +188,8 @@ impl Cases {
         let (owns, long) = (in_turn(3), " ".repeat(4097));
         let last = |text: &str| [&in_turn(2)[..], &[text.to_string()]].concat();
         self.refuses(3, "3 before 21", with_known(b"", general("", "", &owns)));
-        let wrong_table = Pieces { recipients: [&general("", "", &owns).recipients[..], b"x"].concat(), ..general("", "", &owns) };
+        let mut wrong_table = general("", "", &owns);
+        wrong_table.recipients.push(b'x');
         self.refuses(20, "20 before 21", wrong_table);
         self.refuses(6, "6 before 21", general(&long, "", &owns));
         self.refuses(7, "7 of the protected header before 21", general("[]", "", &owns));
