@@ -1,8 +1,8 @@
 //! Makes what the program `conformance` reads and what it has to print: `expected FOLDER` writes `stdin` and `stdout`
-//! there. A case is a message written by hand with the number that document 01, with request 2 of document 02, gives it, 0
-//! where it is accepted. What the program reads is made from the cases; what it has to print is made from that, field by field, by the second
-//! reader of the host tests. Where the second reader's number is not the one set down, the case is named and nothing is
-//! written.
+//! there. A case is a message written by hand with the number that document 01, with request 2 of document 02, gives
+//! it, 0 where it is accepted. What the program reads is made from the cases; what it has to print is made from that,
+//! field by field, by the second reader of the host tests. Where the second reader's number is not the one set down,
+//! the case is named and nothing is written.
 
 mod contents;
 mod escapes;

@@ -1,7 +1,8 @@
-//! A second reader of JWE messages, written from document 01 and request 2 of document 02. A JSON text becomes one tree that
-//! owns what it says: tokens go on a stack, and each closing bracket folds what lies above its opening one into a value. The
-//! rules are then asked of whole trees, one after the other in document 01's order. Base64url is decoded octet by octet, from the two
-//! characters that the octet's bits lie in. It shares no code with the other second readers here.
+//! A second reader of JWE messages, written from document 01 and request 2 of document 02. A JSON text becomes one tree
+//! that owns what it says: tokens go on a stack, and each closing bracket folds what lies above its opening one into a
+//! value. The rules are then asked of whole trees, one after the other in document 01's order. Base64url is decoded
+//! octet by octet, from the two characters that the octet's bits lie in. It shares no code with the other second
+//! readers here.
 
 const LONGEST: usize = 16_777_216;
 const HEADER: usize = 4096;
