@@ -209,10 +209,7 @@ fn fault_of_all(rules: u32, shared: bool, content: u32) -> u32
     if rules != 0 {
         return rules;
     }
-    if shared {
-        return 0;
-    }
-    content
+    if shared { 0 } else { content }
 }
 
 // 8 and 9 on each recipient's own header, 12 to 18 on each recipient, and 21 on all. Each own header is collected once: while the
