@@ -225,21 +225,25 @@ fn small_messages() -> Vec<(&'static str, Vec<u8>)> {
     header += &" ".repeat(4096 - 2 - header.len());
     header += "]}";
     assert_eq!(header.len(), 4096);
-    let element = |i: usize| {
-        let key = encoded(&[i as u8; 24]);
-        format!(r#"{{"header":{{"alg":"A128KW","kid":"recipient {i}"}},"encrypted_key":"{key}"}}"#)
+    // `enc` in the protected header, where there is nothing to compare; or in each own one, where each is compared.
+    let general = |start: String, enc: &str| {
+        let element = |i: usize| {
+            let key = encoded(&[i as u8; 24]);
+            format!(r#"{{"header":{{"alg":"A128KW",{enc}"kid":"recipient {i}"}},"encrypted_key":"{key}"}}"#)
+        };
+        format!(
+            r#"{{{start}"recipients":[{}],"iv":"{}","ciphertext":"{}","tag":"{}"}}"#,
+            (0..8).map(element).collect::<Vec<_>>().join(","),
+            encoded(&[5; 12]),
+            encoded(&[6; 60]),
+            encoded(&[7; 16]),
+        )
     };
-    let general = format!(
-        r#"{{"protected":"{}","recipients":[{}],"iv":"{}","ciphertext":"{}","tag":"{}"}}"#,
-        encoded(br#"{"enc":"A128GCM"}"#),
-        (0..8).map(element).collect::<Vec<_>>().join(","),
-        encoded(&[5; 12]),
-        encoded(&[6; 60]),
-        encoded(&[7; 16]),
-    );
+    let protected_enc = format!(r#""protected":"{}","#, encoded(br#"{"enc":"A128GCM"}"#));
     vec![
         ("M, 51 octets", format!("{}..AA.AQID.Ag", encoded(format!("{{{DIR}}}").as_bytes())).into_bytes()),
-        ("1 KB, 8 recipients", general.into_bytes()),
+        ("1 KB, 8 recipients", general(protected_enc, "").into_bytes()),
+        ("1 KB, 8 recipients, own enc", general(String::new(), r#""enc":"A128GCM","#).into_bytes()),
         ("header of arrays", format!("{}..AA.AQID.Ag", encoded(header.as_bytes())).into_bytes()),
     ]
 }

@@ -103,6 +103,12 @@ const struct refusal refusals[] = {
         "flattened message was asked for with another number of recipients than one.",
         "Mend the caller's table. For more than one recipient write the general form.",
     },
+    [JWE_CONTENT_ALGORITHMS_DIFFER] = {
+        "The recipients do not all have the same content algorithm (enc): two of their values are different strings, "
+        "escapes undone.",
+        "One ciphertext has one content algorithm. Have the message sealed anew with the same enc for all recipients, "
+        "best once, in the protected header.",
+    },
 };
 
 const size_t refusals_end = sizeof refusals / sizeof *refusals;

@@ -32,9 +32,9 @@
 #define JWE_NONNULL
 #endif
 
-#define JWE_GATEWAY_VERSION "0.7.0"
+#define JWE_GATEWAY_VERSION "0.8.0"
 #define JWE_GATEWAY_VERSION_MAJOR 0
-#define JWE_GATEWAY_VERSION_MINOR 7
+#define JWE_GATEWAY_VERSION_MINOR 8
 #define JWE_GATEWAY_VERSION_PATCH 0
 
 #ifdef __cplusplus
@@ -47,8 +47,8 @@ static inline const char *jwe_version(void)
     return JWE_GATEWAY_VERSION;
 }
 
-/* Refusals; docs/REFUSALS.md has a sentence for each. A message gets them in this order, and for those that write the
- * order stands with the function. */
+/* Refusals; docs/REFUSALS.md has a sentence for each. A message gets them in this order, but 21 after 18 and before 19;
+ * for those that write the order stands with the function. */
 #define JWE_OK 0u                 /* not refused */
 #define JWE_TOO_SHORT 1u          /* a lent output is shorter than asked */
 #define JWE_MESSAGE_TOO_LONG 2u   /* over 16,777,216 octets */
@@ -70,6 +70,7 @@ static inline const char *jwe_version(void)
 #define JWE_KEY 18u               /* not empty in direct modes, or empty in others */
 #define JWE_NO_SUCH_RECIPIENT 19u
 #define JWE_RECIPIENTS_MALFORMED 20u /* the table of recipients, or not one of them for a flattened message */
+#define JWE_CONTENT_ALGORITHMS_DIFFER 21u /* enc is not the same for all recipients; general messages alone */
 
 #define JWE_MESSAGE_OCTETS 16777216u /* of the longest message */
 
@@ -123,7 +124,8 @@ uint32_t jwe_write_compact(const uint8_t *header, size_t header_len, const uint8
  * own headers stand as given, and no space is added. Each text is a JSON object by itself, so that it cannot end its
  * member and begin another. A flattened message has one recipient; a general one has recipients also for one alone.
  * Refusals in order: 3; 20; 6; 7 on each text by itself, protected, shared, own in turn; 2; then what jwe_judge would
- * answer on the message, 7 and more, as a text may be too deep only where it stands; 1. */
+ * answer on the message: 7, as a text may be too deep only where it stands, 10, 8 and 9, 12 to 18 for each recipient and,
+ * in the general form, 21; 1. */
 JWE_NONNULL
 uint32_t jwe_write_flattened(const uint8_t *protected_header, size_t protected_len, const uint8_t *shared,
                              size_t shared_len, const uint8_t *aad, size_t aad_len, const uint8_t *iv, size_t iv_len,

@@ -1,9 +1,10 @@
 //! Makes what the program `conformance` reads and what it has to print: `expected FOLDER` writes `stdin` and `stdout`
-//! there. A case is a message written by hand with the number that document 01 gives it, 0 where it is accepted. What
-//! the program reads is made from the cases; what it has to print is made from that, field by field, by the second
-//! reader of the host tests. Where the second reader's number is not the one set down, the case is named and nothing is
-//! written.
+//! there. A case is a message written by hand with the number that document 01, with request 2 of document 02, gives
+//! it, 0 where it is accepted. What the program reads is made from the cases; what it has to print is made from that,
+//! field by field, by the second reader of the host tests. Where the second reader's number is not the one set down,
+//! the case is named and nothing is written.
 
+mod contents;
 mod escapes;
 mod headers;
 mod list;
@@ -105,13 +106,14 @@ fn fault(case: &Case, answer: &Answer) -> Option<String> {
     other.map(|expected| format!("recipients and mode are {expected:?}, the second reader has {mode:?}"))
 }
 
-/// The numbers that no message of a form gets. 2 needs a message of over 16 MiB, more than the program has room for.
+/// The numbers that no message of a form gets. 2 needs a message of over 16 MiB, more than the program has room for; 20 is
+/// the JSON writer's.
 ///
 /// Compact: there is no JSON message whose shape could be wrong (10; a header without members is 13), one recipient
-/// (11), and one header, the protected one (12, 16). Flattened: a full stop is an octet of the JSON text (4), and there
-/// is one recipient (11). General: 4 as in flattened.
+/// (11, 21), and one header, the protected one (12, 16). Flattened: a full stop is an octet of the JSON text (4), and there
+/// is one recipient (11, 21). General: 4 as in flattened.
 fn never(form: usize) -> &'static [u32] {
-    [&[2, 10, 11, 12, 16][..], &[2, 4, 11], &[2, 4]][form]
+    [&[2, 10, 11, 12, 16, 20, 21][..], &[2, 4, 11, 20, 21], &[2, 4, 20]][form]
 }
 
 fn main() {
@@ -143,7 +145,7 @@ fn main() {
         faults.extend(twice.map(|name| format!("{name}: two cases of this name")));
     }
     for (form, name) in FORMS.iter().enumerate() {
-        let missing = (0..20).filter(|n| met.contains(&(form, *n)) == never(form).contains(n));
+        let missing = (0..22).filter(|n| met.contains(&(form, *n)) == never(form).contains(n));
         faults.extend(missing.map(|n| format!("{name}: number {n} has no case, or one that cannot be")));
     }
     if stdin.len() > LONGEST_INPUT {

@@ -109,7 +109,7 @@ impl Cases {
         };
         self.general(15, "alg of recipient 1, 0 asked for", owns("x", "A128GCM"));
         self.general(15, "enc of recipient 1, 0 asked for", owns("dir", "x"));
-        self.general(0, "enc may differ between recipients", owns("dir", "A256GCM")).asking('1');
+        self.general(21, "enc of recipient 1 is listed and another, 1 asked for", owns("dir", "A256GCM")).asking('1');
     }
 
     /// 18: each mode with and without a key.

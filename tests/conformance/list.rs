@@ -3,7 +3,7 @@
 use crate::reference::Reference;
 
 pub struct Case {
-    /// The number that document 01 gives: 0 is accepted.
+    /// The number that the papers give: 0 is accepted.
     pub number: u32,
     /// 0 compact, 1 flattened, 2 general.
     pub form: usize,
@@ -75,6 +75,7 @@ impl Cases {
         cases.group("escapes", Cases::escapes);
         cases.group("shapes", Cases::shapes);
         cases.group("headers", Cases::headers);
+        cases.group("contents", Cases::contents);
         cases
     }
 

@@ -190,6 +190,19 @@ fn faults(form: usize) -> Vec<Fault> {
     for recipient in 0..form.max(1) {
         all.extend(rules(form, recipient));
     }
+    // One recipient more, so that two differ whatever is wrong with another's `enc`.
+    if form == 2 {
+        all.push(Fault {
+            number: 21,
+            place: String::new(),
+            of: 0,
+            put: |parts, _| {
+                parts.owns.push(texts(&[r#""alg":"dir""#, r#""enc":"A256GCM""#]));
+                parts.keys.push(None);
+                parts.elements.push(Vec::new());
+            },
+        });
+    }
     all.push(Fault { number: 19, place: String::new(), of: 0, put: |parts, _| parts.recipient = '9' });
     all
 }
@@ -208,11 +221,11 @@ impl Cases {
                 let name = format!("{}{} and no other fault", first.number, first.place);
                 self.placed(&name, first.number, Parts::sound(form), &[first]);
                 for (j, second) in faults.iter().enumerate().skip(i + 1) {
-                    // Neighbours; a smaller number that comes later, once in each kind of place; 19 after every rule.
+                    // Neighbours; a smaller number that comes later, once in each kind of place; 21 and 19 after every rule.
                     let near = j - i <= [2, 1, 2][form];
                     let once = first.of == 0 && (second.of == 0 || second.number >= 12);
                     let smaller = form == 2 && second.number < first.number && once;
-                    let last = second.number == 19 && first.number >= 12;
+                    let last = [19, 21].contains(&second.number) && first.number >= 12;
                     if first.number == second.number || exclude(first, second) || !(near || smaller || last) {
                         continue;
                     }

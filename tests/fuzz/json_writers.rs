@@ -1,5 +1,5 @@
-//! The JSON writers beside the second one: a fuzzed message as a header's text or as the table of recipients, and what was read of
-//! a JSON message written again.
+//! The JSON writers beside the second one: a fuzzed message as a header's text or as the table of recipients, what was read of a
+//! JSON message written again, and that with a recipient more, whose content algorithm may be another.
 
 use crate::json_writer;
 use crate::jwe::pieces::{table, Pieces};
@@ -80,6 +80,16 @@ fn taken_apart(call: &Call, first: &Answer, reference: &Reference) -> Pieces {
     }
 }
 
+/// The same in general form, with one recipient more before or behind the others, by the message's length. Where no header that
+/// all share has an `enc`, 21 tells whether theirs is another one.
+fn with_one_more(call: &Call, pieces: Pieces) -> Pieces {
+    const OWNS: [&[u8]; 3] = [HEADER, br#"{"alg":"dir","enc":"A256GCM"}"#, br#"{"enc":"A128GC\u004d","alg":"dir"}"#];
+    let mut recipients = json_writer::recipients(&pieces.recipients).expect("a sound table");
+    let at = if call.message.len() % 2 == 0 { 0 } else { recipients.len() };
+    recipients.insert(at, [OWNS[call.message.len() / 2 % OWNS.len()], b""]);
+    Pieces { general: true, recipients: table(&recipients), ..pieces }
+}
+
 pub fn json_writers_agree(call: &Call, answer: &Answer, reference: &Reference) -> bool {
     if agree(&as_text(call), reference).is_none() {
         return false;
@@ -88,7 +98,11 @@ pub fn json_writers_agree(call: &Call, answer: &Answer, reference: &Reference) -
         return true;
     }
     // What is accepted is written again, and then reads the same for this recipient, places aside.
-    let Some(message) = agree(&taken_apart(call, answer, reference), reference) else { return false };
+    let pieces = taken_apart(call, answer, reference);
+    let Some(message) = agree(&pieces, reference) else { return false };
+    if agree(&with_one_more(call, pieces.clone()), reference).is_none() {
+        return false;
+    }
     let again = second::read(&message, &call.known, call.recipient, 4096, 576);
     let said = |answer: &Answer, message| {
         let rows = parameter_rows(message, &answer.header, &answer.list);

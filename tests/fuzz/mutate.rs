@@ -8,13 +8,14 @@ use crate::reference::Reference;
 pub const LONGEST: usize = 6_000;
 
 /// What means something in a message or in a header.
-const WORDS: [&str; 100] = [
+const WORDS: [&str; 103] = [
     "protected", "unprotected", "header", "encrypted_key", "recipients", "iv", "aad", "ciphertext", "tag", "alg", "enc", "zip",
     "kid", "typ", "cty", "jku", "jwk", "x5u", "x5c", "x5t", "x5t#S256", "crit", "epk", "apu", "apv", "p2s", "p2c", "x", "exp",
     "RSA1_5", "RSA-OAEP", "RSA-OAEP-256", "A128KW", "A192KW", "A256KW", "A128GCMKW", "A192GCMKW", "A256GCMKW",
     "PBES2-HS256+A128KW", "PBES2-HS384+A192KW", "PBES2-HS512+A256KW", "ECDH-ES", "ECDH-ES+A128KW", "ECDH-ES+A192KW",
     "ECDH-ES+A256KW", "dir", "A128CBC-HS256", "A192CBC-HS384", "A256CBC-HS512", "A128GCM", "A192GCM", "A256GCM", "DEF",
     "\"alg\":\"dir\"", "\"enc\":\"A128GCM\"", "\"crit\":[\"x\"]", "\"x\":1", "\"zip\":\"DEF\"", "\"recipients\":[{},{}]",
+    "\"enc\":\"A256GCM\"", "{\"header\":{\"alg\":\"dir\",\"enc\":\"A128GCM\"}}", "{\"header\":{\"alg\":\"dir\",\"enc\":\"A256GCM\"}}",
     "\"header\":{\"kid\":\"1\"}", "\"unprotected\":{\"alg\":\"dir\"}", "\"encrypted_key\":\"AA\"", "\"iv\":\"AA\"", "\"tag\":\"AAA\"",
     "{}", "[]", "{\"a\":0}", "[[[[[[", "]]]]]]", "\"\"", "\"", ",", ":", ".", "true", "false", "null", "0", "-1.5e+3", "1E", "-",
     "\\u0061", "\\u00e9", "\\u20ac", "\\ud834\\udd1e", "\\ud834", "\\udd1e", "\\\"", "\\\\", "\\n", "\\/", "\u{e9}", "\u{20ac}", "\u{1d11e}", " ", "\t\r\n",

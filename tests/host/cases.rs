@@ -378,6 +378,7 @@ pub fn all() -> Vec<Case> {
     cases.compact_texts();
     cases.compact_headers();
     cases.json();
+    cases.contents();
     cases.colliding();
     cases.escaped_values();
     cases.0

@@ -85,7 +85,7 @@ fn mismatch(what: &str, inputs: &[&[u8]], expected: String, got: String) -> ! {
 
 /// How often each number was answered.
 #[derive(Default)]
-struct Counts([u64; 21]);
+struct Counts([u64; 22]);
 
 impl Counts {
     fn report(&self, name: &str) {
@@ -363,7 +363,7 @@ pub fn compare(random: &mut Random) -> bool {
     let [written, read, _] = exports.round_trips;
     println!("round trips: {written} compact messages written and read, {read} read and written");
     let met = |counts: &Counts, numbers: &[u32]| numbers.iter().all(|number| counts.0[*number as usize] > 0);
-    let from_3: Vec<u32> = (3..20).collect();
+    let from_3: Vec<u32> = (3..20).chain([21]).collect();
     let json = json_exports::compare(&mut exports, random);
     json && met(&exports.judge, &from_3) && met(&exports.component, &from_3) && met(&exports.write, &WRITER_REFUSALS)
 }

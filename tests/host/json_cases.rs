@@ -150,7 +150,7 @@ impl Cases {
         self.refused(8, "8 of the last own header before 13", json(&format!(r#""recipients":[{{}},{{"header":{full}}}]"#)));
     }
 
-    /// 12 to 19 on JSON messages.
+    /// 12 to 19 on JSON messages, and 21, of which `contents` has more.
     fn recipients(&mut self) {
         use Expected::{Accepted, Refused};
         self.refused(12, "protected and shared", flat(r#""unprotected":{"\u0061lg":"dir"}"#));
@@ -200,7 +200,7 @@ impl Cases {
         self.call(Refused(19), "recipient 1 of a flattened message", Call { recipient: 1, ..Call::new(T10) });
         self.call(Refused(19), "recipient 8 of 8", Call { recipient: 8, ..Call::new(general(&["{}"; 8].join(","))) });
         self.call(Refused(19), "2^24", Call { recipient: 1 << 24, ..Call::new(T10) });
-        self.accepted(2, 2, 5, "enc may differ", json(
+        self.refused(21, "enc differs", json(
             r#""recipients":[{"header":{"alg":"dir","enc":"A128GCM"}},{"header":{"alg":"dir","enc":"A256GCM"}}]"#,
         ));
     }

@@ -1,4 +1,7 @@
-//! What JSON messages are written of, by hand, each with the text or the refusal that request 1 of document 02 gives it.
+//! What JSON messages are written of, by hand, each with the text or the refusal that requests 1 and 2 of document 02 give it.
+
+#[path = "content_write_cases.rs"]
+mod content_write_cases;
 
 use crate::jwe::colliding;
 use crate::jwe::pieces::{table, Pieces};
@@ -320,6 +323,7 @@ pub fn all() -> Vec<Case> {
     cases.texts();
     cases.numbers();
     cases.orders();
+    cases.contents();
     cases.colliding();
     cases.0
 }
@@ -355,6 +359,9 @@ pub fn long(length: impl Fn(&Pieces) -> usize) -> Vec<(&'static str, Pieces, u32
     add("8, 16 MiB", LONGEST, 8, flattened(&members(33), ""));
     add("2 before 10", LONGEST + 1, 2, flattened("{}", ""));
     add("2 before 18", LONGEST + 1, 2, pieces(false, &header(), x, &[["", "\0"]]));
+    let two = [[r#"{"alg":"dir","enc":"A128GCM"}"#, ""], [r#"{"alg":"dir","enc":"A256GCM"}"#, ""]];
+    add("2 before 21", LONGEST + 1, 2, pieces(true, "", x, &two));
+    add("21, 16 MiB", LONGEST, 21, pieces(true, "", x, &two));
     add("6 before 2", LONGEST + 1, 6, pieces(false, &" ".repeat(4097), x, &[["", ""]]));
     add("20 before 2", LONGEST + 1, 20, pieces(false, &header(), x, &[["", ""], ["", ""]]));
     add("3 before 2", LONGEST + 1, 3, with_known(b"", flattened(x, "")));

@@ -79,7 +79,7 @@ pub fn text(reference: &Reference, pieces: &Pieces, recipients: &[Recipient]) ->
     object(members)
 }
 
-/// The second writer: 3; 20; 6; 7 on each text by itself; 2; the reader's over the whole; 1.
+/// The second writer: 3; 20; 6; 7 on each text by itself; 2; the reader's over the whole, 21 among them; 1.
 pub fn write(reference: &Reference, pieces: &Pieces, room: usize) -> Result<Vec<u8>, u32> {
     if second::read(M, &pieces.known, 0, HEADER, LIST).refusal != 0 {
         return Err(3);

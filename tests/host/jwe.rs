@@ -7,6 +7,7 @@
 pub mod cases;
 pub mod colliding;
 mod colliding_cases;
+mod content_cases;
 mod json_cases;
 pub mod messages;
 mod parameters;
@@ -66,6 +67,8 @@ const LONGEST: usize = 16 << 20;
 /// A message is at times some octets longer than the longest one.
 const OVER: usize = 1000;
 const RESULT: usize = 18;
+/// The answers are 0 and the refusals up to 21.
+pub const NUMBERS: usize = 22;
 const FORMS: [&str; 3] = ["compact", "flattened", "general"];
 
 /// What is lent for one reading.
@@ -124,7 +127,7 @@ pub struct Comparer<'a> {
     canary: Vec<u8>,
     calls: usize,
     /// Messages made by chance, by refusal and form.
-    counts: [[u64; 3]; 20],
+    counts: [[u64; 3]; NUMBERS],
 }
 
 impl<'a> Comparer<'a> {
@@ -139,7 +142,7 @@ impl<'a> Comparer<'a> {
             result: Lent::new(ROOM),
             canary: (0..3 * ROOM).map(|_| random.next() as u8).collect(),
             calls: 0,
-            counts: [[0; 3]; 20],
+            counts: [[0; 3]; NUMBERS],
         }
     }
 
@@ -307,20 +310,20 @@ impl<'a> Comparer<'a> {
         self.counts[answer.refusal as usize][form] += 1;
     }
 
-    /// Prints how often each number was given for each form. Answers whether each was that is possible.
+    /// Prints how often each number was given for each form. Answers whether each was that is possible, and no other.
     fn report(&self) -> bool {
         println!("{:>7} {:>10} {:>10} {:>10}", "refusal", FORMS[0], FORMS[1], FORMS[2]);
         let mut all = true;
         for (refusal, row) in self.counts.iter().enumerate() {
             println!("{refusal:>7} {:>10} {:>10} {:>10}", row[0], row[1], row[2]);
             for (form, count) in row.iter().enumerate() {
-                // What no message of the form can get.
-                let never = match form {
-                    0 => [10, 11, 12, 16].contains(&refusal),
-                    1 => [4, 11].contains(&refusal),
-                    _ => refusal == 4,
+                // What no message of the form can get: 20 is a writer's, and for 21 there have to be two recipients.
+                let never: &[usize] = match form {
+                    0 => &[10, 11, 12, 16, 20, 21],
+                    1 => &[4, 11, 20, 21],
+                    _ => &[4, 20],
                 };
-                all &= never || *count > 0;
+                all &= never.contains(&refusal) != (*count > 0);
             }
         }
         all

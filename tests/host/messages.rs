@@ -9,6 +9,8 @@ use crate::writer::{damage, Writer};
 /// Members: what a name says, and the text of its value.
 pub type Object = Vec<(String, Vec<u8>)>;
 
+/// Refusals of which a fault can be put in, in the reader's order.
+const FAULTS: [u32; 20] = [1, 2, 3, 4, 5, 6, 7, 8, 9, 10, 11, 12, 13, 14, 15, 16, 17, 18, 21, 19];
 const IGNORED: [&str; 8] = ["x", "alg", "enc", "Protected", "protected ", "", "key", "recipient"];
 /// Names that the top level knows, and names in an element, of which it knows the first two.
 const TOP: [&str; 9] =
@@ -344,14 +346,17 @@ pub fn maker<'a>(
 }
 
 fn made_in(form: usize, random: &mut Random, reference: &Reference) -> (usize, Call) {
-    // Of two faults the second is often one of the next numbers, so that their order shows.
-    let (mut faults, mut number) = (0, 0);
+    // Of two faults the second is often one of the next, so that their order shows.
+    let (mut faults, mut last) = (0u32, FAULTS.len());
     for _ in 0..[0, 0, 1, 1, 2, 2, 2, 3][random.below(8)] {
-        number = if number > 0 && random.below(2) == 0 { number + random.below(4) } else { 1 + random.below(19) };
-        faults |= 1 << number.min(19);
+        let near = last < FAULTS.len() && random.below(2) == 0;
+        last = if near { (last + random.below(4)).min(FAULTS.len() - 1) } else { random.below(FAULTS.len()) };
+        faults |= 1 << FAULTS[last];
     }
     let recipients = match form {
         2 if faults >> 11 & 1 == 1 => 8 + random.below(4),
+        // Only where there are two can they differ.
+        2 if faults >> 21 & 1 == 1 => [2, 2, 3, 2 + random.below(7)][random.below(4)],
         2 => [1, 1, 2, 2, 3, 1 + random.below(8)][random.below(6)],
         _ => 1,
     };

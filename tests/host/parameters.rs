@@ -77,7 +77,11 @@ impl Maker<'_> {
 
     fn sound_headers(&mut self) {
         let recipients = self.owns.len();
-        let (for_alg, for_enc) = (self.any_origin(), self.any_origin());
+        let (for_alg, mut for_enc) = (self.any_origin(), self.any_origin());
+        if self.wants(21) && self.form == 2 && self.chance(14) {
+            for_enc = 2;
+        }
+        let encs = self.encs(recipients);
         let shared_alg = if self.chance(8) { self.pick(&KEYLESS) } else { self.pick(&KEYED) };
         for i in 0..recipients {
             let own_alg = if self.chance(8) { self.pick(&KEYLESS) } else { self.pick(&KEYED) };
@@ -87,8 +91,7 @@ impl Maker<'_> {
                 self.owns[i].push(("alg".into(), value));
             }
             if for_enc == 2 {
-                let enc = self.pick(&ENCS);
-                let value = self.quoted(enc);
+                let value = self.quoted(encs[i]);
                 self.owns[i].push(("enc".into(), value));
             }
             self.keys[i] = if KEYLESS.contains(&alg) { Vec::new() } else { self.component() };
@@ -98,8 +101,7 @@ impl Maker<'_> {
             self.header(for_alg).push(("alg".into(), value));
         }
         if for_enc < 2 {
-            let enc = self.pick(&ENCS);
-            let value = self.quoted(enc);
+            let value = self.quoted(encs[0]);
             self.header(for_enc).push(("enc".into(), value));
         }
         self.more_parameters();
@@ -107,6 +109,21 @@ impl Maker<'_> {
             let value = self.quoted("DEF");
             self.protected.push(("zip".into(), value));
         }
+    }
+
+    /// The recipients' content algorithms: one for all; or, as a fault, another for one of them, or any for each.
+    fn encs(&mut self, recipients: usize) -> Vec<&'static str> {
+        let mut encs = vec![self.pick(&ENCS); recipients];
+        if self.wants(21) {
+            let odd = self.random.below(recipients);
+            let all = self.chance(4);
+            for i in 0..recipients {
+                if all || i == odd {
+                    encs[i] = self.pick(&ENCS);
+                }
+            }
+        }
+        encs
     }
 
     /// Names of which a recipient has each once, and which two recipients may both have.

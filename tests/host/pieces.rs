@@ -39,7 +39,7 @@ pub fn table<T: AsRef<[u8]>>(recipients: &[[T; 2]]) -> Vec<u8> {
 }
 
 /// Refusals of which a fault can be put in, in the writer's order.
-const FAULTS: [u32; 14] = [3, 20, 6, 7, 8, 9, 10, 12, 13, 14, 15, 16, 17, 18];
+const FAULTS: [u32; 15] = [3, 20, 6, 7, 8, 9, 10, 12, 13, 14, 15, 16, 17, 18, 21];
 
 /// What comes behind an object, or around it, and would go on where the text stands.
 const GOING_ON: [&[u8]; 8] = [
@@ -150,7 +150,11 @@ pub fn made_pieces(random: &mut Random, reference: &Reference) -> Pieces {
         faults |= 1 << FAULTS[last];
     }
     let form = 1 + random.below(2);
-    let some = [1, 1, 2, 2, 3, 1 + random.below(9)][random.below(6)];
+    let mut some = [1, 1, 2, 2, 3, 1 + random.below(9)][random.below(6)];
+    // Only where there are two can they differ.
+    if faults >> 21 & 1 == 1 && some == 1 {
+        some = 2;
+    }
     let recipients = if faults >> 20 & 1 == 1 || form == 2 && some < 9 { some } else { 1 };
     maker(form, faults, recipients, random, reference).pieces()
 }

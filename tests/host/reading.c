@@ -203,6 +203,33 @@ static void recipients(void)
     refused_with("18 before 19", JWE_KEY, TEXT(H ".AA.AA.AQID.Ag"), NO_NAMES, 1);
 }
 
+/* Own headers with `enc`: the same for all, however it is spelled, or 21, whomever is asked for. */
+#define SEALED(enc) "{\"header\":{\"alg\":\"dir\",\"enc\":\"" enc "\"}}"
+#define SEALED_FOR(elements) "{\"ciphertext\":\"AQID\",\"recipients\":[" elements "]}"
+
+static void content_algorithms(void)
+{
+    struct answer answer = {
+        .result = {0, 2, 2, 5, 0, 0, 0, 0, 0, 0, 0, 0, 15, 4, 0, 0, 0, 2},
+        .header = TEXT(""),
+        .list = {2, 47, 3, 52, 5, 2, 2, 59, 3, 64, 9, 2},
+        .components = {TEXT(""), TEXT(""), TEXT(""), TEXT(""), TEXT("\1\2\3"), TEXT("")},
+    };
+    struct text same = TEXT(SEALED_FOR(SEALED("A128GCM") "," SEALED("A128GC\\u004d")));
+    asks((struct asked){"the same enc, recipient 0", same, NO_NAMES, 0}, answer);
+    const uint32_t second[] = {2, 88, 3, 93, 5, 2, 2, 100, 3, 105, 14, 2};
+    memcpy(answer.list, second, sizeof second);
+    asks((struct asked){"the same enc, recipient 1", same, NO_NAMES, 1}, answer);
+    refused_with("19, the same enc", JWE_NO_SUCH_RECIPIENT, same, NO_NAMES, 2);
+    struct text other = TEXT(SEALED_FOR(SEALED("A128GCM") "," SEALED("A128GCM") "," SEALED("A256GCM")));
+    for (uint32_t recipient = 0; recipient < 4; recipient++)
+        refused_with("21, and 21 before 19", JWE_CONTENT_ALGORITHMS_DIFFER, other, NO_NAMES, recipient);
+    refused("21, the first differs", JWE_CONTENT_ALGORITHMS_DIFFER,
+            TEXT(SEALED_FOR(SEALED("A\\u003192GCM") "," SEALED("A128GCM"))));
+    refused("13 of the last before 21", JWE_NO_ALG_OR_ENC, TEXT(SEALED_FOR(SEALED("A128GCM") "," SEALED("A256GCM") ",{}")));
+    refused("15 before 21", JWE_UNLISTED, TEXT(SEALED_FOR(SEALED("A128GCM") "," SEALED("A128GC\\u004e"))));
+}
+
 /* The numbers that the samples leave out, on the shortest messages that get them. T10 has room for another member. */
 static void every_number(void)
 {
@@ -325,6 +352,7 @@ int main(int argc, char **argv)
 {
     samples();
     recipients();
+    content_algorithms();
     every_number();
     sizes();
     if (!is_short(argc, argv)) {

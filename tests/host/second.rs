@@ -1,7 +1,8 @@
-//! A second reader of JWE messages, written from document 01. A JSON text becomes one tree that owns what it says: tokens
-//! go on a stack, and each closing bracket folds what lies above its opening one into a value. Document 01's rules are
-//! then asked of whole trees, one after the other in its order. Base64url is decoded octet by octet, from the two
-//! characters that the octet's bits lie in. It shares no code with the other second readers here.
+//! A second reader of JWE messages, written from document 01 and request 2 of document 02. A JSON text becomes one tree
+//! that owns what it says: tokens go on a stack, and each closing bracket folds what lies above its opening one into a
+//! value. The rules are then asked of whole trees, one after the other in document 01's order. Base64url is decoded
+//! octet by octet, from the two characters that the octet's bits lie in. It shares no code with the other second
+//! readers here.
 
 const LONGEST: usize = 16_777_216;
 const HEADER: usize = 4096;
@@ -356,7 +357,13 @@ impl Recipient<'_> {
     }
 }
 
-/// All recipients in turn, then 19; and what is handed out for the one asked for.
+/// Whether two recipients have different values of `enc`, each pair compared by what the strings say.
+fn contents_differ(all: &[Recipient]) -> bool {
+    let encs: Vec<&str> = all.iter().filter_map(|recipient| recipient.find("enc")?.string()).collect();
+    encs.iter().any(|one| encs.iter().any(|other| one.chars().ne(other.chars())))
+}
+
+/// All recipients in turn, 21, then 19; and what is handed out for the one asked for.
 fn judge_recipients(
     all: &[Recipient],
     asked: u32,
@@ -366,6 +373,7 @@ fn judge_recipients(
     header: Vec<u8>,
 ) -> Judged<Answer> {
     let modes = all.iter().map(|recipient| recipient.judge(known)).collect::<Judged<Vec<u32>>>()?;
+    refuse_if(21, contents_differ(all))?;
     let recipient = all.get(asked as usize).ok_or(19u32)?;
     let mut list = Vec::new();
     for (origin, members) in recipient.headers.iter().enumerate() {

@@ -255,6 +255,30 @@ static void refused(void)
                 ",\"recipients\":[{}]," REST));
 }
 
+/* Own headers of 29 octets with `enc`: the same for all or 21, which only the general form can get. */
+#define OTHER_HEADER "{\"alg\":\"dir\",\"enc\":\"A256GCM\"}"
+#define OWN LENGTHS("\35", "\0")
+#define TWO_OWN TEXT("\2" OWN OWN HEADER OTHER_HEADER)
+
+static void content_algorithms(void)
+{
+    struct inputs bare = with_headers(TEXT(""), TEXT(""));
+    writes("the same enc", GENERAL, and(bare, RECIPIENTS, TEXT("\2" OWN OWN HEADER HEADER)),
+           TEXT("{\"recipients\":[{\"header\":" HEADER "},{\"header\":" HEADER "}]," REST));
+    writes("enc of one", FLATTENED, and(bare, RECIPIENTS, TEXT("\1" OWN OTHER_HEADER)),
+           TEXT("{\"header\":" OTHER_HEADER "," REST));
+    refuses_in("21", GENERAL, JWE_CONTENT_ALGORITHMS_DIFFER, and(bare, RECIPIENTS, TWO_OWN));
+    refuses_in("21, the last of three", GENERAL, JWE_CONTENT_ALGORITHMS_DIFFER,
+               and(bare, RECIPIENTS, TEXT("\3" OWN OWN OWN HEADER HEADER OTHER_HEADER)));
+    refuses_in("20 of a flattened message before 21", FLATTENED, JWE_RECIPIENTS_MALFORMED, and(bare, RECIPIENTS, TWO_OWN));
+    refuses_in("12 before 21", GENERAL, JWE_NAME_IN_TWO_HEADERS,
+               and(with_headers(TEXT(""), TEXT("{\"alg\":\"dir\"}")), RECIPIENTS, TWO_OWN));
+    refuses_in("13 of the last before 21", GENERAL, JWE_NO_ALG_OR_ENC,
+               and(bare, RECIPIENTS, TEXT("\3" OWN OWN NONE HEADER OTHER_HEADER)));
+    refuses_in("18 of the last before 21", GENERAL, JWE_KEY,
+               and(bare, RECIPIENTS, TEXT("\3" OWN OWN LENGTHS("\35", "\1") HEADER OTHER_HEADER HEADER "\0")));
+}
+
 /* Both faults. */
 static void orders(void)
 {
@@ -394,6 +418,7 @@ int main(int argc, char **argv)
     accepted();
     tables();
     refused();
+    content_algorithms();
     orders();
     there_and_back();
     if (!is_short(argc, argv)) {

@@ -57,7 +57,7 @@ unfolding any
 any-same f g e [] = refl
 any-same f g e (x ∷ xs) = ap₂ _||_ (e x) (any-same f g e xs)
 
-any-made : {A B : Type 0} (h : A → B) (f : B → Bool) (xs : List A) → any (λ x. f (h x)) xs ≡ any f (map h xs)
+pub any-made : {A B : Type 0} (h : A → B) (f : B → Bool) (xs : List A) → any (λ x. f (h x)) xs ≡ any f (map h xs)
 unfolding any
 any-made h f [] = refl
 any-made h f (x ∷ xs) = ap (_||_ (f (h x))) (any-made h f xs)

@@ -15,7 +15,7 @@ use Rattle.grammar.proofs.Scan.{T→true}
 use Rattle.prelude.specs.Any.{any}
 use Rattle.rows.specs.Rows.{Entry, Texts, textOf, spelledValue, valueIn, numbered, present, having}
 use Rattle.rows.specs.Tables.{firstOf, entriesOf, width}
-use Rattle.rows.proofs.Asking.{having-found, having-done}
+use Rattle.rows.proofs.Asking.{having-found, having-done, isSome, present-having}
 use Rattle.rows.proofs.Printing.{StandIn}
 use Rattle.jose.specs.Registered.{enc, string}
 use Rattle.jose.specs.ContentAlgorithm.{soleString, contentAlgorithm, differ, differing}
@@ -81,25 +81,18 @@ having-append n (e ∷ es) fs = cases (numbered n e) (having-append n es fs)
     cases false h = h
 
 having-none : (n : ℕ) (es : List Entry) → present n es ≡ false → having n es ≡ []
-unfolding having present any
-having-none n [] h = refl
-having-none n (e ∷ es) h = cases (numbered n e) h (having-none n es)
+having-none n es h = cases (having n es) (sym (present-having n es) ∙ h)
   where
-    cases : (b : Bool) → (b || any (numbered n) es) ≡ false → (any (numbered n) es ≡ false → having n es ≡ []) →
-        cond b (e ∷ having n es) (having n es) ≡ []
-    cases true h later = absurd (true≢false h)
-    cases false h later = later h
+    cases : (fs : List Entry) → isSome fs ≡ false → fs ≡ []
+    cases [] e = refl
+    cases (f ∷ fs) e = absurd (true≢false e)
 
 having-some : (n : ℕ) (es : List Entry) → present n es ≡ true → (e : Entry) × (rest : List Entry) × (having n es ≡ e ∷ rest)
-unfolding having present any
-having-some n [] h = absurd (true≢false (sym h))
-having-some n (e ∷ es) h = cases (numbered n e) h (having-some n es)
+having-some n es h = cases (having n es) (sym (present-having n es) ∙ h)
   where
-    cases : (b : Bool) → (b || any (numbered n) es) ≡ true →
-        (any (numbered n) es ≡ true → (f : Entry) × (rest : List Entry) × (having n es ≡ f ∷ rest)) →
-        (f : Entry) × (rest : List Entry) × (cond b (e ∷ having n es) (having n es) ≡ f ∷ rest)
-    cases true h later = (e, having n es, refl)
-    cases false h later = later h
+    cases : (fs : List Entry) → isSome fs ≡ true → (e : Entry) × (rest : List Entry) × (fs ≡ e ∷ rest)
+    cases [] e = absurd (true≢false (sym e))
+    cases (f ∷ fs) e = (f, fs, refl)
 
 having-every : (P : Entry → Type 0) (n : ℕ) (es : List Entry) → Every P es → Every P (having n es)
 unfolding having

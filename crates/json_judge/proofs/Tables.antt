@@ -4,7 +4,7 @@ use mathlib.Core.Bool.{Bool, true, false, cond}
 use mathlib.Core.List.{List, [], _∷_, _++_, append-assoc}
 use Prim.Native.Nat.{ℕ, _+_, _*_, _≤_}
 use native.Mathlib.Omega.{arith}
-use lib.ListN.{length}
+use lib.ListN.{length, drop}
 use lib.Dec.{leb}
 use borrow.Author.Tests.{leb-true}
 use Rattle.prelude.specs.Buffer.{written}
@@ -14,7 +14,7 @@ use Rattle.prelude.specs.declared.Stage.the-variants.{Passed}
 use Rattle.rows.specs.Rows.{Entry, Texts, texts, textOf}
 use Rattle.rows.specs.Tables.{entriesOf, width}
 use Rattle.rows.specs.Inner.Prints.{flat, collectedTable, Printed}
-use Rattle.rows.proofs.Entries.{flat-length, entries-front, entries-more}
+use Rattle.rows.proofs.Entries.{flat-length, entries-front, entries-more, entries-written-from}
 use Rattle.rows.proofs.Printing.{StandIn, entries-stand, printed-kept, printed-more, printed-written}
 use Rattle.jose.specs.Registered.{registered}
 use Rattle.headers.specs.Headers.{outermost, protectedEntries, objectOrder}
@@ -97,6 +97,11 @@ module _ (header shared : List ℕ) (front : ℕ) (before : List ℕ) (f : Front
         ∙ entries-more front own (textEntries 2 own) before (omega (arith, room))
         ∙ ap (λ (l : List Entry). l ++ textEntries 2 own) (f .entries)
         ∙ append-assoc (protectedEntries header) (textEntries 1 shared) (textEntries 2 own)
+
+    pub own-entries : entriesOf n (drop (front * width) last) ≡ textEntries 2 own
+    own-entries =
+        ap₂ (λ (k : ℕ) (l : List ℕ). entriesOf k (drop (front * width) l)) (c .count) (c .wrote)
+        ∙ entries-written-from front own (textEntries 2 own) before (omega (arith, room))
 
     pub all-printed : Printed (texts header shared own) (front + n) last
     all-printed =

@@ -11,6 +11,8 @@ ghost use Rattle.prelude.specs.Refusals.{first, stageOf};
 ghost use Rattle.names.specs.Names.{names, filled};
 ghost use Rattle.rows.specs.Tables.{headerTable, width};
 ghost use Rattle.rows.specs.Inner.Prints.{collectedTable};
+ghost use Rattle.jose.specs.ContentAlgorithm.{differ};
+ghost use Rattle.jose.specs.Inner.Content.{namedIn, shownIn};
 ghost use Rattle.headers.specs.Headers.{objectOrder};
 ghost use Rattle.recipients.specs.Parsed.{recipientsIn, saidCount, soundTable};
 ghost use Rattle.json_message.specs.Handed.{textEntries};
@@ -22,6 +24,8 @@ ghost use Rattle.json_judge.specs.Inner.Asked.{Readable, OwnReadable, Ow
 ghost use Rattle.json_judge.specs.Inner.Asked.{ownTests, rulesTests, recipientsTests, parametersTests};
 ghost use Rattle.json_judge.specs.Inner.Asked.{overTests, withinTests};
 use jose::Sizes;
+use jose::content::Named;
+use jose::lists::ENC;
 use json::Found;
 use json::Position;
 use prelude::Stage;
@@ -126,10 +130,12 @@ fn number(stage: Stage) -> u32
     n
 }
 
-// What a recipient is refused for: 8 or 9 on its own header, and, where that passes, 12 to 18. 0 where for nothing.
+// What a recipient is refused for: 8 or 9 on its own header, and, where that passes, 12 to 18. 0 where for nothing. And where the
+// content algorithm of its own header stands.
 struct Faults {
     object: u32,
     rules: u32,
+    content: Named,
 }
 
 // A recipient with this own header and these sizes judged. The first entries of the table are all recipients', and
@@ -150,6 +156,7 @@ fn judge_recipient(
     ensures { λ r. ⌜ r .object ≡ first (ownTests (now (own .entry))) ⌝ }
     ensures { λ r. ⌜ (r .object ≡ 0 → r .rules ≡ first
         (rulesTests (names (now (known .entry))) (now (header .entry)) (now (shared .entry)) (now (own .entry)) sizes)) ⌝ }
+    ensures { λ r. ⌜ (r .object ≡ 0 → r .content ≡ namedIn (textEntries 2 (now (own .entry)))) ⌝ }
     ensures { λ _. ⌜ (length (now (table .exit)) ≡ length (now (table .entry)))
         × Front (now (header .entry)) (now (shared .entry)) front (now (table .exit)) ⌝ }
 {
@@ -158,12 +165,15 @@ fn judge_recipient(
         return Faults {
             object: number(collected),
             rules: 0,
+            content: Named::Nothing,
         };
     };
     let judged = jose::judge::judge(header, shared, own, known, table, front + count, sizes);
+    let start = front * rows::layout::WIDTH;
     Faults {
         object: 0,
         rules: number(judged),
+        content: jose::content::sole(&table[start..], count),
     }
 }
 
@@ -174,8 +184,36 @@ fn earlier(a: u32, b: u32) -> u32
     if a == 0 { b } else { a }
 }
 
-// 8 and 9 on each recipient's own header, and 12 to 18 on each recipient. Each own header is collected once: while the
-// later ones are asked for 8 and 9, the first refusal of an earlier recipient waits.
+// Where the first recipient's content algorithm stands, behind recipient i.
+fn first_content(i: usize, so_far: Named, its: Named) -> Named
+    ensures { λ r. ⌜ r ≡ cond (eqb i 0) its «so_far» ⌝ }
+{
+    if i == 0 { its } else { so_far }
+}
+
+// 21 where a recipient's content algorithm differs from the first one's, each in its own header.
+fn content_fault(first: &[u8], named: Named, own: &[u8], its: Named) -> u32
+    ensures { λ r. ⌜ r ≡ cond (differ (shownIn (now (first .entry)) named) (shownIn (now (own .entry)) its)) 21 0 ⌝ }
+{
+    if jose::content::differ(first, named, own, its) {
+        return 21;
+    }
+    0
+}
+
+// The refusal of all recipients: the first one by the rules, and then 21 on their own headers, unless a header that all share has
+// `enc`.
+fn fault_of_all(rules: u32, shared: bool, content: u32) -> u32
+    ensures { λ r. ⌜ r ≡ cond (eqb rules 0) (cond shared 0 content) rules ⌝ }
+{
+    if rules != 0 {
+        return rules;
+    }
+    if shared { 0 } else { content }
+}
+
+// 8 and 9 on each recipient's own header, 12 to 18 on each recipient, and 21 on all. Each own header is collected once: while the
+// later ones are asked for 8 and 9, the first refusal of an earlier recipient waits, and so does 21.
 fn judge_recipients(
     header: &[u8],
     shared: &[u8],
@@ -196,8 +234,13 @@ fn judge_recipients(
         sizes (recipientsIn (now (recipients .entry))))) n ⌝ }
     ensures { λ _. ⌜ length (now (table .exit)) ≡ length (now (table .entry)) ⌝ }
 {
+    let has_enc = rows::ask::present(table, front, ENC);
     let mut broken: u32 = 0;
+    let mut content: u32 = 0;
+    let mut named = Named::Nothing;
     let mut start = 1 + 8 * n;
+    let head = recipients::recipient(recipients, 0, start);
+    let first = parts::part(recipients, head.header.start, head.header.len);
     let mut i: usize = 0;
     while i < n {
         let body = recipients::recipient(recipients, i, start);
@@ -213,16 +256,20 @@ fn judge_recipients(
             return Stage::Refused(faults.object);
         }
         broken = earlier(broken, faults.rules);
+        let at = faults.content;
+        named = first_content(i, named, at);
+        content = earlier(content, content_fault(first, named, own, at));
         start = body.key.start + body.key.len;
         i += 1;
     }
-    if broken != 0 {
-        return Stage::Refused(broken);
+    let refusal = fault_of_all(broken, has_enc, content);
+    if refusal != 0 {
+        return Stage::Refused(refusal);
     }
     Stage::Passed(n)
 }
 
-// 8 and 9 on all texts, and 12 to 18 on each recipient.
+// 8 and 9 on all texts, 12 to 18 on each recipient, and 21 on all.
 fn judge_parameters(
     header: &[u8],
     shared: &[u8],

@@ -1,4 +1,4 @@
--- Refusals 8, 9 and 12 to 18 on headers that stand in a message are those on their texts.
+-- Refusals 8, 9, 12 to 18 and 21 on headers that stand in a message are those on their texts.
 use mathlib.Core.Path.{_≡_, refl, sym, ap, ap₂, _∙_}
 use mathlib.Core.List.{List, [], _∷_, _++_, map}
 use mathlib.Core.Bool.{false}
@@ -13,11 +13,13 @@ use Rattle.grammar.specs.Grammar.{curly}
 use Rattle.grammar.specs.Places.{Member}
 use Rattle.grammar.specs.Reader.{skipSpace}
 use Rattle.json.proofs.Within.{members-within}
-use Rattle.rows.specs.Rows.{Texts, texts, readTexts, oneText, textOf, spelledName, spelledValue, entriesIn}
+use Rattle.rows.specs.Rows.{Entry, Texts, texts, readTexts, oneText, textOf, spelledName, spelledValue, entriesIn}
 use Rattle.jose.specs.declared.Sizes.{Sizes}
 use Rattle.jose.specs.Registered.{registered}
 use Rattle.jose.specs.HeaderRules.{recipientOrder}
+use Rattle.jose.specs.ContentAlgorithm.{contentAlgorithm}
 use Rattle.jose.proofs.Alike.{Alike, Beside, repeated-same, order-same}
+use Rattle.jose.proofs.ContentAlgorithm.{content-same}
 use Rattle.headers.specs.Headers.{outermost, protectedEntries, objectOrder}
 use Rattle.json_text.specs.Moved.{movedMember}
 use Rattle.json_text.proofs.Embedded.{Stands}
@@ -100,21 +102,33 @@ protected-alike header s shared own (x ∷ ms) = (
   protected-alike header s shared own ms,
 )
 
--- The parameters of a recipient in the message, by the three texts.
-pub recipient-pieces : (known : List (List ℕ)) (header s : List ℕ) (m n : ℕ) (shared own : List ℕ) →
-    StandsIf s m shared → StandsIf s n own → (sizes : Sizes) →
-    Agree (recipientOrder known (readTexts header s)
-    (protectedEntries header ++ (map (movedEntry m) (textEntries 1 shared) ++ map (movedEntry n) (textEntries 2 own)))
-    sizes)
-    (recipientOrder known (texts header shared own) (piecesEntries header shared own) sizes)
-unfolding protectedEntries piecesEntries
-recipient-pieces known header s m n shared own a b sizes =
-    let ts = readTexts header s in
-    let us = texts header shared own in
-    let z =
-    beside-append (Alike ts us) (entriesIn registered header 0 (outermost header)) _ _ _
-    (protected-alike header s shared own (outermost header))
-    (beside-append (Alike ts us) (map (movedEntry m) (textEntries 1 shared)) _ _ _
-    (text-alike ts us 0 s m shared refl refl a) (text-alike ts us 1 s n own refl refl b)) in
-    let same = agree-refl {xs = recipientOrder known us (piecesEntries header shared own) sizes} in
-    record { before = λ xs ys e. order-same known ts us _ _ sizes z xs ∙ same .before xs ys e }
+-- The parameters of a recipient in the message show what they do in the three texts.
+module _ (header s : List ℕ) (m n : ℕ) (shared own : List ℕ) (a : StandsIf s m shared) (b : StandsIf s n own) where
+  abbrev inMessage : List Entry
+  inMessage = protectedEntries header ++ (map (movedEntry m) (textEntries 1 shared) ++ map (movedEntry n) (textEntries 2 own))
+
+  pieces-alike : Beside (Alike (readTexts header s) (texts header shared own)) inMessage (piecesEntries header shared own)
+  unfolding protectedEntries piecesEntries
+  pieces-alike =
+      let ts = readTexts header s in
+      let us = texts header shared own in
+      beside-append (Alike ts us) (entriesIn registered header 0 (outermost header)) _ _ _
+      (protected-alike header s shared own (outermost header))
+      (beside-append (Alike ts us) (map (movedEntry m) (textEntries 1 shared)) _ _ _
+      (text-alike ts us 0 s m shared refl refl a) (text-alike ts us 1 s n own refl refl b))
+
+  -- So 12 to 18 on it are the same ..
+  pub recipient-pieces : (known : List (List ℕ)) (sizes : Sizes) →
+      Agree (recipientOrder known (readTexts header s) inMessage sizes)
+      (recipientOrder known (texts header shared own) (piecesEntries header shared own) sizes)
+  recipient-pieces known sizes =
+      let same = agree-refl {xs = recipientOrder known (texts header shared own) (piecesEntries header shared own) sizes} in
+      record {
+        before = λ xs ys e.
+            order-same known (readTexts header s) (texts header shared own) _ _ sizes pieces-alike xs ∙ same .before xs ys e;
+      }
+
+  -- .. and its content algorithm is.
+  pub content-pieces : contentAlgorithm (readTexts header s) inMessage
+      ≡ contentAlgorithm (texts header shared own) (piecesEntries header shared own)
+  content-pieces = content-same (readTexts header s) (texts header shared own) _ _ pieces-alike

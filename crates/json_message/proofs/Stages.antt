@@ -2,6 +2,7 @@
 use mathlib.Core.Path.{_≡_, refl, sym, ap, ap₂, subst, _∙_}
 use mathlib.Core.List.{List, [], _∷_, _++_, map, append-assoc, flatMap}
 use mathlib.Core.Bool.{Bool, true, false, _||_, cond}
+use mathlib.Core.Option.{Option}
 use Prim.Native.Nat.{ℕ, suc, _+_, _≤_, _<_}
 use native.Mathlib.Omega.{arith}
 use lib.ListN.{length}
@@ -23,6 +24,7 @@ use Rattle.rows.specs.Rows.{Entry, readTexts, present, valueOf, entriesIn}
 use Rattle.jose.specs.declared.Sizes.{Sizes}
 use Rattle.jose.specs.Registered.{registered}
 use Rattle.jose.specs.HeaderRules.{recipientOrder, isEmpty}
+use Rattle.jose.specs.ContentAlgorithm.{contentAlgorithm, differing}
 use Rattle.jose.proofs.Alike.{Beside}
 use Rattle.headers.specs.Components.{octetsAt, misspelled, sizesOf}
 use Rattle.headers.specs.Headers.{headerText, unread, textOrder, outermost, protectedEntries, membersOf, headerEntries}
@@ -32,20 +34,21 @@ use Rattle.shape.specs.Shape.{component, wrongTop, wrongElements}
 use Rattle.shape.specs.Recipients.{topOf, topEntries, topOrder, elementsIn, elementOrder, elementsOrder, recipientsIn}
 use Rattle.shape.specs.Recipients.{componentsIn}
 use Rattle.jwe.specs.General.{sharedEntries, ownEntries, parameters, allPlaces, anyMisspelled, isHollow, protectedOrder}
-use Rattle.jwe.specs.General.{headersOrder, recipientsOrder, jsonSpelled, jsonLater, jsonOrder}
+use Rattle.jwe.specs.General.{headersOrder, recipientsOrder, contentOf, contentOrder, jsonSpelled, jsonLater, jsonOrder}
 use Rattle.recipients.specs.Table.{RawRecipient}
 use Rattle.json_text.proofs.Made.{deepestField}
 use Rattle.json_message.specs.JsonText.{RawMessage}
 use Rattle.json_message.specs.Handed.{MessageOctets, textEntries, movedEntry, memberLists, isThere}
 use Rattle.json_message.specs.Inner.Judged.{Judged, sharedLevels, TextsJudged}
 use Rattle.json_message.specs.Inner.PiecesOrder.{unreadInside, hollowText, hollowInside, protectedTests}
-use Rattle.json_message.specs.Inner.PiecesOrder.{rawSizes, objectsOrder, rulesOf, parametersOrder, piecesOrder}
+use Rattle.json_message.specs.Inner.PiecesOrder.{rawSizes, objectsOrder, rulesOf, rawContent, contentTest}
+use Rattle.json_message.specs.Inner.PiecesOrder.{parametersOrder, piecesOrder}
 use Rattle.json_message.proofs.Readable.{Counts}
 use Rattle.json_message.proofs.Agree.{Agree, agree-refl, agree-same, agree-trans, agree-append, agree-before, agree-pass}
 use Rattle.json_message.proofs.Agree.{agree-test, agree-each, agree-or}
 use Rattle.json_message.proofs.Moving.{header-moved}
 use Rattle.json_message.proofs.FieldEntries.{or-none}
-use Rattle.json_message.proofs.Parameters.{StandsIf, order-moved, recipient-pieces}
+use Rattle.json_message.proofs.Parameters.{StandsIf, order-moved, recipient-pieces, content-pieces}
 use Rattle.json_message.proofs.Located.{startIf}
 use Rattle.json_message.proofs.Tables.{topFields}
 use Rattle.json_message.proofs.Elements.{RecipientIs, recipients-are, ElementIs, elements-agree, elements-objects}
@@ -107,6 +110,13 @@ tens true h rs n =
 tens false h [] n = absurd n
 tens false h (r ∷ []) n = agree-test 10 (ap (λ b. h || b) (sym (or-none (hollowText (r .header)))))
 tens false h (r ∷ s ∷ rs) n = absurd n
+
+map-beside : {A B C : Type 0} (R : A → B → Type 0) (f : A → C) (g : B → C) → ((x : A) (y : B) → R x y → f x ≡ g y) →
+    (xs : List A) (ys : List B) → Beside R xs ys → map f xs ≡ map g ys
+map-beside R f g h [] [] z = refl
+map-beside R f g h [] (y ∷ ys) z = absurd z
+map-beside R f g h (x ∷ xs) [] z = absurd z
+map-beside R f g h (x ∷ xs) (y ∷ ys) z = ap₂ _∷_ (h x y (z .0)) (map-beside R f g h xs ys (z .1))
 
 not-empty : {A : Type 0} (R : A → RawRecipient → Type 0) (f : List A → Bool) →
     ((x : A) (xs : List A) → f (x ∷ xs) ≡ false) → (xs : List A) (rs : List RawRecipient) → Beside R xs rs → 1 ≤ length rs →
@@ -266,6 +276,22 @@ module _ (general : Bool) (c : RawMessage) (o : MessageOctets c) (j : TextsJudge
       let tag = size-at shape.tag (c .tag) e (tag-at general c o j .size) in
       λ i. record { key = key i; iv = iv i; ciphertext = ciphertext i; tag = tag i }
 
+  -- 21
+
+  one-content : (q : shape.Recipient) (r : RawRecipient) → RecipientIs W q r →
+      contentOf (c .protected) W (topOf E) q ≡ rawContent c r
+  unfolding parameters
+  one-content q r h =
+      ap (λ (es : List Entry). contentAlgorithm (readTexts (c .protected) W) (protectedEntries (c .protected) ++ es))
+      (ap₂ _++_ shared-is (own-is q r h))
+      ∙ content-pieces (c .protected) W S (h .from) (c .shared) (r .header) shared-stands (h .stands)
+
+  stage-content : contentOrder (c .protected) W (topOf E) Q ≡ contentTest c ∷ []
+  unfolding contentOrder contentTest
+  stage-content =
+      ap (λ (l : List (Option (List ℕ))). 21 if differing 0 l ∷ [])
+      (map-beside (RecipientIs W) (contentOf (c .protected) W (topOf E)) (rawContent c) one-content Q (c .recipients) found)
+
   module _ (known : List (List ℕ)) where
     abbrev rulesIn : shape.Recipient → List Test
     rulesIn q =
@@ -279,7 +305,7 @@ module _ (general : Bool) (c : RawMessage) (o : MessageOctets c) (j : TextsJudge
         (agree-same (ap₂ (λ (es : List Entry) (z : Sizes).
         recipientOrder known (readTexts (c .protected) W) (protectedEntries (c .protected) ++ es) z)
         (ap₂ _++_ shared-is (own-is q r h)) (sizes-are q r h)))
-        (recipient-pieces known (c .protected) W S (h .from) (c .shared) (r .header) shared-stands (h .stands) (rawSizes c r))
+        (recipient-pieces (c .protected) W S (h .from) (c .shared) (r .header) shared-stands (h .stands) known (rawSizes c r))
 
     stage-recipients : Agree (recipientsOrder known (c .protected) W (topOf E) Q) (flatMap (rulesOf known c) (c .recipients))
     unfolding recipientsOrder
@@ -298,7 +324,8 @@ module _ (general : Bool) (c : RawMessage) (o : MessageOctets c) (j : TextsJudge
       laterWith header =
           protectedOrder (topOf E) header
           ++ (headersOrder header W (topOf E) Q
-          ++ (recipientsOrder known header W (topOf E) Q ++ (19 if leb (length Q) recipient ∷ [])))
+          ++ (recipientsOrder known header W (topOf E) Q
+          ++ (contentOrder header W (topOf E) Q ++ (19 if leb (length Q) recipient ∷ []))))
 
       later-is : jsonLater known W (topOf E) Q recipient ≡ laterWith (c .protected)
       unfolding jsonLater laterWith
@@ -311,7 +338,8 @@ module _ (general : Bool) (c : RawMessage) (o : MessageOctets c) (j : TextsJudge
           lt-leb (length Q) recipient (omega (arith, beside-length (RecipientIs W) Q (c .recipients) found)) in
           agree-trans (agree-same later-is)
           (agree-append (agree-same stage-protected)
-          (agree-append stage-headers (agree-before stage-recipients (agree-pass 19 asked))))
+          (agree-append stage-headers
+          (agree-append stage-recipients (agree-before (agree-same stage-content) (agree-pass 19 asked)))))
 
       pub reader-agrees : unread W ≡ unreadInside general c → Agree (jsonOrder W known recipient) (piecesOrder general known c)
       unfolding jsonOrder piecesOrder

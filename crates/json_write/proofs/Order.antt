@@ -27,7 +27,8 @@ use Rattle.json_message.specs.Handed.{textEntries, MessageOctets}
 use Rattle.json_message.specs.WriteOrder.{mostFor, unreadAlone, messageOrder}
 use Rattle.json_message.specs.JsonWrite.{RawJson, messageOf, writtenText, wrongTable, jsonWriteOrder, jsonWriteRefusal}
 use Rattle.json_message.specs.Inner.Judged.{sharedLevels, ownLevels}
-use Rattle.json_message.specs.Inner.PiecesOrder.{unreadInside, hollowInside, objectsOrder, rulesOf, parametersOrder}
+use Rattle.json_message.specs.Inner.PiecesOrder.{unreadInside, hollowInside, objectsOrder, rulesOf, contentTest}
+use Rattle.json_message.specs.Inner.PiecesOrder.{parametersOrder}
 use Rattle.json_message.specs.Inner.AskedOrder.{overOrder, laterOrder, withinOrder, askedOrder}
 use Rattle.json_message.proofs.Theorems.{write-by-pieces}
 use Rattle.json_judge.specs.Inner.Asked.{ownTests, unreadTexts, hollowTexts, overTests, withinTests, parametersTests, recipientsTests}
@@ -73,12 +74,12 @@ module _ (general : Bool) (c : RawJson) (known : List (List ℕ)) where
   over-stage k = sym (stages.refuses k over-nonzero)
 
   parameters-are : parametersOrder known (messageOf c) ≡ parametersTests known (c .protected) (c .shared) (sizesOf c) rs
-  unfolding parametersOrder objectsOrder parametersTests recipientsTests
+  unfolding parametersOrder objectsOrder parametersTests recipientsTests contentTest
   parameters-are =
       let a = objectOrder (c .protected) (protectedEntries (c .protected)) in
       let b = objectOrder (c .shared) (textEntries 1 (c .shared)) in
       let own = flatMap (λ r. ownTests (r .header)) rs in
-      let rules = flatMap (rulesOf known (messageOf c)) rs in
+      let rules = flatMap (rulesOf known (messageOf c)) rs ++ (contentTest (messageOf c) ∷ []) in
       append-assoc a (b ++ own) rules ∙ ap (λ (ts : List Test). a ++ ts) (append-assoc b own rules)
 
   within-is : (room : ℕ) → withinOrder general (messageOf c) known room
@@ -99,7 +100,8 @@ module _ (general : Bool) (c : RawJson) (known : List (List ℕ)) where
       (nonzero-append b _ (object-nonzero (c .shared) _)
       (nonzero-append (flatMap (λ r. ownTests (r .header)) rs) _
       (all-nonzero (λ (r : RawRecipient). ownTests (r .header)) (λ r. object-nonzero (r .header) _) rs)
-      (all-nonzero (rulesOf known (messageOf c)) (λ r. rules-nonzero known _ _ _) rs)))
+      (nonzero-append (flatMap (rulesOf known (messageOf c)) rs) _
+      (all-nonzero (rulesOf known (messageOf c)) (λ r. rules-nonzero known _ _ _) rs) refl)))
 
 -- 20
 

@@ -241,8 +241,8 @@ fn own_content(own: &[u32], counts: &[usize], i: usize) -> Named
     requires { ⌜ getD (now counts) i 0 ≤ mostMembers ⌝ }
     ensures { λ r. ⌜ r ≡ namedIn (entriesOf (getD (now (counts .entry)) i 0) (drop (i * headerTable) (now (own .entry)))) ⌝ }
 {
-    let start = i * layout::HEADER_TABLE;
-    jose::content::sole(&own[start..], counts[i])
+    let from = i * layout::HEADER_TABLE;
+    jose::content::sole(&own[from..], counts[i])
 }
 
 // 21 on own headers: whether the content algorithm of one differs from that of recipient `with`.
@@ -263,13 +263,13 @@ fn contents_differ(
         return false;
     }
     let asked = own_content(own, counts, with);
-    let mut i: usize = 0;
-    while i < number {
-        let other = own_content(own, counts, i);
+    let mut k: usize = 0;
+    while k < number {
+        let other = own_content(own, counts, k);
         if jose::content::differ(message, asked, message, other) {
             return true;
         }
-        i += 1;
+        k += 1;
     }
     false
 }

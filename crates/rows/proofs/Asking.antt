@@ -1,14 +1,14 @@
 -- Loops that ask something of one entry after the other: what is asked from an entry on stays the answer of the whole,
 -- until one passes or none is left.
-use mathlib.Core.Path.{_≡_, ap, sym, _∙_}
+use mathlib.Core.Path.{_≡_, refl, ap, sym, _∙_}
 use mathlib.Core.Bool.{Bool, true, false, _||_, cond}
 use mathlib.Core.List.{List, [], _∷_}
 use Prim.Native.Nat.{ℕ, _+_, _*_, _≤_, _<_}
 use lib.ListN.{drop}
-use lib.Dec.{eqb}
-use borrow.Author.Tests.{eq-eqb, ne-eqb}
+use lib.Dec.{eqb, ltb}
+use borrow.Author.Tests.{eq-eqb, ne-eqb, ltb-true, ltb-false}
 use Rattle.prelude.specs.Any.{any, anyPair}
-use Rattle.rows.specs.Rows.{Entry, having}
+use Rattle.rows.specs.Rows.{Entry, numbered, present, having}
 use Rattle.rows.specs.Tables.{firstOf, entriesOf, width}
 use Rattle.rows.proofs.Entries.{entry-at, entries-done}
 
@@ -79,3 +79,30 @@ module _ (n count i : ℕ) (t : List ℕ) where
   pub having-done : count ≤ i → having n (drop i (entriesOf count t)) ≡ []
   unfolding having
   having-done h = ap (having n) (entries-done i count t h)
+
+-- Whether there is one.
+
+abbrev pub isSome : List Entry → Bool
+isSome [] = false
+isSome (e ∷ es) = true
+
+pub present-having : (n : ℕ) (es : List Entry) → present n es ≡ isSome (having n es)
+unfolding present any having
+present-having n [] = refl
+present-having n (e ∷ es) = cases (numbered n e) (present-having n es)
+  where
+    cases : (b : Bool) → any (numbered n) es ≡ isSome (having n es) →
+        b || any (numbered n) es ≡ isSome (cond b (e ∷ having n es) (having n es))
+    cases true later = refl
+    cases false later = later
+
+-- By the first that was found, `count` where there is none.
+pub present-found : (n count i : ℕ) (t : List ℕ) → having n (drop i (entriesOf count t)) ≡ having n (entriesOf count t) →
+    (i < count → firstOf (drop (i * width) t) .number ≡ n) → ltb i count ≡ present n (entriesOf count t)
+present-found n count i t same is = cases (ltb i count) refl ∙ sym (present-having n (entriesOf count t))
+  where
+    cases : (b : Bool) → ltb i count ≡ b → b ≡ isSome (having n (entriesOf count t))
+    cases true e =
+        let below = ltb-true i count e in
+        ap isSome (sym (having-found n count i t below (is below)) ∙ same)
+    cases false e = ap isSome (sym (having-done n count i t (ltb-false i count e)) ∙ same)

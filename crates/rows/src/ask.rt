@@ -38,21 +38,6 @@ pub fn value<'a>(text: &'a [u8], table: &[u32], i: usize) -> &'a [u8]
     parts::part(text, begin, size)
 }
 
-// Whether one of the first entries has the n-th of the names.
-pub fn present(table: &[u32], count: usize, n: u32) -> bool
-    requires { ⌜ count * width ≤ length (now table) ⌝ }
-    ensures { λ r. ⌜ r ≡ present n (entriesOf count (now (table .entry))) ⌝ }
-{
-    let mut i: usize = 0;
-    while i < count {
-        if field(table, i, layout::NUMBER) == n as usize {
-            return true;
-        }
-        i += 1;
-    }
-    false
-}
-
 // The first entry from one on that has the n-th of the names; `count` where none does.
 pub fn next(table: &[u32], from: usize, count: usize, n: u32) -> usize
     requires { ⌜ count * width ≤ length (now table) ⌝ }
@@ -69,6 +54,14 @@ pub fn next(table: &[u32], from: usize, count: usize, n: u32) -> usize
         i += 1;
     }
     count
+}
+
+// Whether one of the first entries has the n-th of the names.
+pub fn present(table: &[u32], count: usize, n: u32) -> bool
+    requires { ⌜ count * width ≤ length (now table) ⌝ }
+    ensures { λ r. ⌜ r ≡ present n (entriesOf count (now (table .entry))) ⌝ }
+{
+    next(table, 0, count, n) < count
 }
 
 // The place of the value of the first one that does, with quotation marks; 0, 0 where there is none.

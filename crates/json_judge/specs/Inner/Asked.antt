@@ -1,7 +1,8 @@
 -- What the code asks of the pieces, stage by stage.
 use mathlib.Core.Path.{_≡_}
-use mathlib.Core.List.{List, [], _∷_, _++_, flatMap}
+use mathlib.Core.List.{List, [], _∷_, _++_, map, flatMap}
 use mathlib.Core.Bool.{Bool, true, false, _||_}
+use mathlib.Core.Option.{Option}
 use Prim.Native.Nat.{ℕ, _≤_}
 use lib.ListN.{length}
 use Rattle.prelude.specs.Any.{any}
@@ -13,6 +14,7 @@ use Rattle.rows.specs.Tables.{entriesOf}
 use Rattle.rows.specs.Inner.Prints.{Printed}
 use Rattle.jose.specs.declared.Sizes.{Sizes}
 use Rattle.jose.specs.HeaderRules.{recipientOrder}
+use Rattle.jose.specs.ContentAlgorithm.{contentAlgorithm, differing}
 use Rattle.headers.specs.Headers.{tooLong, protectedEntries, objectOrder}
 use Rattle.recipients.specs.Table.{RawRecipient}
 use Rattle.json_message.specs.Handed.{textEntries}
@@ -50,11 +52,16 @@ ownTests own = objectOrder own (textEntries 2 own)
 abbrev pub rulesTests : List (List ℕ) → List ℕ → List ℕ → List ℕ → Sizes → List Test
 rulesTests known header shared own z = recipientOrder known (texts header shared own) (piecesEntries header shared own) z
 
--- Both on all recipients.
+-- The content algorithm of a recipient with this own header.
+abbrev pub contentIn : List ℕ → List ℕ → List ℕ → Option (List ℕ)
+contentIn header shared own = contentAlgorithm (texts header shared own) (piecesEntries header shared own)
+
+-- Both on all recipients, and 21.
 unfoldable pub recipientsTests : List (List ℕ) → List ℕ → List ℕ → Sizes → List RawRecipient → List Test
 recipientsTests known header shared z rs =
     flatMap (λ r. ownTests (r .header)) rs
-    ++ flatMap (λ r. rulesTests known header shared (r .header) (withKeySize z (length (r .key)))) rs
+    ++ (flatMap (λ r. rulesTests known header shared (r .header) (withKeySize z (length (r .key)))) rs
+    ++ (21 if differing 0 (map (λ r. contentIn header shared (r .header)) rs) ∷ []))
 
 -- 8 and 9 on the protected and the shared header before.
 unfoldable pub parametersTests : List (List ℕ) → List ℕ → List ℕ → Sizes → List RawRecipient → List Test

@@ -1,6 +1,7 @@
 -- The reader's refusals from 7 on of a written message, by its pieces: what the writer can ask before it writes anything. The
 -- texts have been judged alone before.
-use mathlib.Core.List.{List, [], _∷_, _++_, flatMap}
+use mathlib.Core.List.{List, [], _∷_, _++_, map, flatMap}
+use mathlib.Core.Option.{Option}
 use mathlib.Core.Bool.{Bool, false, _||_}
 use Prim.Native.Nat.{ℕ}
 use lib.ListN.{length}
@@ -9,6 +10,7 @@ use Rattle.prelude.specs.Refusals.{Test, _if_}
 use Rattle.rows.specs.Rows.{Entry, texts}
 use Rattle.jose.specs.declared.Sizes.{Sizes}
 use Rattle.jose.specs.HeaderRules.{recipientOrder}
+use Rattle.jose.specs.ContentAlgorithm.{contentAlgorithm, differing}
 use Rattle.headers.specs.Headers.{textOrder, outermost, protectedEntries, objectOrder}
 use Rattle.jwe.specs.General.{isHollow}
 use Rattle.recipients.specs.Table.{RawRecipient}
@@ -49,7 +51,7 @@ rawSizes c r = record {
   tag = length (c .tag);
 }
 
--- 8 and 9 on each text, and 12 to 18 for each recipient.
+-- 8 and 9 on each text, 12 to 18 for each recipient, and 21.
 
 unfoldable pub objectsOrder : RawMessage → List Test
 objectsOrder c =
@@ -62,8 +64,17 @@ rulesOf known c r =
     recipientOrder known (texts (c .protected) (c .shared) (r .header))
     (piecesEntries (c .protected) (c .shared) (r .header)) (rawSizes c r)
 
+-- 21, by the content algorithm of each.
+
+abbrev pub rawContent : RawMessage → RawRecipient → Option (List ℕ)
+rawContent c r =
+    contentAlgorithm (texts (c .protected) (c .shared) (r .header)) (piecesEntries (c .protected) (c .shared) (r .header))
+
+unfoldable pub contentTest : RawMessage → Test
+contentTest c = 21 if differing 0 (map (rawContent c) (c .recipients))
+
 unfoldable pub parametersOrder : List (List ℕ) → RawMessage → List Test
-parametersOrder known c = objectsOrder c ++ flatMap (rulesOf known c) (c .recipients)
+parametersOrder known c = objectsOrder c ++ (flatMap (rulesOf known c) (c .recipients) ++ (contentTest c ∷ []))
 
 -- All of them.
 unfoldable pub piecesOrder : Bool → List (List ℕ) → RawMessage → List Test

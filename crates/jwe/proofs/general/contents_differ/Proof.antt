@@ -16,19 +16,19 @@ use Rattle.jwe.proofs.general.contents_differ.Statement.{statement}
 use Rattle.jwe.proofs.general.contents_differ.Tie as tie
 
 abbrev Inv-loop : tie.InvT-loop
-Inv-loop message own counts number «with» asked i₀ i =
-    (i ≤ number)
-    × (any (differ (shownIn message asked)) (ownContents message own counts i (number - i))
+Inv-loop message own counts number «with» asked k₀ k =
+    (k ≤ number)
+    × (any (differ (shownIn message asked)) (ownContents message own counts k (number - k))
     ≡ differing «with» (ownContents message own counts 0 number))
 
 abbrev μ-loop : tie.MeasureT-loop
-μ-loop message own counts number «with» asked i₀ i = number - i
+μ-loop message own counts number «with» asked k₀ k = number - k
 
 -- what a turn compares
 compared : (c : tie.After-differ Inv-loop μ-loop) →
     let args = c .before .before .before .before .before .before .before .before .before .args in
     differ (shownIn (args .message .now) (c .before .before .before .before .own-content .result))
-    (ownContent (args .message .now) (args .own .now) (args .counts .now) (c .before .before .before .loop .i))
+    (ownContent (args .message .now) (args .own .now) (args .counts .now) (c .before .before .before .loop .k))
     ≡ c .differ .result
 compared c =
     let args = c .before .before .before .before .before .before .before .before .before .args in
@@ -73,11 +73,11 @@ returns-2 c =
     let loop = c .before .before .before .before .loop in
     let args = c .before .before .before .before .before .before .before .before .before .before .args in
     other-found (args .message .now) (args .own .now) (args .counts .now)
-    (shownIn (args .message .now) (c .before .before .before .before .before .own-content .result)) _ (args .number) (loop .i) (loop .inv .1)
+    (shownIn (args .message .now) (c .before .before .before .before .before .own-content .result)) _ (args .number) (loop .k) (loop .inv .1)
     (c .before .before .before .loop-test .taken) (compared (c .before) ∙ c .if2 .taken)
 
-add-i : tie.Need-add-i Inv-loop μ-loop
-add-i c = search needs
+add-k : tie.Need-add-k Inv-loop μ-loop
+add-k c = search needs
 
 loop-less : tie.Need-loop-less Inv-loop μ-loop
 loop-less c = search needs
@@ -88,7 +88,7 @@ loop-again c =
     let args = c .before .before .before .before .before .before .before .before .before .before .args in (
       omega arith,
       same-turn (args .message .now) (args .own .now) (args .counts .now)
-          (shownIn (args .message .now) (c .before .before .before .before .before .own-content .result)) _ (args .number) (loop .i) (loop .inv .1)
+          (shownIn (args .message .now) (c .before .before .before .before .before .own-content .result)) _ (args .number) (loop .k) (loop .inv .1)
           (c .before .before .before .loop-test .taken) (compared (c .before) ∙ c .if2 .left),
     )
 
@@ -97,7 +97,7 @@ returns-3 c =
     let args = c .before .before .before .before .before .before .before .args in
     let loop = c .before .loop in
     all-same (args .message .now) (args .own .now) (args .counts .now)
-    (shownIn (args .message .now) (c .before .before .own-content .result)) _ (args .number) (loop .i) (loop .inv .1)
+    (shownIn (args .message .now) (c .before .before .own-content .result)) _ (args .number) (loop .k) (loop .inv .1)
     (c .loop-test .left)
 
 pub contents-differ-spec : {M : Type 1} → statement M
@@ -112,7 +112,7 @@ contents-differ-spec =
     own-content-requires-2
     differ-requires
     returns-2
-    add-i
+    add-k
     loop-less
     loop-again
     returns-3)

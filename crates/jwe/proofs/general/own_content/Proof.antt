@@ -11,8 +11,8 @@ use borrow.Author.Needs.{needs}
 use Rattle.jwe.proofs.general.own_content.Statement.{statement}
 use Rattle.jwe.proofs.general.own_content.Tie as tie
 
-mul-start : tie.Need-mul-start
-mul-start c = search needs
+mul-from : tie.Need-mul-from
+mul-from c = search needs
 
 mul-sole : tie.Need-mul-sole
 mul-sole c = search needs
@@ -48,7 +48,7 @@ pub own-content-spec : {M : Type 1} → statement M
 own-content-spec =
     tie.close
     (tie.spec
-    mul-start
+    mul-from
     mul-sole
     sub-sole
     part-sole-start
