@@ -15,7 +15,8 @@ use mathlib.Core.List.{List, map}
 use Prim.Native.Nat.{ℕ, _≤_, _<_}
 use lib.ListN.{length, getD}
 use denote.Ref.{RefT, now}
-use Rattle.prelude.specs.Limits.{headerRoom, listRoom}
+use Rattle.prelude.specs.Ascii.{ascii}
+use Rattle.prelude.specs.Limits.{headerRoom, listRoom, levels}
 use Rattle.prelude.specs.Refusals.{OneOf}
 use Rattle.prelude.specs.Outputs.{octetsWritten, ChangesNothing}
 use Rattle.base64url.specs.Base64url.{decoded}
@@ -28,6 +29,8 @@ use Rattle.jwe.specs.Judge.{Call, call, callFor, refusal, refused, placesIn, re
 use Rattle.aad.specs.Aad.{aadText, aadRefusal, aadBuffer}
 use Rattle.jwe_write.specs.Write.{Raw, compactText, writeRefusal}
 use Rattle.jwe_write.specs.Answers.{writeBuffer}
+use Rattle.meets.specs.Members.{membersOf}
+use Rattle.meets.specs.Rules.{Present}
 use Rattle.meets.specs.Meets.{Meets, count}
 use Rattle.meets.proofs.Refused as Refused
 use Rattle.meets.proofs.Accepted as Accepted
@@ -35,6 +38,7 @@ use Rattle.refusals.specs.Table.{Refuses}
 use Rattle.refusals.specs.Numbers.{numbersTable}
 use Rattle.refusals.specs.Further.{walkTable, decodeTable, aadTable, writeTable}
 use Rattle.refusals.proofs.Refused as Numbers
+use Rattle.refusals.proofs.GeneralAlone as GeneralAlone
 use Rattle.refusals.proofs.FurtherRefuses as Further
 use Rattle.round_trips.specs.Trips.{RawOctets, wrote, ReadsBack, WritesBack}
 use Rattle.round_trips.proofs.RoundTrips as RoundTrips
@@ -114,6 +118,12 @@ write-refused-exactly = Further.write-refused-exactly
 pub json-write-refused-exactly : (general : Bool) (c : RawJson) (known : List ℕ) (room : ℕ) → JsonOctets c → (k : ℕ) →
     (jsonWriteRefusal general c known room ≡ k) ↔ Refuses (jsonWriteTable general c known room) k
 json-write-refused-exactly = JsonTrips.json-write-refused-exactly
+
+-- 21 (request 2/12) is given to general messages alone: what it refuses reads as JSON and has a top-level member `recipients`. So no
+-- compact and no flattened message gets it.
+pub content-general : (c : Call) → refusal c ≡ 21 →
+    (r : Reading levels (c .message)) × Present (ascii "recipients") (membersOf (r .text .value))
+content-general = GeneralAlone.content-general
 
 -- Demand 2, round trips (crates/round_trips/specs/Trips.antt). What the compact writer leaves of octets, read for recipient 0 with
 -- the same list and the room that is asked for, reads back to what was given.

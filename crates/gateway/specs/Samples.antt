@@ -1,5 +1,5 @@
 -- Document 01's samples T1 to T12: what is asked of the definitions that the contracts cite, and what they have to answer; and
--- beside them a general message whose asked recipient has a key and a mode other than 5.
+-- beside them general messages: one whose asked recipient has a key and a mode other than 5, and two on request 2/12.
 use mathlib.Core.List.{List, [], _∷_, _++_}
 use Prim.Native.Nat.{ℕ, _*_}
 use lib.ListN.{length, take, getD, replicate}
@@ -92,6 +92,12 @@ general =
     ++ (ascii "{\"header\":{\"alg\":\"dir\"}},{\"header\":{\"alg\":\"A128KW\"},\"encrypted_key\":\"AQI\"}],"
     ++ ascii "\"aad\":\"Aw\",\"iv\":\"BA\",\"ciphertext\":\"BQYH\",\"tag\":\"CA\"}")
 
+-- Two recipients by their own headers' content algorithms, the second as it is spelled.
+abbrev contents : List ℕ → List ℕ
+contents second =
+    ascii "{\"unprotected\":{\"alg\":\"dir\"},\"recipients\":[{\"header\":{\"enc\":\"A128GCM\"}},{\"header\":{\"enc\":\""
+    ++ (second ++ ascii "\"}}],\"ciphertext\":\"\"}")
+
 unfoldable pub samples : List Sample
 samples =
     T 1 (characters []) (0 ∷ [])
@@ -137,4 +143,12 @@ samples =
     ∷ 2 ∷ 116 ∷ 3 ∷ 121 ∷ 8 ∷ 2
     ∷ [])
     ∷ T 0 (aad-of general) (0 ∷ 26 ∷ ascii "eyJlbmMiOiJBMTI4R0NNIn0.Aw")
+    ∷ T 0 (read (contents (ascii "A128GC\\u004d")) 0)
+    (0 ∷ 2 ∷ 2 ∷ 5
+    ∷ 0 ∷ 0 ∷ 0 ∷ 0 ∷ 0 ∷ 0 ∷ 0 ∷ 0 ∷ 121 ∷ 0 ∷ 0 ∷ 0
+    ∷ 0 ∷ 2
+    ∷ 1 ∷ 17 ∷ 3 ∷ 22 ∷ 5 ∷ 2
+    ∷ 2 ∷ 55 ∷ 3 ∷ 60 ∷ 9 ∷ 2
+    ∷ [])
+    ∷ T 0 (read (contents (ascii "A256GCM")) 0) (refused 21)
     ∷ []

@@ -121,7 +121,8 @@ module _ (known : List (List ℕ)) where
       rules 8 _ refl λ sharedFew.
       rules 9 _ refl λ sharedOnce.
       gives _ λ o.
-      owns-nonzero rs o _ (recipients-nonzero protected (s .0) rs o k _ (rules 19 _ refl λ asked. none))
+      owns-nonzero rs o _
+      (recipients-nonzero protected (s .0) rs o k _ (rules 21 _ refl λ content. rules 19 _ refl λ asked. none))
 
   json-nonzero : (message : List ℕ) (recipient : ℕ) → NonZero (jsonTable known message recipient)
   unfolding jsonTable

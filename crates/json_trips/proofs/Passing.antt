@@ -18,7 +18,8 @@ use Rattle.recipients.specs.Table.{RawRecipient}
 use Rattle.json_message.specs.JsonText.{RawMessage, jsonText}
 use Rattle.json_message.specs.WriteOrder.{unreadWithin, unreadAlone, messageOrder}
 use Rattle.json_message.specs.Handed.{textEntries}
-use Rattle.json_message.specs.Inner.PiecesOrder.{unreadInside, hollowInside, protectedTests, objectsOrder, rulesOf, parametersOrder}
+use Rattle.json_message.specs.Inner.PiecesOrder.{unreadInside, hollowInside, protectedTests, objectsOrder, rulesOf}
+use Rattle.json_message.specs.Inner.PiecesOrder.{contentTest, parametersOrder}
 use Rattle.json_message.specs.Inner.PiecesOrder.{piecesOrder}
 use Rattle.json_message.specs.Inner.AskedOrder.{overOrder, laterOrder, withinOrder, askedOrder}
 use Rattle.json_message.proofs.Agree.{Agree, agreed}
@@ -48,10 +49,12 @@ unfolding recipientOrder any
 rules-ours known c r = refl
 
 parameters-ours : (known : List (List ℕ)) (c : RawMessage) → Ours (parametersOrder known c)
-unfolding parametersOrder
+unfolding parametersOrder contentTest any
 parameters-ours known c =
-    listed-append jsonWriteNumbers (objectsOrder c) (flatMap (rulesOf known c) (c .recipients)) (objects-ours c)
-    (listed-flat jsonWriteNumbers (rulesOf known c) (rules-ours known c) (c .recipients))
+    let rules = flatMap (rulesOf known c) (c .recipients) in
+    listed-append jsonWriteNumbers (objectsOrder c) (rules ++ (contentTest c ∷ [])) (objects-ours c)
+    (listed-append jsonWriteNumbers rules (contentTest c ∷ [])
+    (listed-flat jsonWriteNumbers (rulesOf known c) (rules-ours known c) (c .recipients)) refl)
 
 protected-ours : (w : List ℕ) → Ours (protectedTests w)
 unfolding protectedTests textOrder any

@@ -118,4 +118,4 @@ pub record JsonWritable (general : Bool) (c : RawJson) (known : List ℕ) (room 
 -- The numbers that the writer refuses with, in its order. 4, 5, 11 and 19 are the reader's alone: what is written has the JSON
 -- form, is encoded, and has the recipients of a sound table.
 abbrev pub jsonWriteNumbers : List ℕ
-jsonWriteNumbers = 3 ∷ 20 ∷ 6 ∷ 7 ∷ 2 ∷ 10 ∷ 8 ∷ 9 ∷ 12 ∷ 13 ∷ 14 ∷ 15 ∷ 16 ∷ 17 ∷ 18 ∷ 1 ∷ []
+jsonWriteNumbers = 3 ∷ 20 ∷ 6 ∷ 7 ∷ 2 ∷ 10 ∷ 8 ∷ 9 ∷ 12 ∷ 13 ∷ 14 ∷ 15 ∷ 16 ∷ 17 ∷ 18 ∷ 21 ∷ 1 ∷ []
