@@ -1,4 +1,5 @@
 pub mod Alphabet
+pub mod Table
 pub mod Groups
 pub mod Counting
 pub mod Acceptance

@@ -9,6 +9,7 @@ ghost use lib.Dec.{leb, eqb};
 ghost use Rattle.prelude.specs.Buffer.{AllBelow, written};
 ghost use Rattle.base64url.specs.Base64url.{character, sixBits, sextets, octets, encoded, decoded, encodedLength, decodedLength};
 ghost use Rattle.base64url.specs.Fault.{countOutside, spareBits, fault, none};
+ghost use Rattle.base64url.specs.Inner.Tabled.{Tabled};
 ghost use Rattle.base64url.specs.Answers.{checkAnswer, Decodes, encodeAnswer, encodeBuffer};
 
 // Whether a text is base64url.
@@ -41,9 +42,37 @@ fn choose(first: bool, a: u8, b: u8) -> u8
     if first { a } else { b }
 }
 
-// The six bits of a character, or 64: the one place that turns a character into its value. Each range has a number
-// that, added modulo 64, makes a character its value.
-fn six_bits(c: u8) -> u8
+// The six bits of each octet as a character, or 64 where it is none; sixteen octets a line.
+const SIX_BITS: [u8; 256] = *b"\
+    \x40\x40\x40\x40\x40\x40\x40\x40\x40\x40\x40\x40\x40\x40\x40\x40\
+    \x40\x40\x40\x40\x40\x40\x40\x40\x40\x40\x40\x40\x40\x40\x40\x40\
+    \x40\x40\x40\x40\x40\x40\x40\x40\x40\x40\x40\x40\x40\x3e\x40\x40\
+    \x34\x35\x36\x37\x38\x39\x3a\x3b\x3c\x3d\x40\x40\x40\x40\x40\x40\
+    \x40\x00\x01\x02\x03\x04\x05\x06\x07\x08\x09\x0a\x0b\x0c\x0d\x0e\
+    \x0f\x10\x11\x12\x13\x14\x15\x16\x17\x18\x19\x40\x40\x40\x40\x3f\
+    \x40\x1a\x1b\x1c\x1d\x1e\x1f\x20\x21\x22\x23\x24\x25\x26\x27\x28\
+    \x29\x2a\x2b\x2c\x2d\x2e\x2f\x30\x31\x32\x33\x40\x40\x40\x40\x40\
+    \x40\x40\x40\x40\x40\x40\x40\x40\x40\x40\x40\x40\x40\x40\x40\x40\
+    \x40\x40\x40\x40\x40\x40\x40\x40\x40\x40\x40\x40\x40\x40\x40\x40\
+    \x40\x40\x40\x40\x40\x40\x40\x40\x40\x40\x40\x40\x40\x40\x40\x40\
+    \x40\x40\x40\x40\x40\x40\x40\x40\x40\x40\x40\x40\x40\x40\x40\x40\
+    \x40\x40\x40\x40\x40\x40\x40\x40\x40\x40\x40\x40\x40\x40\x40\x40\
+    \x40\x40\x40\x40\x40\x40\x40\x40\x40\x40\x40\x40\x40\x40\x40\x40\
+    \x40\x40\x40\x40\x40\x40\x40\x40\x40\x40\x40\x40\x40\x40\x40\x40\
+    \x40\x40\x40\x40\x40\x40\x40\x40\x40\x40\x40\x40\x40\x40\x40\x40";
+
+// The six bits of a character, or 64: the step from a character to its value. The table is the one above, lent: naming it here would
+// store it anew for each character.
+fn six_bits(table: &[u8; 256], c: u8) -> u8
+    requires { ⌜ Tabled (now table) ⌝ }
+    ensures { λ r. ⌜ r ≡ sixBits c ⌝ }
+{
+    table[c as usize]
+}
+
+// The same without the table, which is not worth storing for one character. Each range has a number that, added modulo 64, makes a
+// character its value.
+fn six_bits_of_one(c: u8) -> u8
     ensures { λ r. ⌜ r ≡ sixBits c ⌝ }
 {
     let lower = (b'a' <= c) & (c <= b'z');
@@ -127,10 +156,10 @@ fn spare_bits(text: &[u8]) -> u8
 {
     let n = text.len();
     if n % 4 == 2 {
-        return six_bits(text[n - 1]) % 16;
+        return six_bits_of_one(text[n - 1]) % 16;
     }
     if n % 4 == 3 {
-        return six_bits(text[n - 1]) % 4;
+        return six_bits_of_one(text[n - 1]) % 4;
     }
     0
 }
@@ -182,13 +211,14 @@ fn block_end(i: usize, n: usize, size: usize) -> usize
 // Decoding: a block of characters becomes values, and these become octets
 
 // The values of characters.
-fn values(text: &[u8], into: &mut [u8])
+fn values(table: &[u8; 256], text: &[u8], into: &mut [u8])
+    requires { ⌜ Tabled (now table) ⌝ }
     requires { ⌜ length (map sixBits (now text)) ≤ length (now into) ⌝ }
     ensures { λ _. ⌜ now (into .exit) ≡ written 0 (map sixBits (now (text .entry))) (now (into .entry)) ⌝ }
 {
     let mut k: usize = 0;
     while k < text.len() {
-        into[k] = six_bits(text[k]);
+        into[k] = six_bits(table, text[k]);
         k += 1;
     }
 }
@@ -267,7 +297,8 @@ fn pack(six: &[u8], out: &mut [u8], at: usize) -> usize
 }
 
 // The octets of a text of at most 256 characters, likewise.
-fn decode_block(text: &[u8], out: &mut [u8], at: usize) -> usize
+fn decode_block(table: &[u8; 256], text: &[u8], out: &mut [u8], at: usize) -> usize
+    requires { ⌜ Tabled (now table) ⌝ }
     requires { ⌜ length (now text) ≤ 256 ⌝ }
     requires { ⌜ AllBelow 64 (map sixBits (now text)) ⌝ }
     requires { ⌜ at + length (decoded (now text)) ≤ length (now out) ⌝ }
@@ -276,7 +307,7 @@ fn decode_block(text: &[u8], out: &mut [u8], at: usize) -> usize
 {
     let mut six = [0u8; 256];
     let n = text.len();
-    values(text, &mut six[..n]);
+    values(table, text, &mut six[..n]);
     pack(&six[..n], out, at)
 }
 
@@ -287,12 +318,13 @@ fn decode_at(text: &[u8], out: &mut [u8], at: usize) -> usize
     ensures { λ r. ⌜ r ≡ at + length (decoded (now (text .entry))) ⌝ }
     ensures { λ _. ⌜ now (out .exit) ≡ written at (decoded (now (text .entry))) (now (out .entry)) ⌝ }
 {
+    let table = SIX_BITS;
     let n = text.len();
     let mut i: usize = 0;
     let mut j = at;
     while i < n {
         let e = block_end(i, n, 256);
-        j = decode_block(&text[i..e], out, j);
+        j = decode_block(&table, &text[i..e], out, j);
         i = e;
     }
     j

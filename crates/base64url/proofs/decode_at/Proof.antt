@@ -7,18 +7,20 @@ use lib.ListN.{length, take, drop, length-take, length-drop, drop-of-length-le}
 use Rattle.prelude.specs.Buffer.{AllBelow}
 use Rattle.prelude.proofs.Lists.{below-part, map-part}
 use Rattle.prelude.proofs.Writing.{Writing, begin, put-part, room-part, ended}
-use Rattle.base64url.specs.Base64url.{sixBits, octets, decoded}
+use Rattle.prelude.specs.Ascii.{ascii}
+use Rattle.base64url.specs.Base64url.{alphabet, placeIn, sixBits, octets, decoded}
 use Rattle.base64url.proofs.Groups.{decoded-block}
+use Rattle.base64url.proofs.Table.{tabled}
 use borrow.Author.Needs.{needs}
 use Rattle.base64url.proofs.decode_at.Statement.{statement}
 use Rattle.base64url.proofs.decode_at.Tie as tie
 
 abbrev Inv-loop : tie.InvT-loop
-Inv-loop text out₀ at n i₀ j₀ out i j =
+Inv-loop text out₀ at table n i₀ j₀ out i j =
     (i ≤ length text) × Writing at (decoded text) out₀ (decoded (drop i text)) j out
 
 abbrev μ-loop : tie.MeasureT-loop
-μ-loop text out₀ at n i₀ j₀ out i j = length text - i
+μ-loop text out₀ at table n i₀ j₀ out i j = length text - i
 
 loop-holds : tie.Need-loop-holds Inv-loop μ-loop
 loop-holds c =
@@ -38,12 +40,13 @@ part-decode-block-end : tie.Need-part-decode-block-end Inv-loop μ-loop
 part-decode-block-end c = search needs
 
 decode-block-requires : tie.Need-decode-block-requires Inv-loop μ-loop
+unfolding ascii alphabet placeIn sixBits
 decode-block-requires c κs =
-    let start = c .before .before .before .before .before .before .before in
-    let loop = c .before .before .before .before .loop in
+    let start = c .before .before .before .before .before .before .before .before in
+    let loop = c .before .before .before .before .before .loop in
     let text = start .args .text .now in
     let i = loop .i in
-    let end = c .before .before .block-end in
+    let end = c .before .before .before .block-end in
     let e = end .result in
     let part = take (e - i) (drop i text) in
     let parts = decoded-block text i e (loop .inv .0) (end .ensures) in
@@ -51,18 +54,18 @@ decode-block-requires c κs =
     omega (arith, length-take (e - i) (drop i text), length-drop i text, end .ensures) in
     let values = below-part 64 (map sixBits text) i (e - i) (start .pre .0) in
     let below = subst (AllBelow 64) (map-part sixBits text i (e - i)) values in
-    (size, (below, room-part (decoded part) (decoded (drop e text)) parts (loop .inv .1)))
+    (tabled _ tt, (size, (below, room-part (decoded part) (decoded (drop e text)) parts (loop .inv .1))))
 
 loop-less : tie.Need-loop-less Inv-loop μ-loop
 loop-less c = search needs
 
 loop-again : tie.Need-loop-again Inv-loop μ-loop
 loop-again c =
-    let start = c .before .before .before .before .before .before .before .before .before .before in
-    let loop = c .before .before .before .before .before .before .before .loop in
+    let start = c .before .before .before .before .before .before .before .before .before .before .before in
+    let loop = c .before .before .before .before .before .before .before .before .loop in
     let text = start .args .text .now in
     let i = loop .i in
-    let end = c .before .before .before .before .before .block-end in
+    let end = c .before .before .before .before .before .before .block-end in
     let e = end .result in
     let part = take (e - i) (drop i text) in
     let parts = decoded-block text i e (loop .inv .0) (end .ensures) in

@@ -26,30 +26,30 @@ array-borrow-prefix-six c = search needs
 slice-aggregate-values : tie.Need-slice-aggregate-values
 slice-aggregate-values c =
     let start = c .before .before .before in
-    sym (length-take-le (length (start .args .text .now)) zeros (start .pre .0))
+    sym (length-take-le (length (start .args .text .now)) zeros (start .pre .1 .0))
 
 values-requires : tie.Need-values-requires
 values-requires c κs =
     let start = c .before .before .before in
     let text = start .args .text .now in
-    omega (arith, length-map text sixBits, length-take-le (length text) zeros (start .pre .0))
+    (start .pre .0, omega (arith, length-map text sixBits, length-take-le (length text) zeros (start .pre .1 .0)))
 
 array-share-prefix-six : tie.Need-array-share-prefix-six
 array-share-prefix-six c =
     let start = c .before .before .before .before .before in
     let text = start .args .text .now in
     let n = length text in
-    let last = c .before .values .last .1 .0 in
-    let kept = c .before .values .kept .1 .0 in
-    omega (arith, length-append last (drop n zeros), length-take-le n zeros (start .pre .0))
+    let last = c .before .values .last .1 .1 .0 in
+    let kept = c .before .values .kept .1 .1 .0 in
+    omega (arith, length-append last (drop n zeros), length-take-le n zeros (start .pre .1 .0))
 
 slice-aggregate-pack : tie.Need-slice-aggregate-pack
 slice-aggregate-pack c =
     let start = c .before .before .before .before .before .before in
     let text = start .args .text .now in
     let n = length text in
-    let last = c .before .before .values .last .1 .0 in
-    sym (ap length (values-stand text last (start .pre .0) (c .before .before .values .ensures)) ∙ length-map text sixBits)
+    let last = c .before .before .values .last .1 .1 .0 in
+    sym (ap length (values-stand text last (start .pre .1 .0) (c .before .before .values .ensures)) ∙ length-map text sixBits)
 
 pack-requires : tie.Need-pack-requires
 unfolding decoded
@@ -57,9 +57,9 @@ pack-requires c κs =
     let start = c .before .before .before .before .before .before .before in
     let text = start .args .text .now in
     let n = length text in
-    let last = c .before .before .before .values .last .1 .0 in
-    let stand = values-stand text last (start .pre .0) (c .before .before .before .values .ensures) in
-    rw stand (start .pre .1)
+    let last = c .before .before .before .values .last .1 .1 .0 in
+    let stand = values-stand text last (start .pre .1 .0) (c .before .before .before .values .ensures) in
+    rw stand (start .pre .1 .1)
 
 same-length : tie.Need-same-length
 same-length c = search needs
@@ -70,8 +70,8 @@ returns c =
     let start = c .before .before .before .before .before .before .before .before .before .before in
     let text = start .args .text .now in
     let n = length text in
-    let last = c .before .before .before .before .before .before .values .last .1 .0 in
-    let stand = values-stand text last (start .pre .0) (c .before .before .before .before .before .before .values .ensures) in
+    let last = c .before .before .before .before .before .before .values .last .1 .1 .0 in
+    let stand = values-stand text last (start .pre .1 .0) (c .before .before .before .before .before .before .values .ensures) in
     rw stand at (c .before .before .pack .ensures)
 
 pub decode-block-spec : {M : Type 1} → statement M

@@ -11,16 +11,16 @@ use Rattle.base64url.proofs.values.Statement.{statement}
 use Rattle.base64url.proofs.values.Tie as tie
 
 abbrev Inv-loop : tie.InvT-loop
-Inv-loop text into₀ k₀ into k =
+Inv-loop table text into₀ k₀ into k =
     (k ≤ length text) × Writing 0 (map sixBits text) into₀ (map sixBits (drop k text)) k into
 
 abbrev μ-loop : tie.MeasureT-loop
-μ-loop text into₀ k₀ into k = length text - k
+μ-loop table text into₀ k₀ into k = length text - k
 
 loop-holds : tie.Need-loop-holds Inv-loop μ-loop
 loop-holds c =
     let args = c .before .before .args in
-    (search needs, begin 0 (map sixBits (args .text .now)) (args .into .now) (omega (arith, c .before .before .pre)))
+    (search needs, begin 0 (map sixBits (args .text .now)) (args .into .now) (omega (arith, c .before .before .pre .1)))
 
 shared-slice-read-six-bits : tie.Need-shared-slice-read-six-bits Inv-loop μ-loop
 shared-slice-read-six-bits c = search needs
