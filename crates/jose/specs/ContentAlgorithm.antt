@@ -10,7 +10,7 @@ use Rattle.prelude.specs.Any.{any}
 use Rattle.rows.specs.Rows.{Entry, Texts, valueIn, having}
 use Rattle.jose.specs.Registered.{enc, string}
 
--- The string that a single entry has, as it is spelled; nothing where there is no entry, another one, or no string.
+-- The string that the only entry of a list has, as it is spelled; nothing where there is none, more than one, or one that is no string.
 abbrev pub soleString : Texts → List Entry → Option (List ℕ)
 soleString ts [] = none
 soleString ts (e ∷ []) = cond (eqb (e .member .kind) string) (some (valueIn ts e)) none

@@ -64,7 +64,7 @@ recipientsOrder known header message t rs =
 abbrev pub contentOf : List ℕ → List ℕ → Top → Recipient → Option (List ℕ)
 contentOf header message t r = contentAlgorithm (readTexts header message) (parameters header message t r)
 
--- 21: all recipients have that of the first.
+-- 21: that of some recipient differs from the first one's.
 unfoldable pub contentOrder : List ℕ → List ℕ → Top → List Recipient → List Test
 contentOrder header message t rs = 21 if differing 0 (map (contentOf header message t) rs) ∷ []
 
