@@ -1,3 +1,4 @@
 pub mod Base64url
 pub mod Fault
 pub mod Answers
+pub mod Inner

@@ -1,88 +1,52 @@
--- `decode_block` writes a block's octets: the local array's front holds the values, of which `pack` makes them.
-use Prim.Native.Nat.{ℕ, _≤_}
-use mathlib.Core.Path.{_≡_, ap, sym, _∙_}
-use mathlib.Core.List.{List, _++_, map}
+-- `decode_block` writes a block's octets: values, words, octets, and the laws that these are what the text decodes to.
+use Prim.Native.Nat.{ℕ}
+use mathlib.Core.Path.{_≡_, refl, ap, _∙_}
+use mathlib.Core.List.{List}
 use native.Mathlib.Omega.{arith}
-use lib.ListN.{length, take, drop, replicate, length-append, length-map}
-use lib.Seq.{length-take-le}
+use lib.ListN.{length, length-map}
 use Rattle.prelude.specs.Buffer.{written}
-use Rattle.prelude.proofs.Writing.{filled}
-use Rattle.base64url.specs.Base64url.{sixBits, decoded}
+use Rattle.prelude.proofs.Lists.{all-below}
+use Rattle.base64url.specs.Inner.Words.{near, wordsOf, octetsOf}
+use Rattle.base64url.proofs.Groups.{decoded-size}
+use Rattle.base64url.proofs.Words.{words-of-length, block-octets}
 use borrow.Author.Needs.{needs}
 use Rattle.base64url.proofs.decode_block.Statement.{statement}
 use Rattle.base64url.proofs.decode_block.Tie as tie
 
-abbrev zeros : List ℕ
-zeros = replicate 256 0
+block-values-requires : tie.Need-block-values-requires
+block-values-requires c κs = search needs
 
--- the front of the array that was lent to `values` holds the values
-values-stand : (text last : List ℕ) → length text ≤ 256 → last ≡ written 0 (map sixBits text) (take (length text) zeros)
-    → take (length text) (last ++ drop (length text) zeros) ≡ map sixBits text
-values-stand text last h e = filled (length text) (map sixBits text) last zeros (length-map text sixBits) h e
-
-array-borrow-prefix-six : tie.Need-array-borrow-prefix-six
-array-borrow-prefix-six c = search needs
-
-slice-aggregate-values : tie.Need-slice-aggregate-values
-slice-aggregate-values c =
-    let start = c .before .before .before in
-    sym (length-take-le (length (start .args .text .now)) zeros (start .pre .0))
-
-values-requires : tie.Need-values-requires
-values-requires c κs =
-    let start = c .before .before .before in
-    let text = start .args .text .now in
-    omega (arith, length-map text sixBits, length-take-le (length text) zeros (start .pre .0))
-
-array-share-prefix-six : tie.Need-array-share-prefix-six
-array-share-prefix-six c =
-    let start = c .before .before .before .before .before in
-    let text = start .args .text .now in
-    let n = length text in
-    let last = c .before .values .last .1 .0 in
-    let kept = c .before .values .kept .1 .0 in
-    omega (arith, length-append last (drop n zeros), length-take-le n zeros (start .pre .0))
-
-slice-aggregate-pack : tie.Need-slice-aggregate-pack
-slice-aggregate-pack c =
+block-words-requires : tie.Need-block-words-requires
+block-words-requires c κs =
     let start = c .before .before .before .before .before .before in
     let text = start .args .text .now in
-    let n = length text in
-    let last = c .before .before .values .last .1 .0 in
-    sym (ap length (values-stand text last (start .pre .0) (c .before .before .values .ensures)) ∙ length-map text sixBits)
+    (ap length (c .before .before .block-values .ensures) ∙ length-map text near ∙ start .pre .0, refl)
 
-pack-requires : tie.Need-pack-requires
-unfolding decoded
-pack-requires c κs =
-    let start = c .before .before .before .before .before .before .before in
+put-words-requires : tie.Need-put-words-requires
+put-words-requires c κs =
+    let start = c .before .before .before .before .before .before .before .before .before in
     let text = start .args .text .now in
-    let n = length text in
-    let last = c .before .before .before .values .last .1 .0 in
-    let stand = values-stand text last (start .pre .0) (c .before .before .before .values .ensures) in
-    rw stand (start .pre .1)
+    let values = ap length (c .before .before .before .before .before .block-values .ensures) ∙ length-map text near ∙ start .pre .0 in
+    let words = ap length (c .before .before .block-words .ensures) ∙ words-of-length (c .before .before .before .before .before .block-values .last .1 .0) in
+    (omega (arith, values, words), omega (arith, start .pre .0, start .pre .1 .1, decoded-size text))
 
 same-length : tie.Need-same-length
 same-length c = search needs
 
 returns : tie.Need-returns
-unfolding decoded
 returns c =
-    let start = c .before .before .before .before .before .before .before .before .before .before in
+    let start = c .before .before .before .before .before .before .before .before .before .before .before .before in
     let text = start .args .text .now in
-    let n = length text in
-    let last = c .before .before .before .before .before .before .values .last .1 .0 in
-    let stand = values-stand text last (start .pre .0) (c .before .before .before .before .before .before .values .ensures) in
-    rw stand at (c .before .before .pack .ensures)
+    let at = start .args .at in
+    let octet = all-below 256 text (λ k h. omega (arith, c .before .before .before .before .before .before .before .before .before .before .before .shared-slice-known .given k)) in
+    let words = c .before .before .before .before .before .block-words .ensures ∙ ap wordsOf (c .before .before .before .before .before .before .before .before .block-values .ensures) in
+    let whole = block-octets text octet (start .pre .1 .0) (omega (arith, start .pre .0)) in
+    let call = c .before .before .put-words in (
+      omega (arith, call .ensures .0, decoded-size text, start .pre .0),
+      call .ensures .1 ∙ ap (λ (l : List ℕ). written at l (start .args .out .now)) (ap octetsOf words ∙ whole),
+    )
 
 pub decode-block-spec : {M : Type 1} → statement M
 decode-block-spec =
     tie.close
-    (tie.spec
-    array-borrow-prefix-six
-    slice-aggregate-values
-    values-requires
-    array-share-prefix-six
-    slice-aggregate-pack
-    pack-requires
-    same-length
-    returns)
+    (tie.spec block-values-requires block-words-requires put-words-requires same-length returns)

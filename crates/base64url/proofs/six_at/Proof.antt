@@ -1,0 +1,146 @@
+-- `six_at` reads six octets as a word.
+use Prim.Native.Nat.{ℕ, _+_, _*_}
+use mathlib.Core.Path.{_≡_, ap₂, _∙_}
+use lib.ListN.{getD}
+use Rattle.base64url.specs.Inner.Words.{digits, turnedWord, wordOf}
+use borrow.Author.Needs.{needs}
+use Rattle.base64url.proofs.six_at.Statement.{statement}
+use Rattle.base64url.proofs.six_at.Tie as tie
+
+shared-slice-read-wide : tie.Need-shared-slice-read-wide
+shared-slice-read-wide c = search needs
+
+wide-requires : tie.Need-wide-requires
+wide-requires c κs = search needs
+
+add-wide : tie.Need-add-wide
+add-wide c = search needs
+
+shared-slice-read-wide-2 : tie.Need-shared-slice-read-wide-2
+shared-slice-read-wide-2 c = search needs
+
+wide-requires-2 : tie.Need-wide-requires-2
+wide-requires-2 c κs = search needs
+
+mul-low : tie.Need-mul-low
+mul-low c = search needs
+
+add-low : tie.Need-add-low
+add-low c = search needs
+
+add-wide-2 : tie.Need-add-wide-2
+add-wide-2 c = search needs
+
+shared-slice-read-wide-3 : tie.Need-shared-slice-read-wide-3
+shared-slice-read-wide-3 c = search needs
+
+wide-requires-3 : tie.Need-wide-requires-3
+wide-requires-3 c κs = search needs
+
+mul-low-2 : tie.Need-mul-low-2
+mul-low-2 c = search needs
+
+add-low-2 : tie.Need-add-low-2
+add-low-2 c = search needs
+
+add-wide-3 : tie.Need-add-wide-3
+add-wide-3 c = search needs
+
+shared-slice-read-wide-4 : tie.Need-shared-slice-read-wide-4
+shared-slice-read-wide-4 c = search needs
+
+wide-requires-4 : tie.Need-wide-requires-4
+wide-requires-4 c κs = search needs
+
+mul-low-3 : tie.Need-mul-low-3
+mul-low-3 c = search needs
+
+add-low-3 : tie.Need-add-low-3
+add-low-3 c = search needs
+
+add-wide-4 : tie.Need-add-wide-4
+add-wide-4 c = search needs
+
+shared-slice-read-wide-5 : tie.Need-shared-slice-read-wide-5
+shared-slice-read-wide-5 c = search needs
+
+wide-requires-5 : tie.Need-wide-requires-5
+wide-requires-5 c κs = search needs
+
+add-wide-5 : tie.Need-add-wide-5
+add-wide-5 c = search needs
+
+shared-slice-read-wide-6 : tie.Need-shared-slice-read-wide-6
+shared-slice-read-wide-6 c = search needs
+
+wide-requires-6 : tie.Need-wide-requires-6
+wide-requires-6 c κs = search needs
+
+mul-high : tie.Need-mul-high
+mul-high c = search needs
+
+add-high : tie.Need-add-high
+add-high c = search needs
+
+long-requires : tie.Need-long-requires
+long-requires c κs = search needs
+
+long-requires-2 : tie.Need-long-requires-2
+long-requires-2 c κs = search needs
+
+mul-turned : tie.Need-mul-turned
+mul-turned c = search needs
+
+add-turned : tie.Need-add-turned
+add-turned c = search needs
+
+turned-requires : tie.Need-turned-requires
+turned-requires c κs = search needs
+
+returns : tie.Need-returns
+unfolding wordOf
+returns c =
+    let start = c .before .before .before .before .before .before .before .before .before .before .before .before .before .before .before .before in
+    let s = start .args .octets .now in
+    let k = start .args .k in
+    let low : c .before .before .long .result ≡ digits (getD s k 0) (getD s (k + 1) 0) (getD s (k + 2) 0) (getD s (k + 3) 0) =
+    c .before .before .long .ensures .0 ∙ ap₂ (λ (a d : ℕ). a + d * 16777216) (ap₂ (λ (a d : ℕ). a + d * 65536) (ap₂ (λ (a d : ℕ). a + d * 256) (c .before .before .before .before .before .before .before .before .before .before .before .before .before .wide .ensures .0) (c .before .before .before .before .before .before .before .before .before .before .before .wide2 .ensures .0)) (c .before .before .before .before .before .before .before .before .before .wide3 .ensures .0)) (c .before .before .before .before .before .before .before .wide4 .ensures .0) in
+    let high : c .before .long2 .result ≡ getD s (k + 4) 0 + getD s (k + 5) 0 * 256 =
+    c .before .long2 .ensures .0 ∙ ap₂ (λ (a d : ℕ). a + d * 256) (c .before .before .before .before .before .wide5 .ensures .0) (c .before .before .before .wide6 .ensures .0) in
+    c .turned .ensures ∙ ap₂ (λ (a b : ℕ). turnedWord (a + b * 4294967296)) low high
+
+pub six-at-spec : {M : Type 1} → statement M
+six-at-spec =
+    tie.close
+    (tie.spec
+    shared-slice-read-wide
+    wide-requires
+    add-wide
+    shared-slice-read-wide-2
+    wide-requires-2
+    mul-low
+    add-low
+    add-wide-2
+    shared-slice-read-wide-3
+    wide-requires-3
+    mul-low-2
+    add-low-2
+    add-wide-3
+    shared-slice-read-wide-4
+    wide-requires-4
+    mul-low-3
+    add-low-3
+    add-wide-4
+    shared-slice-read-wide-5
+    wide-requires-5
+    add-wide-5
+    shared-slice-read-wide-6
+    wide-requires-6
+    mul-high
+    add-high
+    long-requires
+    long-requires-2
+    mul-turned
+    add-turned
+    turned-requires
+    returns)

@@ -1,0 +1,2 @@
+-- What only inner contracts cite: nothing that has to be believed imports these (.ci/believed).
+pub mod Words
