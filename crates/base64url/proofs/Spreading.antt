@@ -10,7 +10,7 @@ use Rattle.prelude.proofs.Lists.{drop-next}
 use Rattle.base64url.specs.Base64url.{sextets}
 use Rattle.base64url.specs.Inner.Words.{digits, turnedHalf, turnedWord, wordOf, wordAt, sixesOf, fourValues, spreadOf, eightOctets, spreadAll}
 use Rattle.base64url.specs.Inner.Words.{sixOctets, spillOf}
-use Rattle.base64url.proofs.Words.{sixes, twelves, half-octets}
+use Rattle.base64url.proofs.Joining.{sixes, twelves, half-octets}
 
 abbrev pub zIn : ℕ → ℕ
 zIn w = w / 1099511627776 + w / 65536 % 16777216 * 4294967296
