@@ -1,4 +1,4 @@
--- Numbers that hold several values at once: what a mask leaves of each lane, and that words of values are their octets.
+-- Decoding by words: what `join` makes of eight values, and that a block's values become their octets.
 use mathlib.Core.Path.{_≡_, refl, ap, ap₂, sym, subst, _∙_}
 use mathlib.Core.List.{List, [], _∷_, _++_, map, append-nil}
 use Prim.Native.Nat.{ℕ, _+_, _*_, _/_, _%_, _^_, _≤_, _<_}
@@ -12,29 +12,8 @@ use Rattle.prelude.specs.Ascii.{ascii}
 use Rattle.prelude.proofs.Numbers.{below}
 use Rattle.base64url.specs.Base64url.{sixBits, octets, decoded, sextets}
 use Rattle.base64url.proofs.Alphabet.{value-near}
-use Rattle.base64url.specs.Inner.Words.{near, digits, pair, joined, wordsOf, turnedHalf, turnedWord, fourOctets, twoOctets, sixOctets, octetsOf}
-
--- A mask of six bits in each of four lanes of sixteen, and of twelve in each of two lanes of thirty-two
-
-lane16 : (R M r : ℕ) → r < 65536 → bitAnd (R * 65536 + r) (M * 65536 + 63) ≡ bitAnd R M * 65536 + r % 64
-lane16 R M r h = and-block 16 R M r 63 h (omega arith) ∙ ap (λ (t : ℕ). bitAnd R M * 65536 + t) (and-mask r 6)
-
-lane32 : (R M r : ℕ) → r < 4294967296 → bitAnd (R * 4294967296 + r) (M * 4294967296 + 4095) ≡ bitAnd R M * 4294967296 + r % 4096
-lane32 R M r h = and-block 32 R M r 4095 h (omega arith) ∙ ap (λ (t : ℕ). bitAnd R M * 4294967296 + t) (and-mask r 12)
-
-pub sixes : (a b c d : ℕ) → a < 65536 → b < 65536 → c < 65536
-    → bitAnd (((d * 65536 + c) * 65536 + b) * 65536 + a) 0x003F003F003F003F
-    ≡ ((d % 64 * 65536 + c % 64) * 65536 + b % 64) * 65536 + a % 64
-sixes a b c d ha hb hc =
-    lane16 ((d * 65536 + c) * 65536 + b) 0x003F003F003F a ha
-    ∙ ap (λ (t : ℕ). t * 65536 + a % 64) (lane16 (d * 65536 + c) 0x003F003F b hb
-    ∙ ap (λ (t : ℕ). t * 65536 + b % 64) (lane16 d 0x003F c hc
-    ∙ ap (λ (t : ℕ). t * 65536 + c % 64) (and-mask d 6)))
-
-pub twelves : (a b : ℕ) → a < 4294967296
-    → bitAnd (b * 4294967296 + a) 0x00000FFF00000FFF ≡ b % 4096 * 4294967296 + a % 4096
-twelves a b ha =
-    lane32 b 0x00000FFF a ha ∙ ap (λ (t : ℕ). t * 4294967296 + a % 4096) (and-mask b 12)
+use Rattle.base64url.specs.Inner.Words.{near, digits, pair, joined, wordsOf, sixOctets, octetsOf}
+use Rattle.base64url.proofs.Lanes.{sixes, twelves}
 
 -- What `join` makes: y of x, and the word of y
 
@@ -74,7 +53,8 @@ lanes-y a b c d ha hb hc =
     shift : (R r l : ℕ) → R % 256 ≡ l % 256 → (R * 65536 + r) / 256 ≡ R / 256 * 65536 + past r l
     shift R r l e = omega (arith, e)
 
-    next : (((d * 65536 + c) * 65536 + b) * 65536 + a) / 256 ≡ ((d / 256 * 65536 + past c d) * 65536 + past b c) * 65536 + past a b
+    next : (((d * 65536 + c) * 65536 + b) * 65536 + a) / 256
+        ≡ ((d / 256 * 65536 + past c d) * 65536 + past b c) * 65536 + past a b
     next =
         shift ((d * 65536 + c) * 65536 + b) a b (omega arith)
         ∙ ap (λ (t : ℕ). t * 65536 + past a b) (shift (d * 65536 + c) b c (omega arith)
@@ -111,11 +91,13 @@ joins x h =
     let c : ℕ = x / 4294967296 % 65536 in
     let d : ℕ = x / 281474976710656 in
     let y = ap yOf (lanes x) ∙ lanes-y a b c d (mod-below x) (mod-below (x / 65536)) (mod-below (x / 4294967296)) in
-    let z = ap zOf y ∙ lanes-z (pair a) (pair b) (pair c) (pair d) (pair-below a) (pair-below b) (pair-below c) (pair-below d) in
+    let z = ap zOf y
+    ∙ lanes-z (pair a) (pair b) (pair c) (pair d) (pair-below a) (pair-below b) (pair-below c) (pair-below d) in
     ap (λ (t : ℕ). t % 16777216 * 1099511627776 + t / 4294967296 * 65536) z
     ∙ over (pair a * 4096 + pair b) (pair c * 4096 + pair d) (both (pair a) (pair b) (pair-below a) (pair-below b))
   where
-    lanes : (x : ℕ) → x ≡ ((x / 281474976710656 * 65536 + x / 4294967296 % 65536) * 65536 + x / 65536 % 65536) * 65536 + x % 65536
+    lanes : (x : ℕ)
+        → x ≡ ((x / 281474976710656 * 65536 + x / 4294967296 % 65536) * 65536 + x / 65536 % 65536) * 65536 + x % 65536
     lanes x = omega arith
 
     mod-below : (x : ℕ) → x % 65536 < 65536
@@ -128,58 +110,6 @@ joins x h =
         → (u * 4294967296 + t) % 16777216 * 1099511627776 + (u * 4294967296 + t) / 4294967296 * 65536
         ≡ t * 1099511627776 + u * 65536
     over t u h = omega arith
-
--- The octets of a turned word
-
-pub half-octets : (h : ℕ) → h < 4294967296
-    → (turnedHalf h < 4294967296) × (turnedHalf h % 256 ≡ h / 16777216) × (turnedHalf h / 256 % 256 ≡ h / 65536 % 256)
-    × (turnedHalf h / 65536 % 256 ≡ h / 256 % 256) × (turnedHalf h / 16777216 ≡ h % 256)
-half-octets h below =
-    by (h % 256) (h / 256 % 256) (h / 65536 % 256) (h / 16777216) (omega arith) (omega arith) (omega arith) (omega arith)
-  where
-    by : (a b c d : ℕ) → a < 256 → b < 256 → c < 256 → d < 256
-        → (a * 16777216 + b * 65536 + c * 256 + d < 4294967296) × ((a * 16777216 + b * 65536 + c * 256 + d) % 256 ≡ d)
-        × ((a * 16777216 + b * 65536 + c * 256 + d) / 256 % 256 ≡ c) × ((a * 16777216 + b * 65536 + c * 256 + d) / 65536 % 256 ≡ b)
-        × ((a * 16777216 + b * 65536 + c * 256 + d) / 16777216 ≡ a)
-    by a b c d ha hb hc hd = (omega arith, omega arith, omega arith, omega arith, omega arith)
-
-pub turned-octets : (w : ℕ) → w < 18446744073709551616
-    → sixOctets w ≡ fourOctets (turnedWord w % 4294967296) ++ twoOctets (turnedWord w / 4294967296)
-unfolding turnedWord sixOctets
-turned-octets w below =
-    let u : ℕ = w / 4294967296 in
-    let l : ℕ = w % 4294967296 in
-    let high = half-octets u (omega arith) in
-    let low = half-octets l (omega arith) in
-    sym (parts (turnedHalf u) (turnedHalf l) (high .0)
-    (high .1 ∙ top w) (high .2 ∙ second w) (high .3 ∙ third w) (high .4 ∙ fourth w) (low .1 ∙ fifth w) (low .2 ∙ sixth w))
-  where
-    top : (w : ℕ) → w / 4294967296 / 16777216 ≡ w / 72057594037927936
-    top w = omega arith
-
-    second : (w : ℕ) → w / 4294967296 / 65536 % 256 ≡ w / 281474976710656 % 256
-    second w = omega arith
-
-    third : (w : ℕ) → w / 4294967296 / 256 % 256 ≡ w / 1099511627776 % 256
-    third w = omega arith
-
-    fourth : (w : ℕ) → w / 4294967296 % 256 ≡ w / 4294967296 % 256
-    fourth w = refl
-
-    fifth : (w : ℕ) → w % 4294967296 / 16777216 ≡ w / 16777216 % 256
-    fifth w = omega arith
-
-    sixth : (w : ℕ) → w % 4294967296 / 65536 % 256 ≡ w / 65536 % 256
-    sixth w = omega arith
-
-    parts : {a b c d e f : ℕ} (s t : ℕ) → s < 4294967296 → s % 256 ≡ a → s / 256 % 256 ≡ b → s / 65536 % 256 ≡ c → s / 16777216 ≡ d
-        → t % 256 ≡ e → t / 256 % 256 ≡ f
-        → fourOctets ((s + t * 4294967296) % 4294967296) ++ twoOctets ((s + t * 4294967296) / 4294967296)
-        ≡ a ∷ b ∷ c ∷ d ∷ e ∷ f ∷ []
-    parts s t h ea eb ec ed ee ef =
-        let low : (s + t * 4294967296) % 4294967296 ≡ s = omega (arith, h) in
-        let high : (s + t * 4294967296) / 4294967296 ≡ t = omega (arith, h) in
-        simp (low, high, ea, eb, ec, ed, ee, ef)
 
 -- Words and octets one after the other
 
@@ -227,12 +157,6 @@ pub words-of-next : (s : List ℕ) (k w : ℕ) → k + 8 ≤ length s
 unfolding wordsOf
 words-of-next s k w h e =
     ap wordsOf (drop-eight s k h) ∙ ap (λ (x : ℕ). x ∷ wordsOf (drop (k + 8) s)) (sym e)
-
--- what is written over the whole of a list
-pub written-whole : (xs buffer : List ℕ) → length xs ≡ length buffer → written 0 xs buffer ≡ xs
-unfolding written
-written-whole xs buffer e =
-    ap (λ (l : List ℕ). xs ++ l) (drop-of-length-le buffer {i = 0 + length xs} (omega (arith, e))) ∙ append-nil xs
 
 -- The octets of words of values are the octets of the values' six low bits
 
@@ -290,7 +214,8 @@ joined-of : (a b c d e f g h : ℕ) → a < 256 → b < 256 → c < 256 → d < 
 unfolding joined group
 joined-of a b c d e f g h ha hb hc hd he hf hg hh =
     ap joined (regroup a b c d e f g h)
-    ∙ lanes (a + b * 256) (c + d * 256) (e + f * 256) (g + h * 256) (two a b ha hb) (two c d hc hd) (two e f he hf) (two g h hg hh)
+    ∙ lanes (a + b * 256) (c + d * 256) (e + f * 256) (g + h * 256) (two a b ha hb) (two c d hc hd) (two e f he hf)
+    (two g h hg hh)
     ∙ simp (pair-of a b ha hb, pair-of c d hc hd, pair-of e f he hf, pair-of g h hg hh)
   where
     regroup : (a b c d e f g h : ℕ)
@@ -387,7 +312,8 @@ all-near : (text : List ℕ) → AllBelow 256 text → AllBelow 256 (map near te
 all-near [] h = tt
 all-near (c ∷ rest) h = (near-below c (h .0), all-near rest (h .1))
 
-near-values : (text : List ℕ) → AllBelow 256 text → AllBelow 64 (map sixBits text) → map low (map near text) ≡ map sixBits text
+near-values : (text : List ℕ) → AllBelow 256 text → AllBelow 64 (map sixBits text)
+    → map low (map near text) ≡ map sixBits text
 near-values [] h v = refl
 near-values (c ∷ rest) h v = ap₂ _∷_ (value-near c (h .0) (v .0)) (near-values rest (h .1) (v .1))
 

@@ -8,9 +8,10 @@ use lib.ListN.{length, drop, getD}
 use Rattle.prelude.specs.Buffer.{AllBelow}
 use Rattle.prelude.proofs.Lists.{drop-next}
 use Rattle.base64url.specs.Base64url.{sextets}
-use Rattle.base64url.specs.Inner.Words.{digits, turnedHalf, turnedWord, wordOf, wordAt, sixesOf, fourValues, spreadOf, eightOctets, spreadAll}
-use Rattle.base64url.specs.Inner.Words.{sixOctets, spillOf}
-use Rattle.base64url.proofs.Joining.{sixes, twelves, half-octets}
+use Rattle.base64url.specs.Inner.Words.{digits, turnedHalf, turnedWord, wordOf, wordAt, sixesOf, sixOctets}
+use Rattle.base64url.specs.Inner.Words.{spillOf, fourValues, spreadOf, eightOctets, spreadAll}
+use Rattle.base64url.proofs.Lanes.{sixes, twelves}
+use Rattle.base64url.proofs.Turning.{half-octets}
 
 abbrev pub zIn : ℕ → ℕ
 zIn w = w / 1099511627776 + w / 65536 % 16777216 * 4294967296
@@ -86,7 +87,8 @@ lanes-x a b c d ha hb hc hd =
     shift : (R r l : ℕ) → R % 64 ≡ l % 64 → (R * 65536 + r) / 64 ≡ R / 64 * 65536 + past r l
     shift R r l e = omega (arith, e)
 
-    next : (((d * 65536 + c) * 65536 + b) * 65536 + a) / 64 ≡ ((d / 64 * 65536 + past c d) * 65536 + past b c) * 65536 + past a b
+    next : (((d * 65536 + c) * 65536 + b) * 65536 + a) / 64
+        ≡ ((d / 64 * 65536 + past c d) * 65536 + past b c) * 65536 + past a b
     next =
         shift ((d * 65536 + c) * 65536 + b) a b (omega arith)
         ∙ ap (λ (t : ℕ). t * 65536 + past a b) (shift (d * 65536 + c) b c (omega arith)
@@ -171,7 +173,8 @@ word-of : (a b c d e f : ℕ) → a < 256 → b < 256 → c < 256 → d < 256 �
     → wordOf a b c d e f ≡ bytes a b c * 1099511627776 + bytes d e f * 65536
 unfolding wordOf turnedWord
 word-of a b c d e f ha hb hc hd he hf =
-    ap₂ (λ (x y : ℕ). turnedHalf x + turnedHalf y * 4294967296) (upper (digits a b c d) (e + f * 256) below) (lower (digits a b c d) (e + f * 256) below)
+    ap₂ (λ (x y : ℕ). turnedHalf x + turnedHalf y * 4294967296) (upper (digits a b c d) (e + f * 256) below)
+    (lower (digits a b c d) (e + f * 256) below)
     ∙ ap₂ (λ (x y : ℕ). x + y * 4294967296) (two e f he hf) (four a b c d ha hb hc hd)
     ∙ sum a b c d e f
   where
@@ -275,7 +278,8 @@ word-values a b c d e f ha hb hc hd he hf =
     ∙ ap₂ (λ (s t : ℕ). eightOctets (fourValues s + fourValues t * 4294967296))
     (upper (bytes a b c) (bytes d e f) (small d e f hd he hf)) (lower (bytes a b c) (bytes d e f) (small d e f hd he hf))
     ∙ ap₂ (λ (s t : ℕ). eightOctets (s + t * 4294967296)) (values-of a b c ha hb hc) (values-of d e f hd he hf)
-    ∙ octets-of (a / 4) (a % 4 * 16 + b / 16) (b % 16 * 4 + c / 64) (c % 64) (d / 4) (d % 4 * 16 + e / 16) (e % 16 * 4 + f / 64) (f % 64)
+    ∙ octets-of (a / 4) (a % 4 * 16 + b / 16) (b % 16 * 4 + c / 64) (c % 64) (d / 4) (d % 4 * 16 + e / 16)
+    (e % 16 * 4 + f / 64) (f % 64)
     (v0 a ha) (v1 a b hb) (v2 b c hc) (v3 c) (v0 d hd) (v1 d e he) (v2 e f hf) (v3 f)
   where
     small : (a b c : ℕ) → a < 256 → b < 256 → c < 256 → bytes a b c < 16777216
@@ -322,7 +326,8 @@ sixes-of-length (a ∷ b ∷ c ∷ d ∷ []) = refl
 sixes-of-length (a ∷ b ∷ c ∷ d ∷ e ∷ []) = refl
 sixes-of-length (a ∷ b ∷ c ∷ d ∷ e ∷ f ∷ rest) = omega (arith, sixes-of-length rest)
 
-pub sixes-of-next : (s : List ℕ) (k w : ℕ) → k + 6 ≤ length s → w ≡ wordAt s k → sixesOf (drop k s) ≡ w ∷ sixesOf (drop (k + 6) s)
+pub sixes-of-next : (s : List ℕ) (k w : ℕ) → k + 6 ≤ length s → w ≡ wordAt s k
+    → sixesOf (drop k s) ≡ w ∷ sixesOf (drop (k + 6) s)
 unfolding sixesOf
 sixes-of-next s k w h e =
     ap sixesOf (

@@ -25,7 +25,8 @@ fn block_values(text: &[u8], six: &mut [u8; 128])
     }
 }
 
-// Eight values' six low bits, one after the other, as the upper 48 bits of a number. What stands above the six bits is dropped.
+// Eight values' six low bits, one after the other, as the upper 48 bits of a number. What stands above the six bits is
+// dropped.
 fn join(x: u64) -> u64
     ensures { λ r. ⌜ r ≡ joined x ⌝ }
 {
@@ -121,6 +122,6 @@ pub(crate) fn decode_at(text: &[u8], out: &mut [u8], at: usize) -> usize
         j = decode_block(&text[i..e], out, j);
         i = e;
     }
-    let table = step::SIX_BITS;
+    let table = step::table();
     by_groups::decode_groups(&table, &text[i..n], out, j)
 }

@@ -1,5 +1,5 @@
-// Encoding: whole blocks of 48 octets become words of six, then eight values of each word, then characters; what is left goes
-// group by group. As in decoding, the steps between are local arrays.
+// Encoding: whole blocks of 48 octets become words of six, then eight values of each word, then characters; what is left
+// goes group by group. As in decoding, the steps between are local arrays.
 ghost use mathlib.Core.Path.{_≡_};
 ghost use Prim.Native.Nat.{_+_, _≤_};
 ghost use mathlib.Core.List.{map};

@@ -1,5 +1,5 @@
-// One character: its six bits, and back. `value` and `character` are sums without a branch, so that the compiler does sixteen
-// characters at a time; the table is for one character after the other.
+// The step from one character to its six bits, and back. `value` and `character` are sums without a branch, so that the
+// compiler does sixteen characters at a time; the table is for one character after the other.
 ghost use mathlib.Core.Path.{_≡_};
 ghost use Prim.Native.Nat.{_≤_, _<_};
 ghost use mathlib.Core.Bool.{cond};
@@ -7,9 +7,8 @@ ghost use lib.Dec.{leb};
 ghost use Rattle.base64url.specs.Base64url.{character, sixBits};
 ghost use Rattle.base64url.specs.Inner.Words.{Tabled, near};
 
-// The six bits of each octet as a character, or 64 (\x40): sixteen octets a row. A constant is built anew wherever it is
-// named, so it is named once in a decoding and lent.
-pub(crate) const SIX_BITS: [u8; 256] = *b"\
+// The six bits of each octet as a character, or 64 (\x40): sixteen octets a row.
+const SIX_BITS: [u8; 256] = *b"\
     \x40\x40\x40\x40\x40\x40\x40\x40\x40\x40\x40\x40\x40\x40\x40\x40\
     \x40\x40\x40\x40\x40\x40\x40\x40\x40\x40\x40\x40\x40\x40\x40\x40\
     \x40\x40\x40\x40\x40\x40\x40\x40\x40\x40\x40\x40\x40\x3e\x40\x40\
@@ -27,6 +26,13 @@ pub(crate) const SIX_BITS: [u8; 256] = *b"\
     \x40\x40\x40\x40\x40\x40\x40\x40\x40\x40\x40\x40\x40\x40\x40\x40\
     \x40\x40\x40\x40\x40\x40\x40\x40\x40\x40\x40\x40\x40\x40\x40\x40";
 
+// The table, built anew at each call: so a decoding calls once and lends it.
+pub(crate) fn table() -> [u8; 256]
+    ensures { λ r. ⌜ Tabled r ⌝ }
+{
+    SIX_BITS
+}
+
 // The six bits of a character, or 64, by the table that the caller lends.
 pub(crate) fn six_bits(table: &[u8; 256], c: u8) -> u8
     requires { ⌜ Tabled (now table) ⌝ }
@@ -43,8 +49,8 @@ fn on(test: bool, a: u8) -> u8
     if test { a } else { 0 }
 }
 
-// The six bits of a character of the alphabet, modulo 64. The sum is not reduced: who packs the values drops what is above, and
-// one octet in each sum is what the compiler keeps in vectors.
+// The six bits of a character of the alphabet, modulo 64. The sum is not reduced, since who packs the values drops what is
+// above the six bits.
 pub(crate) fn value(c: u8) -> u8
     ensures { λ r. ⌜ r ≡ near c ⌝ }
 {

@@ -6,7 +6,8 @@ use native.Mathlib.Omega.{arith}
 use lib.ListN.{length, getD, length-set}
 use Rattle.prelude.proofs.Writing.{begin-as, put, ended}
 use Rattle.base64url.specs.Base64url.{sixBits, decoded}
-use Rattle.base64url.proofs.Groups.{decoded-size, decoded-of-few, decoded-of-two, decoded-of-three, value-below}
+use Rattle.base64url.proofs.Groups.{decoded-of-few, decoded-of-two, decoded-of-three, value-below}
+use Rattle.base64url.proofs.Laws.{decoded-length}
 use borrow.Author.Needs.{needs}
 use Rattle.base64url.proofs.by_groups.decode_few.Statement.{statement}
 use Rattle.base64url.proofs.by_groups.decode_few.Tie as tie
@@ -16,7 +17,8 @@ returns c =
     let start = c .before .before .before in
     let text = start .args .text .now in
     let at = start .args .at in
-    let opened = begin-as at (decoded text) [] (start .args .out .now) (decoded-of-few text (c .if1 .taken)) (start .pre .1 .1 .1) in
+    let opened =
+    begin-as at (decoded text) [] (start .args .out .now) (decoded-of-few text (c .if1 .taken)) (start .pre .1 .1 .1) in
     ended opened
 
 shared-slice-read-six-bits : tie.Need-shared-slice-read-six-bits
@@ -40,7 +42,7 @@ first-octet-requires c κs =
 slice-write-out : tie.Need-slice-write-out
 slice-write-out c =
     let start = c .before .before .before .before .before .before .before .before in
-    omega (arith, start .pre .1 .0, start .pre .1 .1 .1, decoded-size (start .args .text .now))
+    omega (arith, start .pre .1 .0, start .pre .1 .1 .1, decoded-length (start .args .text .now))
 
 add-result : tie.Need-add-result
 add-result c = search needs
@@ -55,7 +57,8 @@ returns-2 c =
     let at = start .args .at in
     let first = c .before .first-octet in
     let parts = decoded-of-two text (omega arith) in
-    let group : decoded text ≡ first .result ∷ [] = cc (parts, first .ensures, c .before .before .before .before .six-bits .ensures, c .before .before .six-bits2 .ensures) in
+    let group : decoded text ≡ first .result ∷ [] =
+    cc (parts, first .ensures, c .before .before .before .before .six-bits .ensures, c .before .before .six-bits2 .ensures) in
     let opened = begin-as at (decoded text) (first .result ∷ []) (start .args .out .now) group (start .pre .1 .1 .1) in
     ended (put _ (at + 1) refl opened)
 
@@ -76,7 +79,7 @@ add-out c = search needs
 slice-write-out-2 : tie.Need-slice-write-out-2
 slice-write-out-2 c =
     let start = c .before .before .before .before .before .before .before .before .before .before .before .before in
-    simp length-set (omega (arith, start .pre .1 .0, start .pre .1 .1 .1, decoded-size (start .args .text .now)))
+    simp length-set (omega (arith, start .pre .1 .0, start .pre .1 .1 .1, decoded-length (start .args .text .now)))
 
 add-result-2 : tie.Need-add-result-2
 add-result-2 c = search needs
@@ -91,10 +94,15 @@ returns-3 c =
     let at = start .args .at in
     let first = c .before .before .before .before .first-octet in
     let second = c .second-octet in
+    let p = c .before .before .before .before .before .before .before .six-bits in
+    let q = c .before .before .before .before .before .six-bits2 in
+    let r = c .before .six-bits3 in
     let parts = decoded-of-three text (omega (arith, start .pre .1 .0)) in
     let group : decoded text ≡ first .result ∷ second .result ∷ [] =
-    cc (parts, first .ensures, second .ensures, c .before .before .before .before .before .before .before .six-bits .ensures, c .before .before .before .before .before .six-bits2 .ensures, c .before .six-bits3 .ensures) in
-    let opened = begin-as at (decoded text) (first .result ∷ second .result ∷ []) (start .args .out .now) group (start .pre .1 .1 .1) in
+    cc (parts, first .ensures, second .ensures, p .ensures, q .ensures, r .ensures) in
+    let opened =
+    begin-as at (decoded text) (first .result ∷ second .result ∷ []) (start .args .out .now) group
+    (start .pre .1 .1 .1) in
     let one = put _ (at + 1) refl opened in
     ended (put _ (at + 2) (omega arith) one)
 

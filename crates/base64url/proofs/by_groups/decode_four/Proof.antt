@@ -6,7 +6,8 @@ use native.Mathlib.Omega.{arith}
 use lib.ListN.{length, getD, length-set}
 use Rattle.prelude.proofs.Writing.{begin-as, put, ended}
 use Rattle.base64url.specs.Base64url.{sixBits, decoded}
-use Rattle.base64url.proofs.Groups.{decoded-size, decoded-of-four, value-below}
+use Rattle.base64url.proofs.Groups.{decoded-of-four, value-below}
+use Rattle.base64url.proofs.Laws.{decoded-length}
 use borrow.Author.Needs.{needs}
 use Rattle.base64url.proofs.by_groups.decode_four.Statement.{statement}
 use Rattle.base64url.proofs.by_groups.decode_four.Tie as tie
@@ -38,18 +39,23 @@ six-bits-requires-4 c κs = search needs
 first-octet-requires : tie.Need-first-octet-requires
 first-octet-requires c κs =
     let start = c .before .before .before .before .before .before .before .before .before .before in
-    let below = value-below (start .args .text .now) (start .pre .1 .1 .0) in
-    (rw (c .before .before .before .before .before .before .six-bits .ensures) (below 0 (omega (arith, start .pre .1 .0))), rw (c .before .before .before .before .six-bits2 .ensures) (below 1 (omega (arith, start .pre .1 .0))))
+    let below = value-below (start .args .text .now) (start .pre .1 .1 .0) in (
+      rw (c .before .before .before .before .before .before .six-bits .ensures)
+          (below 0 (omega (arith, start .pre .1 .0))),
+      rw (c .before .before .before .before .six-bits2 .ensures)
+          (below 1 (omega (arith, start .pre .1 .0))),
+    )
 
 slice-write-out : tie.Need-slice-write-out
 slice-write-out c =
     let start = c .before .before .before .before .before .before .before .before .before .before .before in
-    omega (arith, start .pre .1 .0, start .pre .1 .1 .1, decoded-size (start .args .text .now))
+    omega (arith, start .pre .1 .0, start .pre .1 .1 .1, decoded-length (start .args .text .now))
 
 second-octet-requires : tie.Need-second-octet-requires
 second-octet-requires c κs =
     let start = c .before .before .before .before .before .before .before .before .before .before .before in
-    rw (c .before .before .before .six-bits3 .ensures) (value-below (start .args .text .now) (start .pre .1 .1 .0) 2 (omega (arith, start .pre .1 .0)))
+    rw (c .before .before .before .six-bits3 .ensures)
+    (value-below (start .args .text .now) (start .pre .1 .1 .0) 2 (omega (arith, start .pre .1 .0)))
 
 add-out : tie.Need-add-out
 add-out c = search needs
@@ -57,12 +63,13 @@ add-out c = search needs
 slice-write-out-2 : tie.Need-slice-write-out-2
 slice-write-out-2 c =
     let start = c .before .before .before .before .before .before .before .before .before .before .before .before in
-    simp length-set (omega (arith, start .pre .1 .0, start .pre .1 .1 .1, decoded-size (start .args .text .now)))
+    simp length-set (omega (arith, start .pre .1 .0, start .pre .1 .1 .1, decoded-length (start .args .text .now)))
 
 third-octet-requires : tie.Need-third-octet-requires
 third-octet-requires c κs =
     let start = c .before .before .before .before .before .before .before .before .before .before .before .before in
-    rw (c .before .before .six-bits4 .ensures) (value-below (start .args .text .now) (start .pre .1 .1 .0) 3 (omega (arith, start .pre .1 .0)))
+    rw (c .before .before .six-bits4 .ensures)
+    (value-below (start .args .text .now) (start .pre .1 .1 .0) 3 (omega (arith, start .pre .1 .0)))
 
 add-out-2 : tie.Need-add-out-2
 add-out-2 c = search needs
@@ -70,7 +77,7 @@ add-out-2 c = search needs
 slice-write-out-3 : tie.Need-slice-write-out-3
 slice-write-out-3 c =
     let start = c .before .before .before .before .before .before .before .before .before .before .before .before .before in
-    simp length-set (omega (arith, start .pre .1 .0, start .pre .1 .1 .1, decoded-size (start .args .text .now)))
+    simp length-set (omega (arith, start .pre .1 .0, start .pre .1 .1 .1, decoded-length (start .args .text .now)))
 
 add-result : tie.Need-add-result
 add-result c = search needs
@@ -86,10 +93,16 @@ returns c =
     let first = c .before .before .first-octet in
     let second = c .before .second-octet in
     let third = c .third-octet in
+    let p = c .before .before .before .before .before .before .before .before .before .six-bits in
+    let q = c .before .before .before .before .before .before .before .six-bits2 in
+    let r = c .before .before .before .before .before .six-bits3 in
+    let s = c .before .before .before .six-bits4 in
     let parts = decoded-of-four text (start .pre .1 .0) in
     let group : decoded text ≡ first .result ∷ second .result ∷ third .result ∷ [] =
-    cc (parts, first .ensures, second .ensures, third .ensures, c .before .before .before .before .before .before .before .before .before .six-bits .ensures, c .before .before .before .before .before .before .before .six-bits2 .ensures, c .before .before .before .before .before .six-bits3 .ensures, c .before .before .before .six-bits4 .ensures) in
-    let opened = begin-as at (decoded text) (first .result ∷ second .result ∷ third .result ∷ []) (start .args .out .now) group (start .pre .1 .1 .1) in
+    cc (parts, first .ensures, second .ensures, third .ensures, p .ensures, q .ensures, r .ensures, s .ensures) in
+    let opened =
+    begin-as at (decoded text) (first .result ∷ second .result ∷ third .result ∷ []) (start .args .out .now) group
+    (start .pre .1 .1 .1) in
     let one = put _ (at + 1) refl opened in
     let two = put _ (at + 2) (omega arith) one in
     ended (put _ (at + 3) (omega arith) two)

@@ -49,7 +49,9 @@ decode-four-requires c κs =
     let part = take (i + 4 - i) (drop i text) in
     let parts = decoded-group text i (i + 4) (omega arith) (omega arith) in
     let size : length part ≡ 4 = length-take (i + 4 - i) (drop i text) ∙ omega (arith, length-drop i text) in
-    let below = subst (AllBelow 64) (map-part sixBits text i (i + 4 - i)) (below-part 64 (map sixBits text) i (i + 4 - i) (start .pre .1 .0)) in
+    let below =
+    subst (AllBelow 64) (map-part sixBits text i (i + 4 - i))
+    (below-part 64 (map sixBits text) i (i + 4 - i) (start .pre .1 .0)) in
     (start .pre .0, (size, (below, room-part (decoded part) (decoded (drop (i + 4) text)) parts (loop .inv .1))))
 
 loop-less : tie.Need-loop-less Inv-loop μ-loop
@@ -63,8 +65,11 @@ loop-again c =
     let i = loop .i in
     let part = take (i + 4 - i) (drop i text) in
     let parts = decoded-group text i (i + 4) (omega arith) (omega arith) in
-    let call = c .before .before .decode-four in
-    (omega arith, put-part (decoded part) (decoded (drop (i + 4) text)) parts (loop .inv .1) (call .ensures .0) (call .ensures .1))
+    let call = c .before .before .decode-four in (
+      omega arith,
+      put-part (decoded part) (decoded (drop (i + 4) text)) parts (loop .inv .1) (call .ensures .0)
+          (call .ensures .1),
+    )
 
 sub-decode-few : tie.Need-sub-decode-few Inv-loop μ-loop
 sub-decode-few c = search needs
@@ -84,7 +89,9 @@ decode-few-requires c κs =
     let part = take (length text - i) (drop i text) in
     let parts = rest-part decoded text i in
     let few : length part < 4 = omega (arith, length-take (length text - i) (drop i text)) in
-    let below = subst (AllBelow 64) (map-part sixBits text i (length text - i)) (below-part 64 (map sixBits text) i (length text - i) (start .pre .1 .0)) in
+    let below =
+    subst (AllBelow 64) (map-part sixBits text i (length text - i))
+    (below-part 64 (map sixBits text) i (length text - i) (start .pre .1 .0)) in
     (start .pre .0, (few, (below, room-part (decoded part) [] parts (loop .inv .1))))
 
 same-length : tie.Need-same-length Inv-loop μ-loop

@@ -58,7 +58,9 @@ returns-2 c =
     let parts = sextets-of-one octets (omega arith) in
     let last : second .result ≡ getD octets 0 0 % 4 * 16 = omega (arith, second .ensures) in
     let group : sextets octets ≡ (getD octets 0 0 / 4) ∷ second .result ∷ [] = cc (parts, last) in
-    let opened = begin-as at (sextets octets) ((getD octets 0 0 / 4) ∷ second .result ∷ []) (start .args .into .now) group (start .pre .1) in
+    let opened =
+    begin-as at (sextets octets) ((getD octets 0 0 / 4) ∷ second .result ∷ []) (start .args .into .now) group
+    (start .pre .1) in
     let one = put _ (at + 1) refl opened in
     ended (put _ (at + 2) (omega arith) one)
 
@@ -108,8 +110,11 @@ returns-3 c =
     let third = c .third-value in
     let parts = sextets-of-two octets (omega arith) in
     let last : third .result ≡ getD octets 1 0 % 16 * 4 = omega (arith, third .ensures) in
-    let group : sextets octets ≡ (getD octets 0 0 / 4) ∷ second .result ∷ third .result ∷ [] = cc (parts, second .ensures, last) in
-    let opened = begin-as at (sextets octets) ((getD octets 0 0 / 4) ∷ second .result ∷ third .result ∷ []) (start .args .into .now) group (start .pre .1) in
+    let group : sextets octets ≡ (getD octets 0 0 / 4) ∷ second .result ∷ third .result ∷ [] =
+    cc (parts, second .ensures, last) in
+    let opened =
+    begin-as at (sextets octets) ((getD octets 0 0 / 4) ∷ second .result ∷ third .result ∷ [])
+    (start .args .into .now) group (start .pre .1) in
     let one = put _ (at + 1) refl opened in
     let two = put _ (at + 2) (omega arith) one in
     ended (put _ (at + 3) (omega arith) two)

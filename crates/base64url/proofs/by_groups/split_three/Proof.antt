@@ -78,8 +78,11 @@ returns c =
     let second = c .before .before .before .before .second-value in
     let third = c .before .third-value in
     let parts = sextets-of-three octets (start .pre .0) in
-    let group : sextets octets ≡ (getD octets 0 0 / 4) ∷ second .result ∷ third .result ∷ (getD octets 2 0 % 64) ∷ [] = cc (parts, second .ensures, third .ensures) in
-    let opened = begin-as at (sextets octets) ((getD octets 0 0 / 4) ∷ second .result ∷ third .result ∷ (getD octets 2 0 % 64) ∷ []) (start .args .into .now) group (start .pre .1) in
+    let group : sextets octets ≡ (getD octets 0 0 / 4) ∷ second .result ∷ third .result ∷ (getD octets 2 0 % 64) ∷ [] =
+    cc (parts, second .ensures, third .ensures) in
+    let opened =
+    begin-as at (sextets octets) ((getD octets 0 0 / 4) ∷ second .result ∷ third .result ∷ (getD octets 2 0 % 64) ∷ [])
+    (start .args .into .now) group (start .pre .1) in
     let one = put _ (at + 1) refl opened in
     let two = put _ (at + 2) (omega arith) one in
     let three = put _ (at + 3) (omega arith) two in

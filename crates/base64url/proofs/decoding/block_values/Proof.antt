@@ -7,7 +7,7 @@ use native.Mathlib.Omega.{arith}
 use lib.ListN.{drop, length-map}
 use Rattle.prelude.proofs.Writing.{Writing, begin, put-mapped, mapped, done}
 use Rattle.base64url.specs.Inner.Words.{near}
-use Rattle.base64url.proofs.Joining.{written-whole}
+use Rattle.base64url.proofs.Covering.{written-whole}
 use Rattle.base64url.proofs.decoding.block_values.Statement.{statement}
 use Rattle.base64url.proofs.decoding.block_values.Tie as tie
 
@@ -20,8 +20,11 @@ abbrev μ-loop : tie.MeasureT-loop
 loop-holds : tie.Need-loop-holds Inv-loop μ-loop
 loop-holds c =
     let start = c .before in
-    let text = start .args .text .now in
-    (search needs, begin 0 (map near text) (start .args .six .now) (omega (arith, length-map text near, start .pre .0, start .pre .1)))
+    let text = start .args .text .now in (
+      search needs,
+      begin 0 (map near text) (start .args .six .now)
+          (omega (arith, length-map text near, start .pre .0, start .pre .1)),
+    )
 
 shared-slice-read-value : tie.Need-shared-slice-read-value Inv-loop μ-loop
 shared-slice-read-value c = search needs
@@ -44,7 +47,8 @@ loop-again c =
     let at = c .before .before .before .loop in
     let text = start .args .text .now in (
       omega arith,
-      put-mapped near text (at .k) (c .value .result) (at .k + 1) (omega (arith, start .pre .0)) (c .value .ensures) refl (at .inv .1),
+      put-mapped near text (at .k) (c .value .result) (at .k + 1) (omega (arith, start .pre .0)) (c .value .ensures) refl
+          (at .inv .1),
     )
 
 returns : tie.Need-returns Inv-loop μ-loop
@@ -53,7 +57,8 @@ returns c =
     let at = c .before .loop in
     let text = start .args .text .now in
     let end = done (mapped near text (at .k) (omega (arith, start .pre .0, c .loop-test .left)) (at .inv .1)) in
-    end ∙ written-whole (map near text) (start .args .six .now) (omega (arith, length-map text near, start .pre .0, start .pre .1))
+    end ∙ written-whole (map near text) (start .args .six .now)
+    (omega (arith, length-map text near, start .pre .0, start .pre .1))
 
 pub block-values-spec : {M : Type 1} → statement M
 block-values-spec =

@@ -7,7 +7,8 @@ use native.Mathlib.Omega.{arith}
 use lib.ListN.{drop, drop-of-length-le}
 use Rattle.prelude.proofs.Writing.{Writing, begin, put, done}
 use Rattle.base64url.specs.Inner.Words.{joined, wordsOf}
-use Rattle.base64url.proofs.Joining.{words-of-length, words-of-next, written-whole}
+use Rattle.base64url.proofs.Covering.{written-whole}
+use Rattle.base64url.proofs.Joining.{words-of-length, words-of-next}
 use Rattle.base64url.proofs.decoding.block_words.Statement.{statement}
 use Rattle.base64url.proofs.decoding.block_words.Tie as tie
 
@@ -19,8 +20,12 @@ abbrev μ-loop : tie.MeasureT-loop
 
 loop-holds : tie.Need-loop-holds Inv-loop μ-loop
 loop-holds c =
-    let six = c .args .six .now in
-    (search needs, refl, begin 0 (wordsOf six) (c .args .words .now) (omega (arith, words-of-length six, c .pre .0, c .pre .1)))
+    let six = c .args .six .now in (
+      search needs,
+      refl,
+      begin 0 (wordsOf six) (c .args .words .now)
+          (omega (arith, words-of-length six, c .pre .0, c .pre .1)),
+    )
 
 four-requires : tie.Need-four-requires Inv-loop μ-loop
 four-requires c κs = search needs
@@ -67,12 +72,17 @@ loop-again c =
     let loop = c .before .before .before .before .before .before .before .before .loop in
     let six = start .args .six .now in
     let k = loop .k in
-    let low = c .before .before .before .before .long .ensures .0 ∙ c .before .before .before .before .before .four .ensures in
+    let low = c .before .before .before .before .long .ensures .0
+    ∙ c .before .before .before .before .before .four .ensures in
     let high = c .before .long2 .ensures .0 ∙ c .before .before .four2 .ensures in
     let word = c .join .ensures ∙ ap₂ (λ (a b : ℕ). joined (a + b * 4294967296)) low high in
     let next = words-of-next six k (c .join .result) (omega (arith, start .pre .0)) word in
-    let all = Writing 0 (wordsOf six) (start .args .words .now) in
-    (omega arith, omega arith, put (c .join .result) (loop .g + 1) refl (subst (λ (l : List ℕ). all l (loop .g) (loop .words)) next (loop .inv .2)))
+    let all = Writing 0 (wordsOf six) (start .args .words .now) in (
+      omega arith,
+      omega arith,
+      put (c .join .result) (loop .g + 1) refl
+          (subst (λ (l : List ℕ). all l (loop .g) (loop .words)) next (loop .inv .2)),
+    )
 
 returns : tie.Need-returns Inv-loop μ-loop
 unfolding wordsOf
@@ -80,10 +90,12 @@ returns c =
     let start = c .before .before in
     let loop = c .before .loop in
     let six = start .args .six .now in
-    let none : drop (loop .k) six ≡ [] = drop-of-length-le six {i = loop .k} (omega (arith, start .pre .0, c .loop-test .left)) in
+    let none : drop (loop .k) six ≡ [] =
+    drop-of-length-le six {i = loop .k} (omega (arith, start .pre .0, c .loop-test .left)) in
     let all = Writing 0 (wordsOf six) (start .args .words .now) in
     let end = done (subst (λ (l : List ℕ). all (wordsOf l) (loop .g) (loop .words)) none (loop .inv .2)) in
-    end ∙ written-whole (wordsOf six) (start .args .words .now) (omega (arith, words-of-length six, start .pre .0, start .pre .1))
+    end ∙ written-whole (wordsOf six) (start .args .words .now)
+    (omega (arith, words-of-length six, start .pre .0, start .pre .1))
 
 pub block-words-spec : {M : Type 1} → statement M
 block-words-spec =

@@ -1,4 +1,4 @@
--- `decode_at` writes a text's octets: block by block, and the rest by the table, whose rule is proved over all of it (`Table`).
+-- `decode_at` writes a text's octets: block by block, and the rest group by group, by the table that it lends.
 use borrow.Author.Needs.{needs}
 use Prim.Native.Nat.{ℕ, _+_, _-_, _≤_}
 use mathlib.Core.Path.{_≡_, subst, _∙_}
@@ -10,7 +10,6 @@ use Rattle.prelude.proofs.Lists.{below-part, map-part, rest-part}
 use Rattle.prelude.proofs.Writing.{Writing, begin, put-part, room-part, ended}
 use Rattle.base64url.specs.Base64url.{sixBits, decoded}
 use Rattle.base64url.proofs.Groups.{decoded-block}
-use Rattle.base64url.proofs.Table.{table, tabled}
 use Rattle.base64url.proofs.decoding.decode_at.Statement.{statement}
 use Rattle.base64url.proofs.decoding.decode_at.Tie as tie
 
@@ -50,7 +49,9 @@ decode-block-requires c κs =
     let part = take (i + 128 - i) (drop i text) in
     let parts = decoded-block text i (i + 128) (omega arith) (omega arith) in
     let size : length part ≡ 128 = length-take (i + 128 - i) (drop i text) ∙ omega (arith, length-drop i text) in
-    let below = subst (AllBelow 64) (map-part sixBits text i (i + 128 - i)) (below-part 64 (map sixBits text) i (i + 128 - i) (start .pre .0)) in
+    let below =
+    subst (AllBelow 64) (map-part sixBits text i (i + 128 - i))
+    (below-part 64 (map sixBits text) i (i + 128 - i) (start .pre .0)) in
     (size, (below, room-part (decoded part) (decoded (drop (i + 128) text)) parts (loop .inv .1)))
 
 loop-less : tie.Need-loop-less Inv-loop μ-loop
@@ -64,8 +65,14 @@ loop-again c =
     let i = loop .i in
     let part = take (i + 128 - i) (drop i text) in
     let parts = decoded-block text i (i + 128) (omega arith) (omega arith) in
-    let call = c .before .before .decode-block in
-    (omega arith, put-part (decoded part) (decoded (drop (i + 128) text)) parts (loop .inv .1) (call .ensures .0) (call .ensures .1))
+    let call = c .before .before .decode-block in (
+      omega arith,
+      put-part (decoded part) (decoded (drop (i + 128) text)) parts (loop .inv .1) (call .ensures .0)
+          (call .ensures .1),
+    )
+
+table-requires : tie.Need-table-requires Inv-loop μ-loop
+table-requires c κs = search needs
 
 sub-decode-groups : tie.Need-sub-decode-groups Inv-loop μ-loop
 sub-decode-groups c = search needs
@@ -77,21 +84,22 @@ part-decode-groups-end : tie.Need-part-decode-groups-end Inv-loop μ-loop
 part-decode-groups-end c = search needs
 
 decode-groups-requires : tie.Need-decode-groups-requires Inv-loop μ-loop
-unfolding table
 decode-groups-requires c κs =
-    let start = c .before .before .before .before .before .before .before in
-    let loop = c .before .before .before .before .loop in
+    let start = c .before .before .before .before .before .before .before .before in
+    let loop = c .before .before .before .before .before .loop in
     let text = start .args .text .now in
     let i = loop .i in
     let part = take (length text - i) (drop i text) in
     let parts = rest-part decoded text i in
-    let below = subst (AllBelow 64) (map-part sixBits text i (length text - i)) (below-part 64 (map sixBits text) i (length text - i) (start .pre .0)) in
-    (tabled, (below, room-part (decoded part) [] parts (loop .inv .1)))
+    let below =
+    subst (AllBelow 64) (map-part sixBits text i (length text - i))
+    (below-part 64 (map sixBits text) i (length text - i) (start .pre .0)) in
+    (c .before .before .before .table .ensures, (below, room-part (decoded part) [] parts (loop .inv .1)))
 
 same-length : tie.Need-same-length Inv-loop μ-loop
 same-length c =
-    let start = c .before .before .before .before .before .before .before .before .before .before in
-    let loop = c .before .before .before .before .before .before .before .loop in
+    let start = c .before .before .before .before .before .before .before .before .before .before .before in
+    let loop = c .before .before .before .before .before .before .before .before .loop in
     let text = start .args .text .now in
     let i = loop .i in
     let part = take (length text - i) (drop i text) in
@@ -102,8 +110,8 @@ same-length c =
 
 returns : tie.Need-returns Inv-loop μ-loop
 returns c =
-    let start = c .before .before .before .before .before .before .before .before .before .before in
-    let loop = c .before .before .before .before .before .before .before .loop in
+    let start = c .before .before .before .before .before .before .before .before .before .before .before in
+    let loop = c .before .before .before .before .before .before .before .before .loop in
     let text = start .args .text .now in
     let i = loop .i in
     let part = take (length text - i) (drop i text) in
@@ -126,6 +134,7 @@ decode-at-spec =
     decode-block-requires
     loop-less
     loop-again
+    table-requires
     sub-decode-groups
     part-decode-groups-start
     part-decode-groups-end

@@ -5,7 +5,7 @@ use mathlib.Core.List.{_++_, [], append-nil}
 use native.Mathlib.Omega.{arith}
 use Rattle.prelude.proofs.Writing.{begin-as, put-part, done}
 use Rattle.base64url.specs.Inner.Words.{fourOctets, twoOctets, sixOctets}
-use Rattle.base64url.proofs.Joining.{turned-octets}
+use Rattle.base64url.proofs.Turning.{turned-octets}
 use borrow.Author.Needs.{needs}
 use Rattle.base64url.proofs.decoding.put_six.Statement.{statement}
 use Rattle.base64url.proofs.decoding.put_six.Tie as tie
@@ -44,10 +44,15 @@ returns c =
     let low : ℕ = t .result % 4294967296 in
     let high : ℕ = t .result / 4294967296 in
     let parts : sixOctets w ≡ fourOctets low ++ twoOctets high =
-    turned-octets w (search needs) ∙ ap (λ (x : ℕ). fourOctets (x % 4294967296) ++ twoOctets (x / 4294967296)) (sym (t .ensures)) in
+    turned-octets w (search needs)
+    ∙ ap (λ (x : ℕ). fourOctets (x % 4294967296) ++ twoOctets (x / 4294967296)) (sym (t .ensures)) in
     let opened = begin-as at (sixOctets w) (fourOctets low ++ twoOctets high) (start .args .out .now) parts (start .pre) in
-    let one = put-part (fourOctets low) (twoOctets high) refl opened refl (c .before .before .before .before .before .before .put-four .ensures) in
-    let two = put-part (twoOctets high) [] (sym (append-nil (twoOctets high))) one {k = at + 6} (omega arith) (c .before .before .put-two .ensures) in
+    let one =
+    put-part (fourOctets low) (twoOctets high) refl opened refl
+    (c .before .before .before .before .before .before .put-four .ensures) in
+    let two =
+    put-part (twoOctets high) [] (sym (append-nil (twoOctets high))) one {k = at + 6} (omega arith)
+    (c .before .before .put-two .ensures) in
     (refl, done two)
 
 pub put-six-spec : {M : Type 1} → statement M

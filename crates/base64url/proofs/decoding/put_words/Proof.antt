@@ -1,4 +1,5 @@
--- `put_words` writes a block's octets. Each word but the last goes over the two octets that the one before wrote too many (`Covering`); the last is exact.
+-- `put_words` writes a block's octets. Each word but the first goes over the two octets that the one before wrote too many
+-- (`Covering`), and the last is exact.
 use borrow.Author.Needs.{needs}
 use Prim.Native.Nat.{ℕ, _+_, _-_, _≤_}
 use mathlib.Core.Path.{_≡_, ap, _∙_}
@@ -20,8 +21,11 @@ abbrev μ-loop : tie.MeasureT-loop
 loop-holds : tie.Need-loop-holds Inv-loop μ-loop
 loop-holds c =
     let start = c .before in
-    let words = start .args .words .now in
-    (search needs, cover (start .args .at) (octetsOf words) (start .args .out .now) (omega (arith, start .pre .0, start .pre .1, octets-of-length words)))
+    let words = start .args .words .now in (
+      search needs,
+      cover (start .args .at) (octetsOf words) (start .args .out .now)
+          (omega (arith, start .pre .0, start .pre .1, octets-of-length words)),
+    )
 
 mul-put-over : tie.Need-mul-put-over Inv-loop μ-loop
 mul-put-over c = search needs
@@ -39,7 +43,8 @@ put-over-requires c κs =
     let w : ℕ = getD words g 0 in
     let later = octetsOf (drop (g + 1) words) in
     let parts = octets-of-next words g (omega (arith, start .pre .0)) in
-    let little : 2 ≤ length later = omega (arith, octets-of-length (drop (g + 1) words), length-drop (g + 1) words, start .pre .0) in
+    let little : 2 ≤ length later =
+    omega (arith, octets-of-length (drop (g + 1) words), length-drop (g + 1) words, start .pre .0) in
     cover-room (sixOctets w) (spillOf w) later parts little (loop .inv .1)
 
 add-g : tie.Need-add-g Inv-loop μ-loop
@@ -58,9 +63,13 @@ loop-again c =
     let w : ℕ = getD words g 0 in
     let later = octetsOf (drop (g + 1) words) in
     let parts = octets-of-next words g (omega (arith, start .pre .0)) in
-    let little : 2 ≤ length later = omega (arith, octets-of-length (drop (g + 1) words), length-drop (g + 1) words, start .pre .0) in
-    let call = c .before .before .put-over in
-    (omega arith, cover-part (sixOctets w) (spillOf w) later parts little (loop .inv .1) (call .ensures .0) (call .ensures .1))
+    let little : 2 ≤ length later =
+    omega (arith, octets-of-length (drop (g + 1) words), length-drop (g + 1) words, start .pre .0) in
+    let call = c .before .before .put-over in (
+      omega arith,
+      cover-part (sixOctets w) (spillOf w) later parts little (loop .inv .1) (call .ensures .0)
+          (call .ensures .1),
+    )
 
 mul-put-six : tie.Need-mul-put-six Inv-loop μ-loop
 mul-put-six c = search needs
@@ -78,7 +87,8 @@ put-six-requires c κs =
     let w : ℕ = getD words g 0 in
     let later = octetsOf (drop (g + 1) words) in
     let parts = octets-of-next words g (omega (arith, start .pre .0)) in
-    let none : drop (g + 1) words ≡ [] = drop-of-length-le words {i = g + 1} (omega (arith, start .pre .0, c .before .before .loop-test .left)) in
+    let none : drop (g + 1) words ≡ [] =
+    drop-of-length-le words {i = g + 1} (omega (arith, start .pre .0, c .before .before .loop-test .left)) in
     let alone : octetsOf (drop g words) ≡ sixOctets w ++ [] = parts ∙ ap (λ (l : List ℕ). sixOctets w ++ octetsOf l) none in
     cover-room (sixOctets w) [] [] alone (omega arith) (loop .inv .1)
 
@@ -95,10 +105,13 @@ returns c =
     let w : ℕ = getD words g 0 in
     let later = octetsOf (drop (g + 1) words) in
     let parts = octets-of-next words g (omega (arith, start .pre .0)) in
-    let none : drop (g + 1) words ≡ [] = drop-of-length-le words {i = g + 1} (omega (arith, start .pre .0, c .before .before .before .before .before .loop-test .left)) in
+    let none : drop (g + 1) words ≡ [] =
+    drop-of-length-le words {i = g + 1}
+    (omega (arith, start .pre .0, c .before .before .before .before .before .loop-test .left)) in
     let alone : octetsOf (drop g words) ≡ sixOctets w ++ [] = parts ∙ ap (λ (l : List ℕ). sixOctets w ++ octetsOf l) none in
     let call = c .before .before .put-six in
-    let end = covered (cover-part (sixOctets w) [] [] alone (omega arith) (loop .inv .1) (call .ensures .0) (call .ensures .1)) in
+    let end =
+    covered (cover-part (sixOctets w) [] [] alone (omega arith) (loop .inv .1) (call .ensures .0) (call .ensures .1)) in
     (omega (arith, end .0, octets-of-length words, start .pre .0), end .1)
 
 pub put-words-spec : {M : Type 1} → statement M

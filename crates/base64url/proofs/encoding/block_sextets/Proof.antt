@@ -7,21 +7,26 @@ use native.Mathlib.Omega.{arith}
 use lib.ListN.{drop, drop-of-length-le}
 use Rattle.prelude.proofs.Writing.{Writing, begin, put-part, done}
 use Rattle.base64url.specs.Inner.Words.{eightOctets, spreadAll}
-use Rattle.base64url.proofs.Joining.{written-whole}
+use Rattle.base64url.proofs.Covering.{written-whole}
 use Rattle.base64url.proofs.Spreading.{spread-all-length, spread-all-next}
 use Rattle.base64url.proofs.encoding.block_sextets.Statement.{statement}
 use Rattle.base64url.proofs.encoding.block_sextets.Tie as tie
 
 abbrev Inv-loop : tie.InvT-loop
-Inv-loop words six₀ g₀ k₀ six g k = (g ≤ 8) × (k ≡ g * 8) × Writing 0 (spreadAll words) six₀ (spreadAll (drop g words)) k six
+Inv-loop words six₀ g₀ k₀ six g k = (g ≤ 8) × (k ≡ g * 8)
+    × Writing 0 (spreadAll words) six₀ (spreadAll (drop g words)) k six
 
 abbrev μ-loop : tie.MeasureT-loop
 μ-loop words six₀ g₀ k₀ six g k = 8 - g
 
 loop-holds : tie.Need-loop-holds Inv-loop μ-loop
 loop-holds c =
-    let words = c .args .words .now in
-    (search needs, refl, begin 0 (spreadAll words) (c .args .six .now) (omega (arith, spread-all-length words, c .pre .0, c .pre .1)))
+    let words = c .args .words .now in (
+      search needs,
+      refl,
+      begin 0 (spreadAll words) (c .args .six .now)
+          (omega (arith, spread-all-length words, c .pre .0, c .pre .1)),
+    )
 
 mul-spread : tie.Need-mul-spread Inv-loop μ-loop
 mul-spread c = search needs
@@ -55,8 +60,12 @@ loop-again c =
     let words = start .args .words .now in
     let g = loop .g in
     let word = c .before .spread .result in
-    let parts = spread-all-next words g word (omega (arith, start .pre .0)) (c .before .spread .ensures) in
-    (omega arith, omega arith, put-part (eightOctets word) (spreadAll (drop (g + 1) words)) parts (loop .inv .2) refl (c .put-eight .ensures))
+    let parts = spread-all-next words g word (omega (arith, start .pre .0)) (c .before .spread .ensures) in (
+      omega arith,
+      omega arith,
+      put-part (eightOctets word) (spreadAll (drop (g + 1) words)) parts (loop .inv .2) refl
+          (c .put-eight .ensures),
+    )
 
 returns : tie.Need-returns Inv-loop μ-loop
 unfolding spreadAll
@@ -64,10 +73,12 @@ returns c =
     let start = c .before .before in
     let loop = c .before .loop in
     let words = start .args .words .now in
-    let none : drop (loop .g) words ≡ [] = drop-of-length-le words {i = loop .g} (omega (arith, start .pre .0, c .loop-test .left)) in
+    let none : drop (loop .g) words ≡ [] =
+    drop-of-length-le words {i = loop .g} (omega (arith, start .pre .0, c .loop-test .left)) in
     let all = Writing 0 (spreadAll words) (start .args .six .now) in
     let end = done (subst (λ (l : List ℕ). all (spreadAll l) (loop .k) (loop .six)) none (loop .inv .2)) in
-    end ∙ written-whole (spreadAll words) (start .args .six .now) (omega (arith, spread-all-length words, start .pre .0, start .pre .1))
+    end ∙ written-whole (spreadAll words) (start .args .six .now)
+    (omega (arith, spread-all-length words, start .pre .0, start .pre .1))
 
 pub block-sextets-spec : {M : Type 1} → statement M
 block-sextets-spec =

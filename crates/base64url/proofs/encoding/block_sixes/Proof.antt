@@ -7,13 +7,14 @@ use native.Mathlib.Omega.{arith}
 use lib.ListN.{drop, drop-of-length-le}
 use Rattle.prelude.proofs.Writing.{Writing, begin, put, done}
 use Rattle.base64url.specs.Inner.Words.{sixesOf}
-use Rattle.base64url.proofs.Joining.{written-whole}
+use Rattle.base64url.proofs.Covering.{written-whole}
 use Rattle.base64url.proofs.Spreading.{sixes-of-length, sixes-of-next}
 use Rattle.base64url.proofs.encoding.block_sixes.Statement.{statement}
 use Rattle.base64url.proofs.encoding.block_sixes.Tie as tie
 
 abbrev Inv-loop : tie.InvT-loop
-Inv-loop octets words₀ g₀ k₀ words g k = (g ≤ 8) × (k ≡ g * 6) × Writing 0 (sixesOf octets) words₀ (sixesOf (drop k octets)) g words
+Inv-loop octets words₀ g₀ k₀ words g k = (g ≤ 8) × (k ≡ g * 6)
+    × Writing 0 (sixesOf octets) words₀ (sixesOf (drop k octets)) g words
 
 abbrev μ-loop : tie.MeasureT-loop
 μ-loop octets words₀ g₀ k₀ words g k = 8 - g
@@ -21,8 +22,12 @@ abbrev μ-loop : tie.MeasureT-loop
 loop-holds : tie.Need-loop-holds Inv-loop μ-loop
 loop-holds c =
     let start = c .before in
-    let octets = start .args .octets .now in
-    (search needs, refl, begin 0 (sixesOf octets) (start .args .words .now) (omega (arith, sixes-of-length octets, start .pre .0, start .pre .1)))
+    let octets = start .args .octets .now in (
+      search needs,
+      refl,
+      begin 0 (sixesOf octets) (start .args .words .now)
+          (omega (arith, sixes-of-length octets, start .pre .0, start .pre .1)),
+    )
 
 six-at-requires : tie.Need-six-at-requires Inv-loop μ-loop
 six-at-requires c κs =
@@ -50,8 +55,12 @@ loop-again c =
     let loop = c .before .before .loop in
     let octets = start .args .octets .now in
     let next = sixes-of-next octets (loop .k) (c .six-at .result) (omega (arith, start .pre .0)) (c .six-at .ensures) in
-    let all = Writing 0 (sixesOf octets) (start .args .words .now) in
-    (omega arith, omega arith, put (c .six-at .result) (loop .g + 1) refl (subst (λ (l : List ℕ). all l (loop .g) (loop .words)) next (loop .inv .2)))
+    let all = Writing 0 (sixesOf octets) (start .args .words .now) in (
+      omega arith,
+      omega arith,
+      put (c .six-at .result) (loop .g + 1) refl
+          (subst (λ (l : List ℕ). all l (loop .g) (loop .words)) next (loop .inv .2)),
+    )
 
 returns : tie.Need-returns Inv-loop μ-loop
 unfolding sixesOf
@@ -59,10 +68,12 @@ returns c =
     let start = c .before .before .before in
     let loop = c .before .loop in
     let octets = start .args .octets .now in
-    let none : drop (loop .k) octets ≡ [] = drop-of-length-le octets {i = loop .k} (omega (arith, start .pre .0, c .loop-test .left)) in
+    let none : drop (loop .k) octets ≡ [] =
+    drop-of-length-le octets {i = loop .k} (omega (arith, start .pre .0, c .loop-test .left)) in
     let all = Writing 0 (sixesOf octets) (start .args .words .now) in
     let end = done (subst (λ (l : List ℕ). all (sixesOf l) (loop .g) (loop .words)) none (loop .inv .2)) in
-    end ∙ written-whole (sixesOf octets) (start .args .words .now) (omega (arith, sixes-of-length octets, start .pre .0, start .pre .1))
+    end ∙ written-whole (sixesOf octets) (start .args .words .now)
+    (omega (arith, sixes-of-length octets, start .pre .0, start .pre .1))
 
 pub block-sixes-spec : {M : Type 1} → statement M
 block-sixes-spec =

@@ -25,8 +25,10 @@ slice-aggregate-characters : tie.Need-slice-aggregate-characters
 slice-aggregate-characters c =
     let start = c .before .before .before .before .before .before .before .before in
     let octets = start .args .octets .now in
-    let octet = all-below 256 octets (λ k h. omega (arith, c .before .before .before .before .before .before .before .shared-slice-known .given k)) in
-    let whole = c .before .block-sextets .ensures ∙ ap spreadAll (c .before .before .before .before .block-sixes .ensures) ∙ block-sextets octets octet (omega (arith, start .pre .0)) in
+    let known = c .before .before .before .before .before .before .before .shared-slice-known .given in
+    let octet = all-below 256 octets (λ k h. omega (arith, known k)) in
+    let whole = c .before .block-sextets .ensures ∙ ap spreadAll (c .before .before .before .before .block-sixes .ensures)
+    ∙ block-sextets octets octet (omega (arith, start .pre .0)) in
     omega (arith, ap length whole, sextets-length octets, start .pre .0)
 
 characters-requires : tie.Need-characters-requires
@@ -34,8 +36,11 @@ unfolding encoded
 characters-requires c κs =
     let start = c .before .before .before .before .before .before .before .before .before in
     let octets = start .args .octets .now in
-    let octet = all-below 256 octets (λ k h. omega (arith, c .before .before .before .before .before .before .before .before .shared-slice-known .given k)) in
-    let whole = c .before .before .block-sextets .ensures ∙ ap spreadAll (c .before .before .before .before .before .block-sixes .ensures) ∙ block-sextets octets octet (omega (arith, start .pre .0)) in
+    let known = c .before .before .before .before .before .before .before .before .shared-slice-known .given in
+    let octet = all-below 256 octets (λ k h. omega (arith, known k)) in
+    let whole = c .before .before .block-sextets .ensures
+    ∙ ap spreadAll (c .before .before .before .before .before .block-sixes .ensures)
+    ∙ block-sextets octets octet (omega (arith, start .pre .0)) in
     rw whole (sextets-below octets octet, start .pre .1)
 
 same-length : tie.Need-same-length
@@ -46,8 +51,11 @@ unfolding encoded
 returns c =
     let start = c .before .before .before .before .before .before .before .before .before .before .before .before in
     let octets = start .args .octets .now in
-    let octet = all-below 256 octets (λ k h. omega (arith, c .before .before .before .before .before .before .before .before .before .before .before .shared-slice-known .given k)) in
-    let whole = c .before .before .before .before .before .block-sextets .ensures ∙ ap spreadAll (c .before .before .before .before .before .before .before .before .block-sixes .ensures) ∙ block-sextets octets octet (omega (arith, start .pre .0)) in
+    let known = c .before .before .before .before .before .before .before .before .before .before .before .shared-slice-known .given in
+    let octet = all-below 256 octets (λ k h. omega (arith, known k)) in
+    let whole = c .before .before .before .before .before .block-sextets .ensures
+    ∙ ap spreadAll (c .before .before .before .before .before .before .before .before .block-sixes .ensures)
+    ∙ block-sextets octets octet (omega (arith, start .pre .0)) in
     rw whole at (c .before .before .characters .ensures)
 
 pub encode-block-spec : {M : Type 1} → statement M

@@ -55,10 +55,12 @@ returns c =
     let start = c .before .before .before .before .before .before .before .before .before in
     let s = start .args .octets .now in
     let k = start .args .k in
-    let low : c .before .before .long .result ≡ fourAt s k = c .before .before .long .ensures .0 ∙ c .before .before .before .before .before .before .before .four .ensures in
+    let low : c .before .before .long .result ≡ fourAt s k = c .before .before .long .ensures .0
+    ∙ c .before .before .before .before .before .before .before .four .ensures in
     let high : c .before .long2 .result ≡ getD s (k + 4) 0 + getD s (k + 5) 0 * 256 =
     c .before .long2 .ensures .0
-    ∙ ap₂ (λ (a b : ℕ). a + b * 256) (c .before .before .before .before .before .wide .ensures .0) (c .before .before .before .wide2 .ensures .0) in
+    ∙ ap₂ (λ (a b : ℕ). a + b * 256) (c .before .before .before .before .before .wide .ensures .0)
+    (c .before .before .before .wide2 .ensures .0) in
     c .turned .ensures ∙ ap₂ (λ (a b : ℕ). turnedWord (a + b * 4294967296)) low high
 
 pub six-at-spec : {M : Type 1} → statement M

@@ -43,7 +43,18 @@ loop-again c =
     let more = c .before .before .before .loop-test .taken in
     let tested = sym (c .before .outside .ensures) in
     ⊎-elim
-    (λ w. (omega arith, (omega (arith, w .1), omega (arith, w .1, count-outside block (at .k) more (tested ∙ w .0 .taken)))))
+    (λ w. (
+      omega arith,
+      (
+        omega (arith, w .1),
+        omega (
+          arith,
+          w .1,
+          count-outside block (at .k) more
+              (tested ∙ w .0 .taken),
+        ),
+      ),
+    ))
     (λ w. (omega arith, (omega (arith, w .1), omega (arith, w .1, count-inside block (at .k) more (tested ∙ w .0 .left)))))
     (c .if1 .came)
 

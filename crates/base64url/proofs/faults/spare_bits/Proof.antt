@@ -25,7 +25,9 @@ returns c =
     let start = c .before .before .before .before in
     let text = start .args .text .now in
     let last : ℕ = getD text (length text - 1) 0 in
-    let right = value-near last (omega (arith, c .before .shared-slice-known2 .given (length text - 1))) (value-below text (start .pre) (length text - 1) (omega arith)) in
+    let right =
+    value-near last (omega (arith, c .before .shared-slice-known2 .given (length text - 1)))
+    (value-below text (start .pre) (length text - 1) (omega arith)) in
     simp (eq-eqb _ _ (c .before .before .if1 .taken)) (omega (arith, right, c .value .ensures))
 
 sub-value-2 : tie.Need-sub-value-2
@@ -43,8 +45,11 @@ returns-2 c =
     let start = c .before .before .before .before .before in
     let text = start .args .text .now in
     let last : ℕ = getD text (length text - 1) 0 in
-    let right = value-near last (omega (arith, c .before .shared-slice-known3 .given (length text - 1))) (value-below text (start .pre) (length text - 1) (omega arith)) in
-    simp (ne-eqb _ _ (c .before .before .before .if1 .left), eq-eqb _ _ (c .before .before .if2 .taken)) (omega (arith, right, c .value2 .ensures))
+    let right =
+    value-near last (omega (arith, c .before .shared-slice-known3 .given (length text - 1)))
+    (value-below text (start .pre) (length text - 1) (omega arith)) in
+    simp (ne-eqb _ _ (c .before .before .before .if1 .left), eq-eqb _ _ (c .before .before .if2 .taken))
+    (omega (arith, right, c .value2 .ensures))
 
 returns-3 : tie.Need-returns-3
 unfolding spareBits

@@ -1,4 +1,5 @@
--- `character` finds the alphabet's character: each difference on the way is one, and the whole is one test, computed over all values.
+-- `character` finds the alphabet's character: no difference on the way goes below 0, and the whole is one test, computed
+-- over all values.
 use Rattle.base64url.proofs.Alphabet.{step-one, step-two, character-by-range}
 use borrow.Author.Needs.{needs}
 use Rattle.base64url.proofs.step.character.Statement.{statement}

@@ -33,7 +33,8 @@ add-result c = search needs
 returns : tie.Need-returns
 unfolding turnedWord
 returns c =
-    ap₂ (λ (a b : ℕ). a + b * 4294967296) (c .before .before .long .ensures .0 ∙ c .before .before .before .turned-half .ensures)
+    ap₂ (λ (a b : ℕ). a + b * 4294967296)
+    (c .before .before .long .ensures .0 ∙ c .before .before .before .turned-half .ensures)
     (c .long2 .ensures .0 ∙ c .before .turned-half2 .ensures)
 
 pub turned-spec : {M : Type 1} → statement M
