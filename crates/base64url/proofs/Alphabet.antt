@@ -11,7 +11,7 @@ use Rattle.prelude.specs.Ascii.{ascii}
 use Rattle.prelude.specs.Buffer.{AllBelow}
 use Rattle.prelude.proofs.Numbers.{below}
 use Rattle.base64url.specs.Base64url.{alphabet, character, placeIn, sixBits}
-use Rattle.base64url.specs.Inner.Words.{near}
+use Rattle.base64url.specs.Inner.Step.{near}
 
 pub value-of-character : (v : ℕ) → v < 64 → sixBits (character v) ≡ v
 unfolding ascii alphabet character placeIn sixBits

@@ -12,7 +12,8 @@ use Rattle.prelude.specs.Ascii.{ascii}
 use Rattle.prelude.proofs.Numbers.{below}
 use Rattle.base64url.specs.Base64url.{sixBits, octets, decoded, sextets}
 use Rattle.base64url.proofs.Alphabet.{value-near}
-use Rattle.base64url.specs.Inner.Words.{near, digits, pair, joined, wordsOf, sixOctets, octetsOf}
+use Rattle.base64url.specs.Inner.Step.{near}
+use Rattle.base64url.specs.Inner.Words.{digits, pair, joined, wordsOf, sixOctets, octetsOf}
 use Rattle.base64url.proofs.Lanes.{sixes, twelves}
 
 -- What `join` makes: y of x, and the word of y

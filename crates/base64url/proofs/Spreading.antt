@@ -260,7 +260,6 @@ octets-of a b c d e f g h ha hb hc hd he hf hg hh =
       d0 e f g h he,
       d1 e f g h he hf,
       d2 e f g h he hf hg,
-      d3 e f g h he hf hg hh,
       d4 e f g h he hf hg hh,
     )
   where

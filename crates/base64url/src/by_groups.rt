@@ -5,7 +5,7 @@ ghost use mathlib.Core.List.{map};
 ghost use lib.ListN.{length};
 ghost use Rattle.prelude.specs.Buffer.{AllBelow, written};
 ghost use Rattle.base64url.specs.Base64url.{sixBits, sextets, decoded};
-ghost use Rattle.base64url.specs.Inner.Words.{Tabled};
+ghost use Rattle.base64url.specs.Inner.Step.{Tabled};
 use crate::step;
 
 fn first_octet(p: u8, q: u8) -> u8

@@ -5,7 +5,7 @@ ghost use Prim.Native.Nat.{_≤_, _<_};
 ghost use mathlib.Core.Bool.{cond};
 ghost use lib.Dec.{leb};
 ghost use Rattle.base64url.specs.Base64url.{character, sixBits};
-ghost use Rattle.base64url.specs.Inner.Words.{Tabled, near};
+ghost use Rattle.base64url.specs.Inner.Step.{Tabled, near};
 
 // The six bits of each octet as a character, or 64 (\x40): sixteen octets a row.
 const SIX_BITS: [u8; 256] = *b"\

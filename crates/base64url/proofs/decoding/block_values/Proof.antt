@@ -6,7 +6,7 @@ use mathlib.Core.List.{map}
 use native.Mathlib.Omega.{arith}
 use lib.ListN.{drop, length-map}
 use Rattle.prelude.proofs.Writing.{Writing, begin, put-mapped, mapped, done}
-use Rattle.base64url.specs.Inner.Words.{near}
+use Rattle.base64url.specs.Inner.Step.{near}
 use Rattle.base64url.proofs.Covering.{written-whole}
 use Rattle.base64url.proofs.decoding.block_values.Statement.{statement}
 use Rattle.base64url.proofs.decoding.block_values.Tie as tie

@@ -6,7 +6,8 @@ use native.Mathlib.Omega.{arith}
 use lib.ListN.{length, length-map}
 use Rattle.prelude.specs.Buffer.{written}
 use Rattle.prelude.proofs.Lists.{all-below}
-use Rattle.base64url.specs.Inner.Words.{near, wordsOf, octetsOf}
+use Rattle.base64url.specs.Inner.Step.{near}
+use Rattle.base64url.specs.Inner.Words.{wordsOf, octetsOf}
 use Rattle.base64url.proofs.Laws.{decoded-length}
 use Rattle.base64url.proofs.Joining.{words-of-length, block-octets}
 use borrow.Author.Needs.{needs}

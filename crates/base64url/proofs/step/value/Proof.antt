@@ -1,5 +1,5 @@
 -- `value` is `near`: the choices are those of the definition.
-use Rattle.base64url.specs.Inner.Words.{near}
+use Rattle.base64url.specs.Inner.Step.{near}
 use borrow.Author.Needs.{needs}
 use Rattle.base64url.proofs.step.value.Statement.{statement}
 use Rattle.base64url.proofs.step.value.Tie as tie
