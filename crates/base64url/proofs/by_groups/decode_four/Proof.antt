@@ -99,7 +99,7 @@ returns c =
     let s = c .before .before .before .six-bits4 in
     let parts = decoded-of-four text (start .pre .1 .0) in
     let group : decoded text ≡ first .result ∷ second .result ∷ third .result ∷ [] =
-    cc (parts, first .ensures, second .ensures, third .ensures, p .ensures, q .ensures, r .ensures, s .ensures) in
+    rw (first .ensures, second .ensures, third .ensures, p .ensures, q .ensures, r .ensures, s .ensures) parts in
     let opened =
     begin-as at (decoded text) (first .result ∷ second .result ∷ third .result ∷ []) (start .args .out .now) group
     (start .pre .1 .1 .1) in

@@ -79,7 +79,7 @@ returns c =
     let third = c .before .third-value in
     let parts = sextets-of-three octets (start .pre .0) in
     let group : sextets octets ≡ (getD octets 0 0 / 4) ∷ second .result ∷ third .result ∷ (getD octets 2 0 % 64) ∷ [] =
-    cc (parts, second .ensures, third .ensures) in
+    rw (second .ensures, third .ensures) parts in
     let opened =
     begin-as at (sextets octets) ((getD octets 0 0 / 4) ∷ second .result ∷ third .result ∷ (getD octets 2 0 % 64) ∷ [])
     (start .args .into .now) group (start .pre .1) in

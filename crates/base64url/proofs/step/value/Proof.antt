@@ -1,4 +1,5 @@
 -- `value` is `near`: the choices are those of the definition.
+use mathlib.Core.Path.{refl}
 use Rattle.base64url.specs.Inner.Step.{near}
 use borrow.Author.Needs.{needs}
 use Rattle.base64url.proofs.step.value.Statement.{statement}
@@ -40,6 +41,7 @@ returns c =
       c .before .before .on2 .ensures .0,
       c .before .before .before .on .ensures .0,
     )
+    refl
 
 pub value-spec : {M : Type 1} → statement M
 value-spec =
