@@ -1,4 +1,4 @@
-// Group by group, four characters and three octets: what is shorter than a block.
+// Group by group, four characters and three octets: what is left of a text or of octets where no whole block is.
 ghost use mathlib.Core.Path.{_≡_};
 ghost use Prim.Native.Nat.{_+_, _*_, _/_, _%_, _≤_, _<_};
 ghost use mathlib.Core.List.{map};
@@ -7,6 +7,8 @@ ghost use Rattle.prelude.specs.Buffer.{AllBelow, written};
 ghost use Rattle.base64url.specs.Base64url.{sixBits, sextets, decoded};
 ghost use Rattle.base64url.specs.Inner.Step.{Tabled};
 use crate::step;
+
+// The octets of a group of values p, q, r and s.
 
 fn first_octet(p: u8, q: u8) -> u8
     requires { ⌜ (p < 64) × (q < 64) ⌝ }
@@ -90,6 +92,8 @@ pub(crate) fn decode_groups(table: &[u8; 256], text: &[u8], out: &mut [u8], at: 
     }
     decode_few(table, &text[i..n], out, j)
 }
+
+// The values of a group of octets a, b and c, of which the first and the last are plain.
 
 fn second_value(a: u8, b: u8) -> u8
     ensures { λ v. ⌜ v ≡ a % 4 * 16 + b / 16 ⌝ }

@@ -1,6 +1,6 @@
-// Decoding: whole blocks of 128 characters become values, then words of eight values, then octets; what is left goes group
-// by group. The steps between are local arrays, since the compiler does a loop in vectors where it sees that what it
-// reads and what it writes lie apart.
+// Decoding: whole blocks of 128 characters become values, then words of eight values, then octets; what is left goes
+// group by group. The steps between are local arrays, since the compiler does a loop in vectors where it sees that what
+// it reads and what it writes lie apart; and of the sizes tried 128 is the quickest, since it unrolls smaller blocks first.
 ghost use mathlib.Core.Path.{_≡_};
 ghost use Prim.Native.Nat.{_+_, _≤_};
 ghost use mathlib.Core.List.{map, _++_};
@@ -13,7 +13,7 @@ use crate::by_groups;
 use crate::step;
 use crate::words;
 
-// The values of a block's characters.
+// The values of a block's characters, each right modulo 64.
 fn block_values(text: &[u8], six: &mut [u8; 128])
     requires { ⌜ length (now text) ≡ 128 ⌝ }
     requires { ⌜ length (now six) ≡ 128 ⌝ }
@@ -36,7 +36,7 @@ fn join(x: u64) -> u64
     z % 16777216 * 1099511627776 + z / 4294967296 * 65536
 }
 
-// The words of a block's values.
+// The words of a block's values. Two numbers of four octets are loaded as one of eight; a sum of eight octets is not.
 fn block_words(six: &[u8; 128], words: &mut [u64; 16])
     requires { ⌜ length (now six) ≡ 128 ⌝ }
     requires { ⌜ length (now words) ≡ 16 ⌝ }
@@ -108,7 +108,8 @@ fn decode_block(text: &[u8], out: &mut [u8], at: usize) -> usize
     put_words(&words, out, at)
 }
 
-// The octets of a text, likewise: whole blocks, then what is left.
+// The octets of a text, likewise: whole blocks, then what is left. The table is built after the blocks, which want none:
+// it pays from three characters on.
 pub(crate) fn decode_at(text: &[u8], out: &mut [u8], at: usize) -> usize
     requires { ⌜ AllBelow 64 (map sixBits (now text)) ⌝ }
     requires { ⌜ at + length (decoded (now text)) ≤ length (now out) ⌝ }

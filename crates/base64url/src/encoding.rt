@@ -45,7 +45,7 @@ fn spread(w: u64) -> u64
     (y / 64 & 0x003F003F003F003F) + (y & 0x003F003F003F003F) * 256
 }
 
-// The values of a block's words.
+// The values of a block's words, eight stored at once.
 fn block_sextets(words: &[u64; 8], six: &mut [u8; 64])
     requires { ⌜ length (now words) ≡ 8 ⌝ }
     requires { ⌜ length (now six) ≡ 64 ⌝ }

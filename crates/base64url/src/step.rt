@@ -49,8 +49,8 @@ fn on(test: bool, a: u8) -> u8
     if test { a } else { 0 }
 }
 
-// The six bits of a character of the alphabet, modulo 64. The sum is not reduced, since who packs the values drops what is
-// above the six bits.
+// The six bits of a character of the alphabet, modulo 64. The sum is not reduced, since who packs the values drops what
+// is above the six bits.
 pub(crate) fn value(c: u8) -> u8
     ensures { λ r. ⌜ r ≡ near c ⌝ }
 {

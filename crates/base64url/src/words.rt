@@ -1,5 +1,5 @@
-// Numbers of several octets. The compiler loads or stores such a number at once where its octets are summed or written in
-// this order, each in a function of its own.
+// Numbers of several octets. The compiler loads or stores such a number at once where its octets are summed or written
+// with the lowest first, in a function of its own.
 ghost use mathlib.Core.Path.{_≡_};
 ghost use Prim.Native.Nat.{_+_, _≤_, _<_};
 ghost use lib.ListN.{length};
