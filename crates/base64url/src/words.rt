@@ -1,7 +1,7 @@
 // Numbers of several octets. The compiler loads or stores such a number at once where its octets are summed or written
 // with the lowest first, in a function of its own.
 ghost use mathlib.Core.Path.{_≡_};
-ghost use Prim.Native.Nat.{_+_, _≤_, _<_};
+ghost use Prim.Native.Nat.{_+_, _^_, _≤_, _<_};
 ghost use lib.ListN.{length};
 ghost use Rattle.prelude.specs.Buffer.{written};
 ghost use Rattle.base64url.specs.Inner.Words.{fourAt, turnedHalf, turnedWord, fourOctets, twoOctets, eightOctets};
@@ -17,7 +17,7 @@ pub(crate) fn wide(b: u8) -> u32
 // A number of four octets as one of eight.
 pub(crate) fn long(w: u32) -> u64
     ensures { λ r. ⌜ r ≡ w ⌝ }
-    ensures { λ r. ⌜ r < 4294967296 ⌝ }
+    ensures { λ r. ⌜ r < 2 ^ 32 ⌝ }
 {
     w as u64
 }
