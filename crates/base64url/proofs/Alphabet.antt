@@ -1,16 +1,17 @@
 -- The alphabet read in its two directions: the value of a value's character is the value, and back.
-use mathlib.Core.Path.{_≡_, refl, ap, ap₂, sym, _∙_}
+use mathlib.Core.Path.{_≡_, refl, ap, ap₂, sym, subst, _∙_}
 use mathlib.Core.Bool.{Bool, true, false, cond, not, _&&_, _||_, Bool·beq}
 use mathlib.Core.List.{List, [], _∷_, map}
-use Prim.Native.Nat.{ℕ, suc, _+_, _%_, _≤_, _<_, zero-le, suc-le-suc}
+use Prim.Native.Nat.{ℕ, suc, _+_, _-_, _%_, _≤_, _<_, zero-le, suc-le-suc}
 use native.Mathlib.Nat.{le-of-suc-le-suc, not-suc-le-zero}
 use lib.ListN.{length, getD}
-use lib.Dec.{T, eqb, leb, ltb, eqb→eq}
-use borrow.Author.Tests.{eqb-true}
+use lib.Dec.{T, eqb, leb, ltb, eqb→eq, leb→le}
+use borrow.Author.Tests.{eqb-true, lt-ltb}
 use Rattle.prelude.specs.Ascii.{ascii}
 use Rattle.prelude.specs.Buffer.{AllBelow}
 use Rattle.prelude.proofs.Numbers.{below}
 use Rattle.base64url.specs.Base64url.{alphabet, character, placeIn, sixBits}
+use Rattle.base64url.specs.Inner.Step.{near}
 
 pub value-of-character : (v : ℕ) → v < 64 → sixBits (character v) ≡ v
 unfolding ascii alphabet character placeIn sixBits
@@ -70,16 +71,13 @@ digit c = leb 48 c && leb c 57
 abbrev pub listed : ℕ → Bool
 listed c = lower c || upper c || digit c || eqb c 45 || eqb c 95
 
-abbrev pub valueByRange : ℕ → ℕ
-valueByRange c =
-    cond (listed c)
-    ((c % 128 + cond (lower c) 57 (cond (upper c) 63 (cond (digit c) 4 (cond (eqb c 45) 17 32))) % 64) % 64)
-    64
-
-pub value-by-range : (c : ℕ) → c < 256 → valueByRange c ≡ sixBits c
-unfolding ascii alphabet placeIn sixBits
-value-by-range c h =
-    eqb→eq (valueByRange c) (sixBits c) (below (λ (n : ℕ). eqb (valueByRange n) (sixBits n)) 256 tt c h)
+-- what is done in vectors is right modulo 64
+pub value-near : (c : ℕ) → c < 256 → sixBits c < 64 → near c % 64 ≡ sixBits c
+unfolding ascii alphabet placeIn sixBits near
+value-near c h inside =
+    eqb→eq (near c % 64) (sixBits c)
+    (subst (λ (t : Bool). T (cond t (eqb (near c % 64) (sixBits c)) true)) (lt-ltb (sixBits c) 64 inside)
+    (below (λ (n : ℕ). cond (ltb (sixBits n) 64) (eqb (near n % 64) (sixBits n)) true) 256 tt c h))
 
 pub outside-by-range : (c : ℕ) → c < 256 → not (listed c) ≡ leb 64 (sixBits c)
 unfolding ascii alphabet placeIn sixBits
@@ -93,10 +91,21 @@ outside-by-range c h =
     same→eq false true t = absurd t
     same→eq false false t = refl
 
-abbrev pub characterByRange : ℕ → ℕ
-characterByRange v = (v + cond (ltb v 26) 65 (cond (ltb v 52) 71 (cond (ltb v 62) 124 (cond (eqb v 62) 111 32))) % 128) % 128
+-- each difference on the way to a character is one
+abbrev pub upTo : ℕ → ℕ
+upTo v = v + 71 + cond (eqb v 63) 36 0 - cond (ltb v 26) 6 0
 
-pub character-by-range : (v : ℕ) → v < 64 → characterByRange v ≡ character v
+abbrev pub downTo : ℕ → ℕ
+downTo v = upTo v - cond (ltb 51 v) 75 0
+
+pub step-one : (v : ℕ) → v < 64 → cond (ltb 51 v) 75 0 ≤ upTo v
+step-one v h = leb→le (cond (ltb 51 v) 75 0) (upTo v) (below (λ (n : ℕ). leb (cond (ltb 51 n) 75 0) (upTo n)) 64 tt v h)
+
+pub step-two : (v : ℕ) → v < 64 → cond (eqb v 62) 13 0 ≤ downTo v
+step-two v h = leb→le (cond (eqb v 62) 13 0) (downTo v) (below (λ (n : ℕ). leb (cond (eqb n 62) 13 0) (downTo n)) 64 tt v h)
+
+pub character-by-range : (v : ℕ) → v < 64 → downTo v - cond (eqb v 62) 13 0 ≡ character v
 unfolding ascii alphabet character
 character-by-range v h =
-    eqb→eq (characterByRange v) (character v) (below (λ (n : ℕ). eqb (characterByRange n) (character n)) 64 tt v h)
+    eqb→eq (downTo v - cond (eqb v 62) 13 0) (character v)
+    (below (λ (n : ℕ). eqb (downTo n - cond (eqb n 62) 13 0) (character n)) 64 tt v h)
