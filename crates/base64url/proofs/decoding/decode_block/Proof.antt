@@ -38,10 +38,11 @@ same-length c = search needs
 
 returns : tie.Need-returns
 returns c =
-    let start = c .before .before .before .before .before .before .before .before .before .before .before .before in
+    let first = c .before .before .before .before .before .before .before .before .before .before .before in
+    let start = first .before in
     let text = start .args .text .now in
     let at = start .args .at in
-    let known = c .before .before .before .before .before .before .before .before .before .before .before .shared-slice-known .given in
+    let known = first .shared-slice-known .given in
     let octet = all-below 256 text (λ k h. omega (arith, known k)) in
     let words = c .before .before .before .before .before .block-words .ensures
     ∙ ap wordsOf (c .before .before .before .before .before .before .before .before .block-values .ensures) in

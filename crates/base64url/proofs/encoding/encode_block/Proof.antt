@@ -49,9 +49,10 @@ same-length c = search needs
 returns : tie.Need-returns
 unfolding encoded
 returns c =
-    let start = c .before .before .before .before .before .before .before .before .before .before .before .before in
+    let first = c .before .before .before .before .before .before .before .before .before .before .before in
+    let start = first .before in
     let octets = start .args .octets .now in
-    let known = c .before .before .before .before .before .before .before .before .before .before .before .shared-slice-known .given in
+    let known = first .shared-slice-known .given in
     let octet = all-below 256 octets (λ k h. omega (arith, known k)) in
     let whole = c .before .before .before .before .before .block-sextets .ensures
     ∙ ap spreadAll (c .before .before .before .before .before .before .before .before .block-sixes .ensures)

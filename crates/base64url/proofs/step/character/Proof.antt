@@ -33,12 +33,22 @@ on-requires-4 c κs = search needs
 
 sub-result-3 : tie.Need-sub-result-3
 sub-result-3 c =
-    rw (c .on4 .ensures .0, c .before .on3 .ensures .0, c .before .before .on2 .ensures .0, c .before .before .before .on .ensures .0)
+    rw (
+      c .on4 .ensures .0,
+      c .before .on3 .ensures .0,
+      c .before .before .on2 .ensures .0,
+      c .before .before .before .on .ensures .0,
+    )
     (step-two (c .before .before .before .before .args .v) (c .before .before .before .before .pre))
 
 returns : tie.Need-returns
 returns c =
-    rw (c .on4 .ensures .0, c .before .on3 .ensures .0, c .before .before .on2 .ensures .0, c .before .before .before .on .ensures .0)
+    rw (
+      c .on4 .ensures .0,
+      c .before .on3 .ensures .0,
+      c .before .before .on2 .ensures .0,
+      c .before .before .before .on .ensures .0,
+    )
     (character-by-range (c .before .before .before .before .args .v) (c .before .before .before .before .pre))
 
 pub character-spec : {M : Type 1} → statement M
