@@ -7,10 +7,11 @@ use native.Mathlib.Omega.{arith}
 use lib.ListN.{length, getD}
 use lib.Dec.{eqb}
 use borrow.Author.Tests.{eq-eqb, ne-eqb, eqb-true}
-use Rattle.prelude.specs.Buffer.{written}
 use Rattle.prelude.specs.Refusals.{Test, first}
-use Rattle.jwe.specs.Judge.{Outcome, accepted, refused, answered}
-use Rattle.jwe.specs.Answers.{numbers, BeginsWith, Judges}
+use Rattle.headers.specs.Answers.{componentsOf}
+use Rattle.jwe.specs.Judge.{Outcome, placesIn, accepted, refused, answered}
+use Rattle.jwe.specs.Answers.{numbers}
+use Rattle.jwe.specs.Inner.Stages.{Judges}
 use Rattle.jwe.specs.declared.Result.{Result}
 
 module _ (message : List ℕ) (x : Outcome) where
@@ -33,6 +34,18 @@ module _ (message : List ℕ) (x : Outcome) where
       cases true t = sym (eqb-true k 0 t)
       cases false t = refl
 
+-- The components of an accepted message, and how many parameters are handed out.
+
+pub components-are : (message : List ℕ) (x : Outcome) (r : Result) → numbers r ≡ accepted message x →
+    componentsOf (r .components) ≡ x .components
+unfolding accepted
+components-are message x r e = ap placesIn e
+
+pub parameters-are : (message : List ℕ) (x : Outcome) (r : Result) → numbers r ≡ accepted message x →
+    r .parameters ≡ length (x .entries)
+unfolding accepted
+parameters-are message x r e = ap (λ (l : List ℕ). getD l 17 0) e
+
 -- A refusal, by its number.
 module _ (message : List ℕ) (order : List Test) (x : Outcome) {n : ℕ} (r : Result) (is : numbers r ≡ refused n)
     (fails : first order ≡ n) (some : 0 < n) (text₀ text table₀ table : List ℕ) where
@@ -44,4 +57,5 @@ module _ (message : List ℕ) (order : List Test) (x : Outcome) {n : ℕ} (r : R
     sameTable = t;
     header = λ z. absurd (omega (arith, z, fails, some));
     entries = λ z. absurd (omega (arith, z, fails, some));
+    printed = λ z. absurd (omega (arith, z, fails, some));
   }

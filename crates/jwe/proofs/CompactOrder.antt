@@ -1,20 +1,20 @@
 -- The first refusal of a compact message, stage by stage: that of the first stage that refuses.
-use mathlib.Core.Path.{_≡_, refl, ap, _∙_}
-use mathlib.Core.Bool.{Bool, true, false, not}
+use mathlib.Core.Path.{_≡_, refl, ap, sym, _∙_}
+use mathlib.Core.Bool.{Bool, true, false, not, cond}
 use mathlib.Core.List.{List, [], _∷_, _++_}
 use Prim.Native.Nat.{ℕ, _≤_, _<_}
-use lib.Dec.{leb}
-use borrow.Author.Tests.{le-leb, lt-leb}
+use lib.Dec.{leb, eqb}
+use borrow.Author.Tests.{le-leb, lt-leb, eqb-true, eqb-false}
 use Rattle.prelude.specs.Any.{any}
 use Rattle.rows.specs.Rows.{Entry, Texts, readTexts}
 use Rattle.prelude.specs.Refusals.{Test, _if_, first}
 use Rattle.jose.specs.declared.Sizes.{Sizes}
 use Rattle.jose.specs.HeaderRules.{recipientOrder}
-use Rattle.prelude.proofs.Refusals.{nonzero, first-fails, first-passes, first-skip}
+use Rattle.prelude.proofs.Refusals.{nonzero, first-append, first-fails, first-passes, first-skip}
 use Rattle.headers.specs.Components.{places, misspelled, sizesOf}
 use Rattle.headers.specs.Headers.{headerText, textOrder, protectedEntries, objectOrder}
 use Rattle.headers.proofs.Stages.{text-nonzero, object-nonzero, stopped}
-use Rattle.jwe.specs.Compact.{fourStops, compactComponents, compactOrder}
+use Rattle.jwe.specs.Compact.{fourStops, compactComponents, compactSpelled, compactLater, compactOrder}
 
 -- No rule has the number 0.
 pub rules-nonzero : (known : List (List ℕ)) (ts : Texts) (es : List Entry) (z : Sizes) →
@@ -29,6 +29,14 @@ header message = headerText message (compactComponents message .protected)
 
 abbrev pub entries : List ℕ → List Entry
 entries message = protectedEntries (header message)
+
+-- Where nothing is refused, neither is it by a stage nor behind it.
+pub both-pass : (xs ys : List Test) → nonzero xs ≡ true → first (xs ++ ys) ≡ 0 → (first xs ≡ 0) × (first ys ≡ 0)
+both-pass xs ys p e = cases (eqb (first xs) 0) refl (sym (first-append xs ys p) ∙ e)
+  where
+    cases : (b : Bool) → eqb (first xs) 0 ≡ b → cond b (first ys) (first xs) ≡ 0 → (first xs ≡ 0) × (first ys ≡ 0)
+    cases true t e = (eqb-true (first xs) 0 t, e)
+    cases false t e = absurd (eqb-false (first xs) 0 t e)
 
 module _ (message : List ℕ) (known : List (List ℕ)) (recipient : ℕ) where
   -- Its stages.
@@ -47,6 +55,14 @@ module _ (message : List ℕ) (known : List (List ℕ)) (recipient : ℕ) where
 
   abbrev last : List Test
   last = 19 if leb 1 recipient ∷ []
+
+  -- Where nothing is refused, 8 and 9 pass.
+  pub objects-pass : first (compactOrder message known recipient) ≡ 0 → first objects ≡ 0
+  unfolding compactOrder
+  objects-pass e =
+      let spelled = both-pass (compactSpelled message) (compactLater known message (compactComponents message) recipient) refl e in
+      let read = both-pass texts (objects ++ (rules ++ last)) (text-nonzero (header message)) (spelled .1) in
+      both-pass objects (rules ++ last) (object-nonzero (header message) (entries message)) (read .1) .0
 
   pub first-4 : fourStops message ≡ false → first (compactOrder message known recipient) ≡ 4
   unfolding compactOrder

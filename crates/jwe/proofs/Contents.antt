@@ -4,28 +4,25 @@ use mathlib.Core.Path.{_≡_, refl, ap, ap₂, sym, _∙_}
 use mathlib.Core.Bool.{Bool, true, false, _||_, cond}
 use mathlib.Core.List.{List, [], _∷_, _++_, map}
 use mathlib.Core.Option.{Option, none}
-use Prim.Native.Nat.{ℕ, zero, suc, _+_, _-_, _*_, _≤_, _<_}
+use Prim.Native.Nat.{ℕ, zero, suc, _+_, _-_, _≤_, _<_}
 use native.Mathlib.Omega.{arith}
-use lib.ListN.{length, drop, getD, length-drop, List·getD-eq-default}
+use lib.ListN.{length, drop, getD, List·getD-eq-default}
 use Rattle.prelude.specs.Any.{any}
 use Rattle.prelude.specs.Refusals.{Test, first}
 use Rattle.rows.specs.Rows.{Entry, readTexts, present, valueIn}
-use Rattle.rows.specs.Tables.{entriesOf, width, headerTable}
-use Rattle.rows.proofs.Entries.{entries-flat, entries-front}
-use Rattle.rows.proofs.Printing.{entries-stand}
 use Rattle.grammar.specs.Bounds.{Every}
-use Rattle.jose.specs.Registered.{registered, enc}
+use Rattle.jose.specs.Registered.{enc}
 use Rattle.jose.specs.ContentAlgorithm.{contentAlgorithm, differ, differing}
 use Rattle.jose.specs.Inner.Content.{namedIn, shownIn}
 use Rattle.jose.proofs.ContentAlgorithm.{content-own, content-shown, content-shared, none-differing}
 use Rattle.headers.specs.Components.{Components}
-use Rattle.headers.specs.Headers.{membersOf, headerEntries}
 use Rattle.shape.specs.Shape.{Recipient}
 use Rattle.jwe.specs.General.{ownEntries}
-use Rattle.jwe.specs.Inner.Stages.{recipientsOf, ownTable, ownAt, Owned, ownContent, ownContents, ruleTests}
+use Rattle.jwe.specs.Inner.Stages.{recipientsOf, ownAt, Owned, ownContent, ownContents, ruleTests}
 use Rattle.jwe.specs.Inner.Stages.{contentTests, ruledTests}
 use Rattle.jwe.proofs.JsonOrder.{stop, skip, rule-nonzero}
 use Rattle.jwe.proofs.RecipientRows.{here, recipient-at, recipients-done}
+use Rattle.jwe.proofs.OwnHeaders.{laid-entries, own-stands}
 
 none-differs : (xs : List (Option (List ℕ))) → any (differ none) xs ≡ false
 unfolding any
@@ -96,25 +93,15 @@ module _ (message own counts : List ℕ) where
       ∙ none-differs (contents 0 number))
 
 -- What the own headers show is the recipients' content algorithm, as far as it stands there.
-module _ (header message of own counts : List ℕ) (number : ℕ) (long : length own ≡ ownTable) (few : number ≤ 8)
-    (owned : Owned number message of own counts) where
+module _ (header message of own counts : List ℕ) (number : ℕ) (owned : Owned number message of own counts) where
   abbrev ownContentOf : Recipient → Option (List ℕ)
   ownContentOf r = contentAlgorithm (readTexts header message) (ownEntries message r)
 
   shown-is : (k : ℕ) → k < number → ownContent message own counts k ≡ ownContentOf (here number k of)
-  unfolding ownEntries headerEntries
   shown-is k h =
-      let o = owned k h in
-      let part = drop (k * headerTable) own in
-      let n = getD counts k 0 in
-      let room : n * width ≤ length part = omega (arith, o .few, length-drop (k * headerTable) own) in
-      let es : entriesOf n part ≡ ownAt message of k =
-      sym (entries-front n part (drop (n * width) part) room)
-      ∙ ap₂ (λ (m : ℕ) (l : List ℕ). entriesOf m (l ++ drop (n * width) part)) (o .counted) (o .entries)
-      ∙ entries-flat message (ownAt message of k) (drop (n * width) part) in
-      ap (λ (l : List Entry). shownIn message (namedIn l)) es
+      ap (λ (l : List Entry). shownIn message (namedIn l)) (laid-entries message own counts _ k (owned k h))
       ∙ sym (content-shown (readTexts header message) message (ownAt message of k)
-      (entries-stand registered (readTexts header message) message 2 (membersOf message (here number k of .header)) refl))
+      (own-stands message of k header))
 
   from-here : (n k : ℕ) → k + n ≡ number → ownContents message own counts k n ≡ map ownContentOf (drop k (recipientsOf number of))
   unfolding ownContents
@@ -173,12 +160,12 @@ module _ (known : List (List ℕ)) (header message : List ℕ) (front : List Ent
     pub shared-passes : present enc front ≡ true → first ruled ≡ 0
     shared-passes there = by-content (shared-same header message front rs there)
 
-module _ (known : List (List ℕ)) (header message of own counts : List ℕ) (number : ℕ) (long : length own ≡ ownTable)
-    (few : number ≤ 8) (owned : Owned number message of own counts) (front : List Entry) (q : Components)
+module _ (known : List (List ℕ)) (header message of own counts : List ℕ) (number : ℕ)
+    (owned : Owned number message of own counts) (front : List Entry) (q : Components)
     (passed : first (ruleTests known header message front q (recipientsOf number of)) ≡ 0)
     (absent : present enc front ≡ false) where
   pub own-decides : {b : Bool} → differing 0 (ownContents message own counts 0 number) ≡ b →
       first (ruledTests known header message front q (recipientsOf number of)) ≡ cond b 21 0
   own-decides e =
       by-content known header message front q (recipientsOf number of) passed
-      (sym (differing-own header message of own counts number long few owned front absent) ∙ e)
+      (sym (differing-own header message of own counts number owned front absent) ∙ e)

@@ -1,12 +1,11 @@
 -- From the own headers on: the first refusal, and the numbers that are handed out.
 use mathlib.Core.Path.{_≡_, ap, ap₂, _∙_}
 use mathlib.Core.Bool.{Bool, true, cond}
-use mathlib.Core.List.{List, [], _∷_, _++_}
-use Prim.Native.Nat.{ℕ, _≤_, _<_}
-use native.Mathlib.Omega.{arith}
+use mathlib.Core.List.{List, [], _∷_}
+use Prim.Native.Nat.{ℕ, _<_}
 use lib.ListN.{length}
 use lib.Dec.{leb}
-use borrow.Author.Tests.{le-leb, lt-leb}
+use borrow.Author.Tests.{lt-leb}
 use Rattle.rows.specs.Rows.{Entry, readTexts}
 use Rattle.prelude.specs.Refusals.{Test, _if_, first}
 use Rattle.prelude.proofs.Refusals.{nonzero, nonzero-append}
@@ -17,11 +16,11 @@ use Rattle.prelude.specs.declared.Stage.{Stage}
 use Rattle.prelude.specs.declared.Stage.the-variants.{Refused}
 use Rattle.shape.specs.Shape.{Recipient}
 use Rattle.jwe.specs.Judge.{Outcome, place, accepted, refused}
-use Rattle.jwe.specs.Answers.{numbers, refusedBy, Judges}
-use Rattle.jwe.specs.Inner.Stages.{ownTests, ruleTests, ruledTests, allTests, headedOrder, Heads}
+use Rattle.jwe.specs.Answers.{numbers, refusedBy}
+use Rattle.jwe.specs.Inner.Stages.{ownTests, ruleTests, ruledTests, allTests, headedOrder, Judges}
 use Rattle.headers.specs.declared.Components.{Components}
 use Rattle.jwe.specs.declared.Result.{Result}
-use Rattle.jwe.proofs.Answering.{answered-refused, refuses}
+use Rattle.jwe.proofs.Answering.{refuses}
 use Rattle.jwe.proofs.JsonOrder.{stop, skip, own-nonzero, rule-nonzero, content-nonzero}
 
 module _ (known : List (List ℕ)) (header message : List ℕ) (front : List Entry) (q : headers.Components)
@@ -35,7 +34,7 @@ module _ (known : List (List ℕ)) (header message : List ℕ) (front : List Ent
   abbrev all : List Test
   all = allTests known header message front q rs
 
-  all-nonzero : nonzero all ≡ true
+  pub all-nonzero : nonzero all ≡ true
   unfolding allTests ruledTests
   all-nonzero =
       nonzero-append (ownTests message rs) _ (own-nonzero message rs)
@@ -52,10 +51,6 @@ module _ (known : List (List ℕ)) (header message : List ℕ) (front : List Ent
     unfolding headedOrder
     past-all = skip all asks all-nonzero passed
 
-    pub heads-none : length rs ≤ recipient → first order ≡ 19
-    unfolding first
-    heads-none h = past-all ∙ ap (λ (b : Bool). cond {A = ℕ} b 19 0) (le-leb (length rs) recipient h)
-
     pub heads-one : recipient < length rs → first order ≡ 0
     unfolding first
     heads-one h = past-all ∙ ap (λ (b : Bool). cond {A = ℕ} b 19 0) (lt-leb (length rs) recipient h)
@@ -69,23 +64,11 @@ module _ (known : List (List ℕ)) (header message : List ℕ) (front : List Ent
   unfolding allTests
   own-passes e = skip (ownTests message rs) _ (own-nonzero message rs) e
 
--- A refusal, by its number.
-pub heads-number : (message : List ℕ) (order : List Test) (x : Outcome) {n : ℕ} (r : Result) → numbers r ≡ refused n →
-    first order ≡ n → 0 < n → (table₀ table : List ℕ) → length table ≡ length table₀ → Heads message order x r table₀ table
-heads-number message order x r is fails some table₀ table l = record {
-  answers = is ∙ answered-refused message x fails some;
-  sameTable = l;
-  entries = λ z. absurd (omega (arith, z, fails, some));
-}
-
 -- A stage's refusal, handed up, is what is answered.
 module _ (message : List ℕ) (order : List Test) (x : Outcome) (n : ℕ) (r : Result) (stage : Stage)
     (up : numbers r ≡ refused (refusedBy stage)) (told : stage ≡ Refused n) (is : first order ≡ n) (some : 0 < n) where
   refused-n : numbers r ≡ refused n
   refused-n = up ∙ ap (λ (s : Stage). refused (refusedBy s)) told
-
-  pub heads-refused : (table₀ table : List ℕ) → length table ≡ length table₀ → Heads message order x r table₀ table
-  heads-refused = heads-number message order x r refused-n is some
 
   pub judges-refused : (text₀ text table₀ table : List ℕ) → length text ≡ length text₀ → length table ≡ length table₀ →
       Judges message order x r text₀ text table₀ table

@@ -24,10 +24,8 @@ use Rattle.shape.specs.Recipients.{Top, topOf, componentsIn}
 use Rattle.jwe.specs.General.{sharedEntries, ownEntries, parameters, anyMisspelled, isHollow}
 use Rattle.jwe.specs.General.{protectedOrder, headersOrder, recipientsOrder, contentOf, contentOrder}
 use Rattle.jwe.specs.General.{jsonSpelled, jsonLater, jsonOrder}
-use Rattle.jwe.specs.Judge.{Outcome, asked}
-use Rattle.jwe.specs.Inner.Outcomes.{outcomeOf, jsonOutcome}
 use Rattle.jwe.specs.Inner.Stages.{textTests, protectedTests, ownTests, ruleTests, contentTests, ruledTests}
-use Rattle.jwe.specs.Inner.Stages.{allTests, headedOrder, headedOutcome}
+use Rattle.jwe.specs.Inner.Stages.{allTests, headedOrder}
 use Rattle.jwe.proofs.CompactOrder.{rules-nonzero}
 
 -- A stage, and what comes behind it
@@ -149,10 +147,6 @@ module _ (message : List ℕ) (known : List (List ℕ)) (recipient : ℕ) where
       pub json-rest : anyMisspelled message es ≡ false → first (jsonOrder message known recipient) ≡ first rest
       json-rest e = past-elements ∙ first-passes (5 if anyMisspelled message es) rest e
 
-  pub json-outcome : jsonOutcome message recipient ≡ outcomeOf message (topOf es) (recipientsIn message es) recipient
-  unfolding jsonOutcome
-  json-outcome = refl
-
 -- The rest: the protected header, the shared one, and what depends on the recipients
 
 module _ (known : List (List ℕ)) (message : List ℕ) (t : Top) where
@@ -225,17 +219,3 @@ module _ (known : List (List ℕ)) (message : List ℕ) (t : Top) where
             ap (λ (g : List Test).
             objectOrder header (protectedEntries header) ++ (objectOrder message (sharedEntries message t) ++ g))
             tail-is
-
-    pub outcome-is : outcomeOf message t rs recipient ≡ headedOutcome header message t front rs recipient
-    unfolding outcomeOf headedOutcome
-    outcome-is =
-        ap (with-entries (asked rs recipient)) (parameters-is (asked rs recipient))
-      where
-        with-entries : Recipient → List Entry → Outcome
-        with-entries r ps = record {
-          form = t .form;
-          recipients = length rs;
-          components = componentsIn t r;
-          header = header;
-          entries = ps;
-        }

@@ -1,7 +1,7 @@
 -- From the protected header on: what each header's stage tells, the entries of the protected and the shared header one
 -- behind the
 -- other, and the first refusal.
-use mathlib.Core.Path.{_≡_, refl, ap, ap₂, sym, subst, subst₂, _∙_}
+use mathlib.Core.Path.{_≡_, refl, ap, ap₂, sym, subst₂, _∙_}
 use mathlib.Core.Bool.{Bool, true, false, cond}
 use mathlib.Core.List.{List, _++_}
 use Prim.Native.Nat.{ℕ, _+_, _*_, _≤_, _<_}
@@ -26,14 +26,8 @@ use Rattle.headers.specs.Components.{absent}
 use Rattle.shape.specs.Shape.{Recipient}
 use Rattle.shape.specs.Recipients.{Top}
 use Rattle.jwe.specs.General.{sharedEntries, isHollow, jsonLater}
-use Rattle.jwe.specs.Judge.{Outcome, answered}
-use Rattle.jwe.specs.Inner.Outcomes.{outcomeOf}
-use Rattle.jwe.specs.Answers.{BeginsWith, Judges}
-use Rattle.jwe.specs.Inner.Stages.{textTests, protectedTests, headedOrder, headedOutcome}
-use Rattle.jwe.specs.Inner.Stages.{Heads}
-use Rattle.jwe.specs.declared.Result.{Result}
+use Rattle.jwe.specs.Inner.Stages.{textTests, protectedTests, headedOrder}
 use Rattle.jwe.proofs.JsonOrder.{stop, skip, text-nonzero, protected-nonzero, object-nonzero, shaped-is}
-use Rattle.jwe.proofs.JsonOrder.{outcome-is}
 use Rattle.jwe.proofs.JsonHeaders.{no-header, few}
 use Rattle.jwe.proofs.OwnHeaders.{few-collected}
 
@@ -222,28 +216,3 @@ module _ (known : List (List ℕ)) (message : List ℕ) (t : Top) (rs : List Rec
           past-protected
           ∙ skip (objectOrder message (sharedEntries message t)) headed
           (object-nonzero message (sharedEntries message t)) e
-
-  -- The answer, by that of what comes behind, whose table is as long as that of the whole.
-  pub judges : (r : Result) (s : List ℕ) (fs : List Entry) (text₀ now table₀ table₁ table : List ℕ) → s ≡ header →
-      fs ≡ front → first order ≡ first headed → now ≡ written 0 header text₀ → length now ≡ length text₀ →
-      length table₁ ≡ length table₀ →
-      Heads message (headedOrder known s message fs (t .components) rs recipient)
-      (headedOutcome s message t fs rs recipient) r table₁ table →
-      Judges message order (outcomeOf message t rs recipient) r text₀ now table₀ table
-  unfolding outcomeOf
-  judges r s fs text₀ now table₀ table₁ table e f rest wrote long same h =
-      let of : List ℕ → List Entry → Type 0 =
-      λ l g.
-      Heads message (headedOrder known l message g (t .components) rs recipient) (headedOutcome l message t g rs recipient) r
-      table₁ table in
-      let k = subst (λ (g : List Entry). of header g) f (subst (λ (l : List ℕ). of l fs) e h) in
-      let x = sym (outcome-is known message t rs recipient) in
-      record {
-        answers = k .answers ∙ ap₂ (answered message) (sym rest) x;
-        sameText = long;
-        sameTable = k .sameTable ∙ same;
-        header = λ z. wrote;
-        entries = λ z.
-            let b = k .entries (sym rest ∙ z) in
-            subst (λ (o : Outcome). BeginsWith (o .entries) table₀ table) x (b .0 ∙ same, b .1);
-      }

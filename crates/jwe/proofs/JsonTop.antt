@@ -1,5 +1,4 @@
--- The top level and the recipients of a JSON message as they stand in their tables, and the answer by that of what
--- comes behind.
+-- The top level and the recipients of a JSON message as they stand in their tables.
 use mathlib.Core.Path.{_≡_, refl, ap, ap₂, sym, subst, _∙_}
 use mathlib.Core.Bool.{Bool, true, false, cond, _||_}
 use mathlib.Core.List.{List, [], _∷_, map, flatMap}
@@ -25,16 +24,16 @@ use Rattle.shape.specs.Shape.{recipients, wrongTop, wrongElements, Recipient, r
 use Rattle.shape.specs.Recipients.{topEntries, topOrder, elementsIn, elementEntries, elementOrder, elementsOrder}
 use Rattle.shape.specs.Recipients.{Top, topOf, recipientsIn}
 use Rattle.shape.specs.Inner.Answers.{flatRecipients}
-use Rattle.jwe.specs.General.{allPlaces, anyMisspelled, jsonLater, jsonOrder}
-use Rattle.jwe.specs.Judge.{Outcome, answered}
-use Rattle.jwe.specs.Inner.Outcomes.{outcomeOf, jsonOutcome}
-use Rattle.jwe.specs.Answers.{BeginsWith, Judges}
+use Rattle.jwe.specs.General.{allPlaces, anyMisspelled}
 use Rattle.jwe.specs.Inner.Stages.{recipientsOf}
-use Rattle.jwe.specs.declared.Result.{Result}
-use Rattle.jwe.proofs.JsonOrder.{json-rest, json-outcome}
 use Rattle.jwe.proofs.RecipientRows.{recipients-written}
 
--- Where two tests pass, the second does.
+-- Where two tests pass, the first does ..
+passes-first : (k rest : ℕ) (a : Bool) → (k ≡ 0 → ⊥) → cond a k rest ≡ 0 → a ≡ false
+passes-first k rest true h e = absurd (h e)
+passes-first k rest false h e = refl
+
+-- .. and the second.
 second : (k n rest : ℕ) (a b : Bool) → (k ≡ 0 → ⊥) → (n ≡ 0 → ⊥) → cond a k (cond b n rest) ≡ 0 → b ≡ false
 second k n rest true b h g e = absurd (h e)
 second k n rest false true h g e = absurd (g e)
@@ -66,13 +65,21 @@ module _ (message : List ℕ) where
 
 -- The recipients
 
+-- `recipients` is refused where it is empty.
+some-element : (xs : List Element) → wrongElements xs ≡ false → 1 ≤ length xs
+unfolding wrongElements
+some-element [] e = let z : true ≡ false = e in let y : _≡_ {A = ℕ} 0 1 = cc in omega arith
+some-element (x ∷ xs) e = omega arith
+
 module _ (message : List ℕ) (es : List Entry) where
   abbrev xs : List Element
   xs = elementsIn message es
 
-  elements-few : first (elementsOrder message es) ≡ 0 → length (recipientsIn message es) ≤ 8
+  -- One at least, and no more than 8.
+  elements-number : first (elementsOrder message es) ≡ 0 →
+      (1 ≤ length (recipientsIn message es)) × (length (recipientsIn message es) ≤ 8)
   unfolding elementsOrder recipientsIn first
-  elements-few e = cases (present recipients es) e
+  elements-number e = cases (present recipients es) e
     where
       counted : length (map (λ (x : Element). recipientOf (elementEntries message (x .start))) xs) ≡ length xs
       counted = length-map xs (λ (x : Element). recipientOf (elementEntries message (x .start)))
@@ -84,14 +91,19 @@ module _ (message : List ℕ) (es : List Entry) where
           ∷ flatMap (λ (x : Element). elementOrder message (x .start)) xs)
           [])
           ≡ 0 →
-          length (cond b (map (λ (x : Element). recipientOf (elementEntries message (x .start))) xs) (recipientOf es ∷ [])) ≤ 8
+          let n = length (cond b (map (λ (x : Element). recipientOf (elementEntries message (x .start))) xs) (recipientOf es ∷ [])) in
+          (1 ≤ n) × (n ≤ 8)
       cases true e =
+          let there : 1 ≤ length xs =
+          some-element xs
+          (passes-first 10 (cond (ltb mostRecipients (length xs)) 11 (first (flatMap (λ (x : Element). elementOrder message (x .start)) xs)))
+          (wrongElements xs) (λ (z : _≡_ {A = ℕ} 10 0). omega (arith, z)) e) in
           let small : length xs ≤ 8 =
           ltb-false 8 (length xs)
           (second 10 11 (first (flatMap (λ (x : Element). elementOrder message (x .start)) xs)) (wrongElements xs) (ltb mostRecipients (length xs)) (λ (z : _≡_ {A = ℕ} 10 0). omega (arith, z))
           (λ (z : _≡_ {A = ℕ} 11 0). omega (arith, z)) e) in
-          omega (arith, counted, small)
-      cases false e = omega arith
+          (omega (arith, counted, there), omega (arith, counted, small))
+      cases false e = (omega arith, omega arith)
 
   module _ (fs : List Entry) (same : fs ≡ es) where
     pub elements-as : first (elementsOrder message fs) ≡ first (elementsOrder message es)
@@ -100,13 +112,13 @@ module _ (message : List ℕ) (es : List Entry) where
     pub listed-is : (before last : List ℕ) (n : ℕ) →
         Passed n ≡ stageOf (first (elementsOrder message fs)) (length (recipientsIn message fs)) →
         last ≡ written 0 (flatRecipients (recipientsIn message fs)) before →
-        (first (elementsOrder message es) ≡ 0) × ((n ≤ 8) × (recipientsOf n last ≡ recipientsIn message es))
+        (first (elementsOrder message es) ≡ 0) × (((1 ≤ n) × (n ≤ 8)) × (recipientsOf n last ≡ recipientsIn message es))
     listed-is before last n a l =
         let told = passed-is n (first (elementsOrder message es)) (length (recipientsIn message es))
         (a ∙ ap (λ (l : List Entry). stageOf (first (elementsOrder message l)) (length (recipientsIn message l))) same) in (
           told .0,
           (
-            omega (arith, told .1, elements-few (told .0)),
+            subst (λ (k : ℕ). (1 ≤ k) × (k ≤ 8)) (sym (told .1)) (elements-number (told .0)),
             ap₂ recipientsOf (told .1)
                 (l ∙ ap (λ (k : List Entry). written 0 (flatRecipients (recipientsIn message k)) before) same)
                 ∙ recipients-written (recipientsIn message es) before,
@@ -129,32 +141,3 @@ protected-sound message q rs e = cases (misspelled message (q .protected)) _ e
     cases : (a b : Bool) → (a || b) ≡ false → a ≡ false
     cases true b e = e
     cases false b e = refl
-
--- The answer, by that of what comes behind.
-module _ (message : List ℕ) (known : List (List ℕ)) (recipient : ℕ) (top : first (topOrder message) ≡ 0)
-    (elements : first (elementsOrder message (topEntries message)) ≡ 0)
-    (sound : anyMisspelled message (topEntries message) ≡ false) where
-  abbrev es : List Entry
-  es = topEntries message
-
-  abbrev rs : List Recipient
-  rs = recipientsIn message es
-
-  pub judges-json : (r : Result) (t : Top) (ps : List Recipient) (text₀ text table₀ table : List ℕ) → t ≡ topOf es →
-      ps ≡ rs →
-      Judges message (jsonLater known message t ps recipient) (outcomeOf message t ps recipient) r text₀ text table₀ table →
-      Judges message (jsonOrder message known recipient) (jsonOutcome message recipient) r text₀ text table₀ table
-  judges-json r t ps text₀ text table₀ table e f h =
-      let of : Top → List Recipient → Type 0 =
-      λ u us.
-      Judges message (jsonLater known message u us recipient) (outcomeOf message u us recipient) r text₀ text table₀ table in
-      let k = subst (λ (us : List Recipient). of (topOf es) us) f (subst (λ (u : Top). of u ps) e h) in
-      let same = json-rest message known recipient top elements sound in
-      let x = sym (json-outcome message known recipient) in
-      record {
-        answers = k .answers ∙ ap₂ (answered message) (sym same) x;
-        sameText = k .sameText;
-        sameTable = k .sameTable;
-        header = λ z. k .header (sym same ∙ z) ∙ ap (λ (o : Outcome). written 0 (o .header) text₀) x;
-        entries = λ z. subst (λ (o : Outcome). BeginsWith (o .entries) table₀ table) x (k .entries (sym same ∙ z));
-      }

@@ -12,10 +12,14 @@ pub mod JsonHeaders
 pub mod JsonPlaces
 -- From the own headers on.
 pub mod JsonHeads
+-- Any recipient, by the first one.
+pub mod JsonAsked
 -- From the protected header on.
 pub mod JsonShaped
 -- The top level and the recipients.
 pub mod JsonTop
+-- What a message holds, in the lent tables.
+pub mod HeldTables
 -- The full stops of a compact message.
 pub mod Splitting
 -- The first refusal of a compact message, stage by stage.

@@ -24,7 +24,7 @@ module _ (message : List ℕ) (n : ℕ) where
       record { form = compactForm; recipients = 1; components = q; header = header; entries = es })
       (append-nil (protectedEntries header))
 
-  json-is : outcomeFor (jsonHeld message) n ≡ jsonOutcome message n
+  pub json-is : outcomeFor (jsonHeld message) n ≡ jsonOutcome message n
   unfolding jsonOutcome outcomeOf componentsIn parameters
   json-is =
       let es = topEntries message in

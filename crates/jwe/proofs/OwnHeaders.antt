@@ -14,16 +14,16 @@ use borrow.Author.Tests.{le-leb}
 use Rattle.prelude.specs.Buffer.{written}
 use Rattle.prelude.proofs.Writing.{written-length}
 use Rattle.prelude.specs.Limits.{mostMembers}
-use Rattle.rows.specs.Rows.{Entry, readTexts}
+use Rattle.rows.specs.Rows.{Entry, Texts, readTexts}
 use Rattle.rows.specs.Tables.{entriesOf, width, headerTable}
 use Rattle.rows.specs.Inner.Prints.{flat, collectedTable, Printed}
-use Rattle.rows.proofs.Entries.{flat-length, entries-front, entries-more}
+use Rattle.rows.proofs.Entries.{flat-length, entries-flat, entries-front, entries-more}
 use Rattle.rows.proofs.Printing.{StandIn, entries-stand, printed-kept, printed-more}
 use Rattle.jose.specs.Registered.{registered}
 use Rattle.shape.specs.Inner.Answers.{recipientWidth}
 use Rattle.headers.specs.Headers.{membersOf, headerEntries}
 use Rattle.jwe.specs.General.{ownEntries}
-use Rattle.jwe.specs.Inner.Stages.{recipientAt, ownAt, OwnAt, Owned}
+use Rattle.jwe.specs.Inner.Stages.{recipientAt, ownAt, LaidAt, OwnAt, Owned}
 
 -- A part of a buffer: what is written there ..
 part-written : (n at : ℕ) (xs t : List ℕ) → length xs ≡ n → at ≤ length t → take n (drop at (written at xs t)) ≡ xs
@@ -111,13 +111,28 @@ unfolding ownEntries
 own-is message of i =
     ap (headerEntries message 2) (ap (λ (n : ℕ). getD of n 0) (sym (add-zero (i * recipientWidth))) ∙ sym (getD-drop (i * recipientWidth) of 0 0))
 
--- The parameters of a recipient, its own ones copied behind the others.
-module _ (message of own counts : List ℕ) (i front n : ℕ) (table last : List ℕ) (o : OwnAt message of own counts i)
-    (room : front * width + 256 ≤ length table) (count : n ≡ front + getD counts i 0)
-    (left : last ≡ written (front * width) (take (getD counts i 0 * width) (drop (i * headerTable) own)) table) where
-  abbrev its : List Entry
-  its = ownAt message of i
+-- They stand in the message.
+pub own-stands : (message of : List ℕ) (i : ℕ) (header : List ℕ) →
+    StandIn (readTexts header message) message (ownAt message of i)
+unfolding ownEntries headerEntries
+own-stands message of i header =
+    let start = recipientAt (drop (i * recipientWidth) of) .header in
+    entries-stand registered (readTexts header message) message 2 (membersOf message start) refl
 
+-- Entries where they stand in their table.
+pub laid-entries : (message own counts : List ℕ) (its : List Entry) (i : ℕ) → LaidAt message its own counts i →
+    entriesOf (getD counts i 0) (drop (i * headerTable) own) ≡ its
+laid-entries message own counts its i o =
+    let part = drop (i * headerTable) own in
+    let n = getD counts i 0 in
+    ap (entriesOf n) (sym (take-append-drop (n * width) part))
+    ∙ ap₂ (λ (m : ℕ) (l : List ℕ). entriesOf m (l ++ drop (n * width) part)) (o .counted) (o .entries)
+    ∙ entries-flat message its (drop (n * width) part)
+
+-- The parameters of a recipient, its own ones copied behind the others.
+module _ (message own counts : List ℕ) (its : List Entry) (i front n : ℕ) (table last : List ℕ)
+    (o : LaidAt message its own counts i) (room : front * width + 256 ≤ length table) (count : n ≡ front + getD counts i 0)
+    (left : last ≡ written (front * width) (take (getD counts i 0 * width) (drop (i * headerTable) own)) table) where
   wrote : last ≡ written (front * width) (flat message its) table
   wrote = left ∙ ap (λ (l : List ℕ). written (front * width) l table) (o .entries)
 
@@ -141,19 +156,11 @@ module _ (message of own counts : List ℕ) (i front n : ℕ) (table last : List
   gathered-front = ap (entriesOf front) wrote ∙ entries-front front table _ (omega arith)
 
   -- Their fingerprints are those of their names, where those of the others are; and those of the others stay.
-  module _ (header : List ℕ) (p : Printed (readTexts header message) front table) where
-    stands : StandIn (readTexts header message) message its
-    unfolding ownEntries headerEntries
-    stands =
-        let start = recipientAt (drop (i * recipientWidth) of) .header in
-        entries-stand registered (readTexts header message) message 2 (membersOf message start) refl
+  module _ (ts : Texts) (p : Printed ts front table) where
+    pub gathered-printed : StandIn ts message its → Printed ts n last
+    gathered-printed stands =
+        subst₂ (Printed ts) (sym many) (sym wrote) (printed-more ts front message its table (omega arith) stands p)
 
-    pub gathered-printed : Printed (readTexts header message) n last
-    gathered-printed =
-        subst₂ (Printed (readTexts header message)) (sym many) (sym wrote)
-        (printed-more (readTexts header message) front message its table (omega arith) stands p)
-
-    pub gathered-kept : Printed (readTexts header message) front last
+    pub gathered-kept : Printed ts front last
     gathered-kept =
-        subst (Printed (readTexts header message) front) (sym wrote)
-        (printed-kept (readTexts header message) front (flat message its) table (omega arith) p)
+        subst (Printed ts front) (sym wrote) (printed-kept ts front (flat message its) table (omega arith) p)

@@ -2,13 +2,12 @@
 use mathlib.Core.Path.{_≡_, refl, ap, ap₂, sym, subst, _∙_}
 use mathlib.Core.Bool.{Bool, true, false, not, _||_, cond}
 use mathlib.Core.List.{List, [], _∷_}
-use Prim.Native.Nat.{ℕ, _+_, _*_, _≤_, _<_}
+use Prim.Native.Nat.{ℕ, _*_, _≤_, _<_}
 use native.Mathlib.Omega.{arith}
-use lib.ListN.{length, take, drop, getD, length-append}
+use lib.ListN.{length, take, getD, length-take}
 use lib.Dec.{eqb, ltb}
 use borrow.Author.Tests.{lt-ltb, le-ltb, eq-eqb, ne-eqb}
 use Rattle.prelude.specs.Buffer.{written}
-use Rattle.prelude.proofs.Writing.{begins}
 use Rattle.names.specs.Names.{names, sound}
 use Rattle.grammar.specs.Reader.{opensObject}
 use Rattle.rows.specs.Rows.{Entry}
@@ -21,8 +20,8 @@ use Rattle.jwe.specs.General.{jsonOrder}
 use Rattle.jwe.specs.Judge.{Call, Outcome, order, refusal, outcome, accepted, refused}
 use Rattle.jwe.specs.Inner.Outcomes.{compactOutcome, jsonOutcome}
 use Rattle.jwe.specs.Judge.{result, headerAfter, listAfter}
-use Rattle.jwe.specs.Answers.{numbers, Judges}
-use Rattle.jwe.specs.Inner.Stages.{tableRoom}
+use Rattle.jwe.specs.Answers.{numbers}
+use Rattle.jwe.specs.Inner.Stages.{tableRoom, Judges}
 use Rattle.jwe.specs.declared.Result.{Result}
 use Rattle.jwe.proofs.Outcomes.{by-form}
 
@@ -129,29 +128,28 @@ room-most true = omega arith
 room-most false = omega arith
 
 -- What is known of an accepted message: what is written fits, and stands where it is read.
-pub record Holds (x : Outcome) (text table : List ℕ) (n count : ℕ) : Type 0 where
+pub record Stands (x : Outcome) (text table : List ℕ) (n count : ℕ) : Type 0 where
   pub size : n ≡ length (x .header)
   pub front : take n text ≡ x .header
   pub within : length (x .header) ≤ 4096
   pub entries : entriesOf count table ≡ x .entries
   pub few : count * width ≤ length table
 
-written-most : (xs before : List ℕ) → length xs ≤ length (written 0 xs before)
-unfolding written
-written-most xs before = omega (arith, length-append xs (drop (0 + length xs) before))
+taken-most : (xs text : List ℕ) → take (length xs) text ≡ xs → length xs ≤ length text
+taken-most xs text e = omega (arith, length-take (length xs) text, ap length e)
 
-pub holds : (message : List ℕ) (x : Outcome) (r : Result) (text₀ text table : List ℕ) →
-    numbers r ≡ accepted message x → text ≡ written 0 (x .header) text₀ →
+pub stands : (message : List ℕ) (x : Outcome) (r : Result) (text table : List ℕ) →
+    numbers r ≡ accepted message x → take (length (x .header)) text ≡ x .header →
     (length (x .entries) * width ≤ length table) × (entriesOf (length (x .entries)) table ≡ x .entries) →
-    length text ≡ 4096 → Holds x text table (r .header) (r .parameters)
+    length text ≡ 4096 → Stands x text table (r .header) (r .parameters)
 unfolding accepted
-holds message x r text₀ text table e f g room =
+stands message x r text table e f g room =
     let size : r .header ≡ length (x .header) = ap (λ (l : List ℕ). getD l 16 0) e in
     let count : r .parameters ≡ length (x .entries) = ap (λ (l : List ℕ). getD l 17 0) e in
     record {
       size = size;
-      front = begins (r .header) (x .header) text text₀ (sym size) f;
-      within = omega (arith, written-most (x .header) text₀, ap length f, room);
+      front = ap (λ (n : ℕ). take n text) size ∙ f;
+      within = omega (arith, taken-most (x .header) text f, room);
       entries = ap (λ (n : ℕ). entriesOf n table) count ∙ g .1;
       few = omega (arith, count, g .0);
     }

@@ -4,7 +4,6 @@ use mathlib.Core.Bool.{cond}
 use mathlib.Core.List.{List, [], _∷_}
 use Prim.Native.Nat.{ℕ, _*_, _≤_}
 use lib.ListN.{length}
-use Rattle.prelude.specs.Buffer.{written}
 use Rattle.grammar.specs.Places as json
 use Rattle.prelude.specs.declared.Place.{Place}
 use Rattle.headers.specs.Components as headers
@@ -13,8 +12,6 @@ use Rattle.prelude.specs.declared.Stage.{Stage}
 use Rattle.prelude.specs.declared.Stage.the-variants.{Passed, Refused}
 use Rattle.rows.specs.Rows.{Entry}
 use Rattle.rows.specs.Tables.{entriesOf, width}
-use Rattle.prelude.specs.Refusals.{Test, first}
-use Rattle.jwe.specs.Judge.{Outcome, answered}
 use Rattle.jwe.specs.Compact.{fourStops, compactComponents}
 use Rattle.jwe.specs.declared.Result.{Result}
 use Rattle.jwe.specs.declared.compact.FullStops.{FullStops}
@@ -45,16 +42,6 @@ numbers r =
 abbrev pub BeginsWith : List Entry → List ℕ → List ℕ → Type 0
 BeginsWith es before after =
     (length after ≡ length before) × ((length es * width ≤ length after) × (entriesOf (length es) after ≡ es))
-
--- A message judged by an order: the result is that of its first refusal and of its outcome. Where nothing is refused, the decoded
--- header stands at the start of the text buffer and the entries at the start of the table. Where it is refused the contents of both are
--- free and their lengths are kept: they are local ones of `read`, which does not read them then.
-pub record Judges (message : List ℕ) (order : List Test) (x : Outcome) (r : Result) (text₀ text table₀ table : List ℕ) : Type 0 where
-  pub answers : numbers r ≡ answered message (first order) x
-  pub sameText : length text ≡ length text₀
-  pub sameTable : length table ≡ length table₀
-  pub header : first order ≡ 0 → text ≡ written 0 (x .header) text₀
-  pub entries : first order ≡ 0 → BeginsWith (x .entries) table₀ table
 
 -- The refusal of a stage; 0 where it passed.
 abbrev pub refusedBy : Stage → ℕ

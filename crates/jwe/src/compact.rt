@@ -1,19 +1,26 @@
 // The compact serialization (RFC 7516, section 7.1).
 ghost use mathlib.Core.Path.{_≡_};
 ghost use mathlib.Core.Bool.{true, false};
-ghost use Prim.Native.Nat.{_+_, _≤_};
+ghost use mathlib.Core.List.{List};
+ghost use Prim.Native.Nat.{ℕ, _+_, _≤_};
 ghost use lib.ListN.{length};
 ghost use Rattle.names.specs.Names.{names, filled};
-ghost use Rattle.prelude.specs.Limits.{headerRoom, longest};
+ghost use Rattle.prelude.specs.Limits.{headerRoom, longest, mostRecipients};
 ghost use Rattle.prelude.specs.Any.{any};
 ghost use Rattle.rows.specs.Tables.{headerTable};
 ghost use Rattle.headers.specs.Components.{misspelled, places};
 ghost use Rattle.jwe.specs.Compact.{between, fourStops, compactComponents, compactOrder};
+ghost use Rattle.shape.specs.Inner.Answers.{recipientsRoom};
+ghost use Rattle.jwe.specs.Judge.{compactHeld};
 ghost use Rattle.jwe.specs.Inner.Outcomes.{compactOutcome};
+ghost use Rattle.jwe.specs.Inner.Stages.{Judges};
+ghost use Rattle.jwe.specs.Inner.Holding.{HoldsBy};
 ghost use Rattle.headers.specs.Answers.{codePlace, codeComponents, componentsOf};
-ghost use Rattle.jwe.specs.Answers.{splitOf, Judges};
+ghost use Rattle.jwe.specs.Answers.{splitOf};
+use crate::Holding;
 use crate::Result;
 use crate::handed;
+use crate::held;
 use crate::refused;
 use headers::Components;
 use prelude::Place;
@@ -102,7 +109,7 @@ fn judge_header(
     requires { ⌜ any (misspelled (now message)) (places (componentsOf q)) ≡ false ⌝ }
     requires { ⌜ filled (now known) ≡ true ⌝ }
     requires { ⌜ length (now text) ≡ headerRoom ⌝ }
-    requires { ⌜ length (now table) ≡ headerTable ⌝ }
+    requires { ⌜ headerTable ≤ length (now table) ⌝ }
     ensures { λ r. ⌜ Judges (now (message .entry)) (compactOrder (now (message .entry)) (names (now (known .entry))) recipient) (compactOutcome (now (message .entry))) r (now (text .entry)) (now (text .exit)) (now (table .entry)) (now (table .exit)) ⌝ }
 {
     let decoded = headers::header(message, q.protected, text);
@@ -151,7 +158,7 @@ pub(crate) fn judge(
     requires { ⌜ length (now message) ≤ longest ⌝ }
     requires { ⌜ filled (now known) ≡ true ⌝ }
     requires { ⌜ length (now text) ≡ headerRoom ⌝ }
-    requires { ⌜ length (now table) ≡ headerTable ⌝ }
+    requires { ⌜ headerTable ≤ length (now table) ⌝ }
     ensures { λ r. ⌜ Judges (now (message .entry)) (compactOrder (now (message .entry)) (names (now (known .entry))) recipient) (compactOutcome (now (message .entry))) r (now (text .entry)) (now (text .exit)) (now (table .entry)) (now (table .exit)) ⌝ }
 {
     let found = split(message);
@@ -162,4 +169,41 @@ pub(crate) fn judge(
         return refused(5);
     }
     judge_header(message, q, known, recipient, text, table)
+}
+
+// A compact message judged, and what it holds: its one recipient has its key's place, and no parameters of its own.
+pub(crate) fn hold(
+    message: &[u8],
+    known: &[u8],
+    text: &mut [u8],
+    table: &mut [u32],
+    of: &mut [usize],
+    counts: &mut [usize],
+) -> Holding
+    requires { ⌜ length (now message) ≤ longest ⌝ }
+    requires { ⌜ filled (now known) ≡ true ⌝ }
+    requires { ⌜ length (now text) ≡ headerRoom ⌝ }
+    requires { ⌜ headerTable ≤ length (now table) ⌝ }
+    requires { ⌜ length (now of) ≡ recipientsRoom ⌝ }
+    requires { ⌜ length (now counts) ≡ mostRecipients ⌝ }
+    ensures { λ r. ⌜ ((own : List ℕ) → HoldsBy (now (message .entry)) (compactOrder (now (message .entry)) (names (now (known .entry))) 0)
+        (compactHeld (now (message .entry))) r (now (text .exit)) (now (table .exit)) (now (of .exit)) own
+        (now (counts .exit))) ⌝ }
+{
+    let result = judge(message, known, 0, text, table);
+    if result.number != 0 {
+        return held::refused(result.number);
+    }
+    let q = result.components;
+    of[1] = q.key.start;
+    of[2] = q.key.len;
+    counts[0] = 0;
+    Holding {
+        number: 0,
+        form: 0,
+        recipients: 1,
+        components: q,
+        header: result.header,
+        common: result.parameters,
+    }
 }

@@ -3,10 +3,9 @@
 // function answers stands in specs/Inner/Stages.
 ghost use mathlib.Core.Path.{_≡_};
 ghost use mathlib.Core.Bool.{true, false};
-ghost use mathlib.Core.List.{_++_, map};
+ghost use mathlib.Core.List.{map};
 ghost use Prim.Native.Nat.{ℕ, _+_, _*_, _≤_, _<_};
-ghost use lib.ListN.{length, take, drop, getD};
-ghost use Rattle.prelude.specs.Buffer.{written};
+ghost use lib.ListN.{length, drop, getD};
 ghost use Rattle.prelude.specs.Limits.{headerRoom, longest, mostMembers, mostRecipients};
 ghost use Rattle.names.specs.Names.{names, filled};
 ghost use Rattle.prelude.specs.Any.{any};
@@ -17,18 +16,20 @@ ghost use Rattle.prelude.specs.Refusals.{first, stageOf};
 ghost use Rattle.headers.specs.Components.{absent, misspelled};
 ghost use Rattle.headers.specs.Headers.{headerText, protectedEntries, headerEntries, objectOrder};
 ghost use Rattle.headers.specs.Answers.{placeOf, componentsOf, headerBuffer};
-ghost use Rattle.shape.specs.Inner.Answers.{recipientWidth, topIn};
+ghost use Rattle.shape.specs.Inner.Answers.{recipientWidth, recipientsRoom, topIn};
 ghost use Rattle.jwe.specs.General.{allPlaces, jsonLater, jsonOrder};
-ghost use Rattle.jwe.specs.Judge.{accepted};
-ghost use Rattle.jwe.specs.Inner.Outcomes.{outcomeOf, jsonOutcome};
-ghost use Rattle.jwe.specs.Answers.{numbers, BeginsWith, Judges};
+ghost use Rattle.jwe.specs.Judge.{accepted, jsonHeld, outcomeFor};
+ghost use Rattle.jwe.specs.Inner.Outcomes.{jsonOutcome};
+ghost use Rattle.jwe.specs.Answers.{numbers};
 ghost use Rattle.jose.specs.ContentAlgorithm.{differing};
 ghost use Rattle.jose.specs.Inner.Content.{namedIn};
-ghost use Rattle.jwe.specs.Inner.Stages.{recipientAt, recipientsOf, Owned, LeavesOwn, textTests, protectedTests, ownTests, ruleTests};
-ghost use Rattle.jwe.specs.Inner.Stages.{ownContents, ruledTests};
-ghost use Rattle.jwe.specs.Inner.Stages.{HeaderKnown, HeadersKnown, allTests, headedOrder, headedOutcome, Heads, ownTable};
+ghost use Rattle.jwe.specs.Inner.Stages.{recipientsOf, Owned, LeavesOwn, textTests, protectedTests, ownTests, ruleTests};
+ghost use Rattle.jwe.specs.Inner.Stages.{KeepsFront, ownContents, ruledTests};
+ghost use Rattle.jwe.specs.Inner.Stages.{HeaderKnown, HeadersKnown, allTests, ownTable, Judges};
+ghost use Rattle.jwe.specs.Inner.Holding.{Holds, HoldsBy, Gathers, heldOf};
+use crate::Holding;
 use crate::Result;
-use crate::handed;
+use crate::held;
 use crate::refused;
 use headers::Components;
 use jose::content::Named;
@@ -41,18 +42,6 @@ use prelude::limits::MOST_RECIPIENTS;
 use rows::layout;
 use shape::held::Top;
 
-// The place of a recipient's key.
-fn key(of: &[usize], i: usize) -> Place
-    requires { ⌜ i * recipientWidth + recipientWidth ≤ length (now of) ⌝ }
-    ensures { λ r. ⌜ placeOf r ≡ recipientAt (drop (i * recipientWidth) (now (of .entry))) .key ⌝ }
-{
-    let at = i * shape::RECIPIENT_WIDTH;
-    Place {
-        start: of[at + 1],
-        len: of[at + 2],
-    }
-}
-
 // 5 on the recipients' keys.
 fn keys_misspelled(message: &[u8], of: &[usize], number: usize) -> bool
     requires { ⌜ number * recipientWidth ≤ length (now of) ⌝ }
@@ -60,7 +49,7 @@ fn keys_misspelled(message: &[u8], of: &[usize], number: usize) -> bool
 {
     let mut i: usize = 0;
     while i < number {
-        if headers::misspelled(message, key(of, i)) {
+        if headers::misspelled(message, held::key(of, i)) {
             return true;
         }
         i += 1;
@@ -179,23 +168,6 @@ fn own_headers(
     Stage::Passed(number)
 }
 
-// The parameters of a recipient: its own are copied behind those that are all recipients'. How many they are.
-fn gather(own: &[u32], counts: &[usize], i: usize, table: &mut [u32], front: usize) -> usize
-    requires { ⌜ i < mostRecipients ⌝ }
-    requires { ⌜ length (now own) ≡ ownTable ⌝ }
-    requires { ⌜ length (now counts) ≡ mostRecipients ⌝ }
-    requires { ⌜ getD (now counts) i 0 ≤ mostMembers ⌝ }
-    requires { ⌜ front * width + headerTable ≤ length (now table) ⌝ }
-    ensures { λ r. ⌜ r ≡ front + getD (now (counts .entry)) i 0 ⌝ }
-    ensures { λ _. ⌜ now (table .exit) ≡ written (front * width) (take (getD (now (counts .entry)) i 0 * width) (drop (i * headerTable) (now (own .entry)))) (now (table .entry)) ⌝ }
-{
-    let count = counts[i];
-    let start = i * layout::HEADER_TABLE;
-    let end = start + count * layout::WIDTH;
-    rows::copy::copy(&own[start..end], table, front * layout::WIDTH);
-    front + count
-}
-
 // 12 to 18 on each recipient in turn. The first entries of the table, which are all recipients', stay as they are.
 fn rules(
     header: &[u8],
@@ -218,12 +190,12 @@ fn rules(
     requires { ⌜ front * width + headerTable ≤ length (now table) ⌝ }
     requires { ⌜ Printed (readTexts (now header) (now message)) front (now table) ⌝ }
     ensures { λ r. ⌜ r ≡ stageOf (first (ruleTests (names (now (known .entry))) (now (header .entry)) (now (message .entry)) (entriesOf front (now (table .entry))) (componentsOf q) (recipientsOf number (now (of .entry))))) number ⌝ }
-    ensures { λ _. ⌜ entriesOf front (now (table .exit)) ≡ entriesOf front (now (table .entry)) ⌝ }
+    ensures { λ _. ⌜ KeepsFront (readTexts (now (header .entry)) (now (message .entry))) front (now (table .entry)) (now (table .exit)) ⌝ }
 {
     let mut i: usize = 0;
     while i < number {
-        let count = gather(own, counts, i, table, front);
-        let sizes = headers::sizes(headers::with_key(q, key(of, i)));
+        let count = held::gather(own, counts, i, table, front);
+        let sizes = headers::sizes(headers::with_key(q, held::key(of, i)));
         let judged = jose::judge::judge(header, message, message, known, table, count, sizes);
         let Stage::Passed(_) = judged else {
             return judged;
@@ -297,7 +269,7 @@ fn ruled(
     requires { ⌜ front * width + headerTable ≤ length (now table) ⌝ }
     requires { ⌜ Printed (readTexts (now header) (now message)) front (now table) ⌝ }
     ensures { λ r. ⌜ r ≡ stageOf (first (ruledTests (names (now (known .entry))) (now (header .entry)) (now (message .entry)) (entriesOf front (now (table .entry))) (componentsOf q) (recipientsOf number (now (of .entry))))) number ⌝ }
-    ensures { λ _. ⌜ entriesOf front (now (table .exit)) ≡ entriesOf front (now (table .entry)) ⌝ }
+    ensures { λ _. ⌜ KeepsFront (readTexts (now (header .entry)) (now (message .entry))) front (now (table .entry)) (now (table .exit)) ⌝ }
 {
     let each = rules(
         header,
@@ -348,7 +320,7 @@ fn judged(
     requires { ⌜ HeadersKnown (now message) (recipientsOf number (now of)) ⌝ }
     ensures { λ r. ⌜ r ≡ stageOf (first (allTests (names (now (known .entry))) (now (header .entry)) (now (message .entry)) (entriesOf front (now (table .entry))) (componentsOf q) (recipientsOf number (now (of .entry))))) number ⌝ }
     ensures { λ r. ⌜ LeavesOwn number (now (message .entry)) (now (of .entry)) (now (own .exit)) (now (counts .exit)) r ⌝ }
-    ensures { λ _. ⌜ entriesOf front (now (table .exit)) ≡ entriesOf front (now (table .entry)) ⌝ }
+    ensures { λ _. ⌜ KeepsFront (readTexts (now (header .entry)) (now (message .entry))) front (now (table .entry)) (now (table .exit)) ⌝ }
 {
     let collected = own_headers(message, of, number, own, counts);
     let Stage::Passed(_) = collected else {
@@ -368,154 +340,143 @@ fn judged(
     )
 }
 
-// What is handed out for a recipient; its parameters stand at the start of the table.
-fn hand_out(
-    header: &[u8],
-    message: &[u8],
-    top: Top,
-    of: &[usize],
-    number: usize,
-    own: &[u32],
-    counts: &[usize],
-    i: usize,
-    table: &mut [u32],
-    front: usize,
-) -> Result
-    requires { ⌜ number ≤ mostRecipients ⌝ }
-    requires { ⌜ number * recipientWidth ≤ length (now of) ⌝ }
-    requires { ⌜ length (now own) ≡ ownTable ⌝ }
-    requires { ⌜ length (now counts) ≡ mostRecipients ⌝ }
-    requires { ⌜ Owned number (now message) (now of) (now own) (now counts) ⌝ }
-    requires { ⌜ i < number ⌝ }
-    requires { ⌜ front * width + headerTable ≤ length (now table) ⌝ }
-    ensures { λ r. ⌜ numbers r ≡ accepted (now (message .entry)) (headedOutcome (now (header .entry)) (now (message .entry)) (topIn top) (entriesOf front (now (table .entry))) (recipientsOf number (now (of .entry))) i) ⌝ }
-    ensures { λ _. ⌜ BeginsWith (headedOutcome (now (header .entry)) (now (message .entry)) (topIn top) (entriesOf front (now (table .entry))) (recipientsOf number (now (of .entry))) i .entries) (now (table .entry)) (now (table .exit)) ⌝ }
-{
-    let parameters = gather(own, counts, i, table, front);
-    Result {
-        number: 0,
-        form: top.form,
-        recipients: number,
-        mode: jose::rules::mode(header, message, message, table, parameters),
-        components: headers::with_key(top.components, key(of, i)),
-        header: header.len(),
-        parameters,
-    }
-}
-
-// From the own headers on; the first entries of the table are all recipients'. Accepted, it begins with the entries of the
-// asked recipient.
-fn headed(
-    header: &[u8],
-    message: &[u8],
-    known: &[u8],
-    recipient: u32,
-    top: Top,
-    of: &[usize],
-    number: usize,
-    table: &mut [u32],
-    front: usize,
-) -> Result
-    requires { ⌜ length (now message) ≤ longest ⌝ }
-    requires { ⌜ filled (now known) ≡ true ⌝ }
-    requires { ⌜ number ≤ mostRecipients ⌝ }
-    requires { ⌜ number * recipientWidth ≤ length (now of) ⌝ }
-    requires { ⌜ length (now table) ≡ recipientTable ⌝ }
-    requires { ⌜ front ≤ 2 * mostMembers ⌝ }
-    requires { ⌜ Printed (readTexts (now header) (now message)) front (now table) ⌝ }
-    requires { ⌜ HeadersKnown (now message) (recipientsOf number (now of)) ⌝ }
-    ensures { λ r. ⌜ Heads (now (message .entry))
-        (headedOrder (names (now (known .entry))) (now (header .entry)) (now (message .entry))
-        (entriesOf front (now (table .entry))) (componentsOf (top .components)) (recipientsOf number (now (of .entry))) recipient)
-        (headedOutcome (now (header .entry)) (now (message .entry)) (topIn top) (entriesOf front (now (table .entry)))
-        (recipientsOf number (now (of .entry))) recipient)
-        r (now (table .entry)) (now (table .exit)) ⌝ }
-{
-    let mut own = [0u32; 2048];
-    let mut counts = [0usize; MOST_RECIPIENTS];
-    let q = top.components;
-    let all = judged(
-        header,
-        message,
-        known,
-        q,
-        of,
-        number,
-        &mut own,
-        &mut counts,
-        table,
-        front,
-    );
-    let Stage::Passed(_) = all else {
-        return handed(all);
-    };
-    let i = recipient as usize;
-    if number <= i {
-        return refused(19);
-    }
-    hand_out(
-        header,
-        message,
-        top,
-        of,
-        number,
-        &own,
-        &counts,
-        i,
-        table,
-        front,
-    )
-}
-
-// From the protected header on, all components being base64url.
+// From the protected header on, all components being base64url: the decoded header, the parameters that are all recipients' and
+// those of each are left in the lent tables.
 fn shaped(
     message: &[u8],
     known: &[u8],
-    recipient: u32,
     top: Top,
     of: &[usize],
     number: usize,
     text: &mut [u8],
     table: &mut [u32],
-) -> Result
+    own: &mut [u32],
+    counts: &mut [usize],
+) -> Holding
     requires { ⌜ length (now message) ≤ longest ⌝ }
     requires { ⌜ filled (now known) ≡ true ⌝ }
+    requires { ⌜ 1 ≤ number ⌝ }
     requires { ⌜ number ≤ mostRecipients ⌝ }
     requires { ⌜ number * recipientWidth ≤ length (now of) ⌝ }
     requires { ⌜ misspelled (now message) (topIn top .components .protected) ≡ false ⌝ }
     requires { ⌜ (topIn top .protected ≡ false → topIn top .components .protected ≡ absent) ⌝ }
     requires { ⌜ length (now text) ≡ headerRoom ⌝ }
     requires { ⌜ length (now table) ≡ recipientTable ⌝ }
+    requires { ⌜ length (now own) ≡ ownTable ⌝ }
+    requires { ⌜ length (now counts) ≡ mostRecipients ⌝ }
     requires { ⌜ HeaderKnown (now message) (topIn top .shared) ⌝ }
     requires { ⌜ HeadersKnown (now message) (recipientsOf number (now of)) ⌝ }
-    ensures { λ r. ⌜ Judges (now (message .entry))
-        (jsonLater (names (now (known .entry))) (now (message .entry)) (topIn top) (recipientsOf number (now (of .entry))) recipient)
-        (outcomeOf (now (message .entry)) (topIn top) (recipientsOf number (now (of .entry))) recipient)
-        r (now (text .entry)) (now (text .exit)) (now (table .entry)) (now (table .exit)) ⌝ }
+    ensures { λ r. ⌜ HoldsBy (now (message .entry))
+        (jsonLater (names (now (known .entry))) (now (message .entry)) (topIn top) (recipientsOf number (now (of .entry))) 0)
+        (heldOf (now (message .entry)) (topIn top) (recipientsOf number (now (of .entry))))
+        r (now (text .exit)) (now (table .exit)) (now (of .entry)) (now (own .exit)) (now (counts .exit)) ⌝ }
 {
     let header = decoded(message, top.protected, top.components.protected, text);
     let Stage::Passed(h) = header else {
-        return handed(header);
+        return held::handed(header);
     };
-    let own = protected(&text[..h], top.protected, table);
-    let Stage::Passed(p) = own else {
-        return handed(own);
+    let protected_ones = protected(&text[..h], top.protected, table);
+    let Stage::Passed(p) = protected_ones else {
+        return held::handed(protected_ones);
     };
     let shared = unprotected(message, top.shared, 1, table, p);
     let Stage::Passed(s) = shared else {
-        return handed(shared);
+        return held::handed(shared);
     };
-    headed(
+    let q = top.components;
+    let all = judged(
         &text[..h],
         message,
         known,
-        recipient,
-        top,
+        q,
         of,
         number,
+        own,
+        counts,
         table,
         p + s,
-    )
+    );
+    let Stage::Passed(_) = all else {
+        return held::handed(all);
+    };
+    Holding {
+        number: 0,
+        form: top.form,
+        recipients: number,
+        components: q,
+        header: h,
+        common: p + s,
+    }
+}
+
+// A JSON message judged, and what it holds.
+pub(crate) fn hold(
+    message: &[u8],
+    known: &[u8],
+    text: &mut [u8],
+    table: &mut [u32],
+    of: &mut [usize],
+    own: &mut [u32],
+    counts: &mut [usize],
+) -> Holding
+    requires { ⌜ length (now message) ≤ longest ⌝ }
+    requires { ⌜ filled (now known) ≡ true ⌝ }
+    requires { ⌜ length (now text) ≡ headerRoom ⌝ }
+    requires { ⌜ length (now table) ≡ recipientTable ⌝ }
+    requires { ⌜ length (now of) ≡ recipientsRoom ⌝ }
+    requires { ⌜ length (now own) ≡ ownTable ⌝ }
+    requires { ⌜ length (now counts) ≡ mostRecipients ⌝ }
+    ensures { λ r. ⌜ HoldsBy (now (message .entry)) (jsonOrder (now (message .entry)) (names (now (known .entry))) 0)
+        (jsonHeld (now (message .entry))) r (now (text .exit)) (now (table .exit)) (now (of .exit)) (now (own .exit))
+        (now (counts .exit)) ⌝ }
+{
+    let mut members = [0u32; layout::HEADER_TABLE];
+    let outermost = shape::top(message, &mut members);
+    let Stage::Passed(count) = outermost else {
+        return held::handed(outermost);
+    };
+    let elements = shape::recipients(message, &members, count, of);
+    let Stage::Passed(number) = elements else {
+        return held::handed(elements);
+    };
+    let top = shape::held::held(&members, count);
+    if misspelled(message, top.components, of, number) {
+        return held::refused(5);
+    }
+    shaped(message, known, top, of, number, text, table, own, counts)
+}
+
+// What is handed out for a recipient, of what the message holds; its parameters stand at the start of the table.
+fn hand_out(
+    message: &[u8],
+    has: Holding,
+    text: &[u8],
+    of: &[usize],
+    own: &[u32],
+    counts: &[usize],
+    i: usize,
+    table: &mut [u32],
+) -> Result
+    requires { ⌜ length (now text) ≡ headerRoom ⌝ }
+    requires { ⌜ length (now table) ≡ recipientTable ⌝ }
+    requires { ⌜ length (now of) ≡ recipientsRoom ⌝ }
+    requires { ⌜ length (now own) ≡ ownTable ⌝ }
+    requires { ⌜ length (now counts) ≡ mostRecipients ⌝ }
+    requires { ⌜ i < has .recipients ⌝ }
+    requires { ⌜ Holds (now message) (jsonHeld (now message)) has (now text) (now table) (now of) (now own) (now counts) ⌝ }
+    ensures { λ r. ⌜ numbers r ≡ accepted (now (message .entry)) (outcomeFor (jsonHeld (now (message .entry))) i) ⌝ }
+    ensures { λ r. ⌜ Gathers (now (message .entry)) (jsonHeld (now (message .entry))) i (has .common) (r .parameters) (now (table .exit)) ⌝ }
+{
+    let parameters = held::gather(own, counts, i, table, has.common);
+    Result {
+        number: 0,
+        form: has.form,
+        recipients: has.recipients,
+        mode: jose::rules::mode(&text[..has.header], message, message, table, parameters),
+        components: headers::with_key(has.components, held::key(of, i)),
+        header: has.header,
+        parameters,
+    }
 }
 
 // A JSON message judged for a recipient.
@@ -532,19 +493,16 @@ pub(crate) fn judge(
     requires { ⌜ length (now table) ≡ recipientTable ⌝ }
     ensures { λ r. ⌜ Judges (now (message .entry)) (jsonOrder (now (message .entry)) (names (now (known .entry))) recipient) (jsonOutcome (now (message .entry)) recipient) r (now (text .entry)) (now (text .exit)) (now (table .entry)) (now (table .exit)) ⌝ }
 {
-    let mut members = [0u32; layout::HEADER_TABLE];
-    let outermost = shape::top(message, &mut members);
-    let Stage::Passed(count) = outermost else {
-        return handed(outermost);
-    };
     let mut of = [0usize; shape::RECIPIENTS_ROOM];
-    let elements = shape::recipients(message, &members, count, &mut of);
-    let Stage::Passed(number) = elements else {
-        return handed(elements);
-    };
-    let top = shape::held::held(&members, count);
-    if misspelled(message, top.components, &of, number) {
-        return refused(5);
+    let mut own = [0u32; held::OWN_TABLE];
+    let mut counts = [0usize; MOST_RECIPIENTS];
+    let has = hold(message, known, text, table, &mut of, &mut own, &mut counts);
+    if has.number != 0 {
+        return refused(has.number);
     }
-    shaped(message, known, recipient, top, &of, number, text, table)
+    let i = recipient as usize;
+    if has.recipients <= i {
+        return refused(19);
+    }
+    hand_out(message, has, text, &of, &own, &counts, i, table)
 }

@@ -3,14 +3,17 @@ ghost use mathlib.Core.Path.{_≡_};
 ghost use mathlib.Core.Bool.{true, cond};
 ghost use Prim.Native.Nat.{_≤_};
 ghost use lib.ListN.{length};
-ghost use Rattle.prelude.specs.Limits.{headerRoom, listRoom, longest};
+ghost use Rattle.prelude.specs.Limits.{headerRoom, listRoom, longest, mostRecipients};
 ghost use Rattle.names.specs.Names.{names, filled, sound};
 ghost use Rattle.grammar.specs.Reader.{opensObject};
 ghost use Rattle.jwe.specs.Compact.{compactOrder};
 ghost use Rattle.jwe.specs.General.{jsonOrder};
-ghost use Rattle.jwe.specs.Judge.{call, outcome, result, refused, headerAfter, listAfter};
-ghost use Rattle.jwe.specs.Answers.{numbers, refusedBy, Judges};
-ghost use Rattle.jwe.specs.Inner.Stages.{tableRoom};
+ghost use Rattle.rows.specs.Tables.{recipientTable};
+ghost use Rattle.shape.specs.Inner.Answers.{recipientsRoom};
+ghost use Rattle.jwe.specs.Judge.{call, held, refusal, outcome, result, refused, headerAfter, listAfter};
+ghost use Rattle.jwe.specs.Answers.{numbers, refusedBy};
+ghost use Rattle.jwe.specs.Inner.Stages.{tableRoom, ownTable, Judges};
+ghost use Rattle.jwe.specs.Inner.Holding.{Holds};
 use headers::Components;
 use prelude::Place;
 use prelude::Stage;
@@ -20,6 +23,7 @@ use prelude::limits::LONGEST;
 
 mod compact;
 mod general;
+pub mod held;
 
 // What the reader answers (document 01, 'What the reader hands out').
 pub struct Result {
@@ -30,6 +34,18 @@ pub struct Result {
     pub components: Components,
     pub header: usize,
     pub parameters: usize,
+}
+
+// What an accepted message holds, for any recipient (specs/Judge `Held`): its form, how many recipients it has, the components but the
+// keys of JSON recipients, how long the decoded protected header is, and how many parameters are all recipients'. `number` is the
+// refusal, 0 where there is none. The rest stands in the tables that `hold` fills.
+pub struct Holding {
+    pub number: u32,
+    pub form: u32,
+    pub recipients: usize,
+    pub components: Components,
+    pub header: usize,
+    pub common: usize,
 }
 
 // A refusal: its number with zeros.
@@ -152,4 +168,37 @@ pub fn read(
     }
     let mut one = [0u32; rows::layout::HEADER_TABLE];
     hand_over(message, known, recipient, &mut one, header, list)
+}
+
+// A message judged once for all its recipients, as `read` judges it for the first one, and what it holds left in the lent tables: the
+// decoded protected header in `text`, the parameters that are all recipients' at the start of `table`, and of each recipient what
+// module `held` reads. Where the message is refused the contents of all five are free.
+pub fn hold(
+    message: &[u8],
+    known: &[u8],
+    text: &mut [u8],
+    table: &mut [u32],
+    of: &mut [usize],
+    own: &mut [u32],
+    counts: &mut [usize],
+) -> Holding
+    requires { ⌜ length (now text) ≡ headerRoom ⌝ }
+    requires { ⌜ length (now table) ≡ recipientTable ⌝ }
+    requires { ⌜ length (now of) ≡ recipientsRoom ⌝ }
+    requires { ⌜ length (now own) ≡ ownTable ⌝ }
+    requires { ⌜ length (now counts) ≡ mostRecipients ⌝ }
+    ensures { λ r. ⌜ r .number ≡ refusal (call (now (message .entry)) (now (known .entry)) 0 headerRoom listRoom) ⌝ }
+    ensures { λ r. ⌜ (r .number ≡ 0 → Holds (now (message .entry)) (held (now (message .entry))) r (now (text .exit))
+        (now (table .exit)) (now (of .exit)) (now (own .exit)) (now (counts .exit))) ⌝ }
+{
+    if LONGEST < message.len() {
+        return held::refused(2);
+    }
+    if !names::sound(known) {
+        return held::refused(3);
+    }
+    if json::opens_object(message) {
+        return general::hold(message, known, text, table, of, own, counts);
+    }
+    compact::hold(message, known, text, table, of, counts)
 }

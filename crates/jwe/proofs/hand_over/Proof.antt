@@ -14,7 +14,7 @@ use Rattle.prelude.specs.Refusals.{first}
 use Rattle.jwe.specs.Judge.{Call, call, refusal, outcome, accepted}
 use Rattle.jwe.specs.Answers.{numbers}
 use Rattle.jwe.proofs.Answering.{number-is, answered-refused, answered-accepted}
-use Rattle.jwe.proofs.Reading.{judging, Holds, holds, room-most}
+use Rattle.jwe.proofs.Reading.{judging, Stands, stands, room-most}
 use Rattle.jwe.proofs.Reading.{answers-refused, answers-accepted, refusal-judged}
 use borrow.Author.Needs.{needs}
 use Rattle.jwe.proofs.hand_over.Statement.{statement}
@@ -69,13 +69,13 @@ accepts c =
 held : (c : tie.Else1) →
     let call = judged-of c in
     let given = start-of call .args in
-    Holds (outcome (given .message .now) (given .recipient)) (call .judge .last .1 .1 .1 .0)
+    Stands (outcome (given .message .now) (given .recipient)) (call .judge .last .1 .1 .1 .0)
     (call .judge .last .1 .1 .1 .1 .0) (call .judge .result .header) (call .judge .result .parameters)
 held c =
     let call = judged-of c in
     let given = start-of call .args in
     let k = call .judge .ensures in
-    holds (given .message .now) _ _ _ _ _ (accepts c) (k .header (passes c)) (k .entries (passes c) .1) (search needs)
+    stands (given .message .now) _ _ _ _ (accepts c) (k .header (passes c)) (k .entries (passes c) .1) (search needs)
 
 slice-aggregate-judge : tie.Need-slice-aggregate-judge
 slice-aggregate-judge c = search needs

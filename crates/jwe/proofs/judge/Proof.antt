@@ -1,6 +1,7 @@
 -- `judge` hands up what the path answers that the message opens.
 use mathlib.Core.Path.{ap, sym, _∙_}
 use mathlib.Core.Bool.{true, false}
+use native.Mathlib.Omega.{arith}
 use Rattle.names.specs.Names.{names}
 use Rattle.jwe.specs.Inner.Stages.{tableRoom}
 use Rattle.jwe.proofs.Reading.{judges-as}
@@ -38,7 +39,7 @@ judge-requires-2 c κs =
     let asked = c .before .before .before in
     let pre = asked .before .before .before .before .before .pre in
     let opens = sym (asked .opens-object .ensures) ∙ c .before .before .if1 .left in
-    (pre .0, (pre .1 .0, (pre .1 .1 .0, pre .1 .1 .1 ∙ ap tableRoom opens)))
+    (pre .0, (pre .1 .0, (pre .1 .1 .0, omega (arith, pre .1 .1 .1 ∙ ap tableRoom opens))))
 
 same-length-3 : tie.Need-same-length-3
 same-length-3 c = search needs

@@ -10,9 +10,9 @@ use Rattle.prelude.specs.Limits.{levels, mostMembers, mostRecipients}
 use Rattle.grammar.specs.Grammar.{curly}
 use Rattle.grammar.specs.Bounds.{Every}
 use Rattle.json.specs.Inner.Known.{KnownIn}
-use Rattle.rows.specs.Rows.{Entry, readTexts}
+use Rattle.rows.specs.Rows.{Entry, Texts, readTexts}
 use Rattle.rows.specs.Tables.{entriesOf, width, headerTable, recipientTable}
-use Rattle.rows.specs.Inner.Prints.{flat}
+use Rattle.rows.specs.Inner.Prints.{flat, Printed}
 use Rattle.prelude.specs.Refusals.{Test, _if_, first}
 use Rattle.jose.specs.HeaderRules.{recipientOrder}
 use Rattle.jose.specs.ContentAlgorithm.{contentAlgorithm, differing}
@@ -22,10 +22,9 @@ use Rattle.prelude.specs.declared.Stage.{Stage}
 use Rattle.prelude.specs.declared.Stage.the-variants.{Passed, Refused}
 use Rattle.headers.specs.Components.{Components, withKey, sizesOf}
 use Rattle.shape.specs.Shape.{Recipient}
-use Rattle.shape.specs.Recipients.{Top, componentsIn}
 use Rattle.shape.specs.Inner.Answers.{recipientWidth}
 use Rattle.jwe.specs.General.{ownEntries, isHollow}
-use Rattle.jwe.specs.Judge.{Outcome, answered, asked}
+use Rattle.jwe.specs.Judge.{Outcome, answered}
 use Rattle.jwe.specs.Answers.{numbers, BeginsWith}
 use Rattle.jwe.specs.declared.Result.{Result}
 
@@ -53,21 +52,28 @@ ownTable = mostRecipients * headerTable
 abbrev pub ownAt : List ℕ → List ℕ → ℕ → List Entry
 ownAt message of k = ownEntries message (recipientAt (drop (k * recipientWidth) of))
 
--- Their own headers, collected into a table 32 entries apart, with how many each has; k is below the number of
--- recipients.
-pub record OwnAt (message of own counts : List ℕ) (k : ℕ) : Type 0 where
+-- Entries of the message, collected into a table 32 entries apart as the k-th there, with how many they are.
+pub record LaidAt (message : List ℕ) (es : List Entry) (own counts : List ℕ) (k : ℕ) : Type 0 where
   pub few : getD counts k 0 ≤ mostMembers
-  pub counted : getD counts k 0 ≡ length (ownAt message of k)
-  pub entries : take (getD counts k 0 * width) (drop (k * headerTable) own) ≡ flat message (ownAt message of k)
+  pub counted : getD counts k 0 ≡ length es
+  pub entries : take (getD counts k 0 * width) (drop (k * headerTable) own) ≡ flat message es
+
+-- The own headers so collected; k is below the number of recipients.
+abbrev pub OwnAt : List ℕ → List ℕ → List ℕ → List ℕ → ℕ → Type 0
+OwnAt message of own counts k = LaidAt message (ownAt message of k) own counts k
 
 abbrev pub Owned : ℕ → List ℕ → List ℕ → List ℕ → List ℕ → Type 0
 Owned number message of own counts = (k : ℕ) → k < number → OwnAt message of own counts k
 
--- What collecting them leaves. Where it refuses the contents are free and the lengths are kept: both tables are local ones
--- of `headed`, which does not read them then.
+-- What collecting them leaves. Where it refuses the contents are free and the lengths are kept: nothing reads both tables then.
 abbrev pub LeavesOwn : ℕ → List ℕ → List ℕ → List ℕ → List ℕ → Stage → Type 0
 LeavesOwn number message of own counts (Passed n) = Owned number message of own counts
 LeavesOwn number message of own counts (Refused n) = (length own ≡ ownTable) × (length counts ≡ mostRecipients)
+
+-- A table whose first n entries are unchanged, with the fingerprints of their names.
+pub record KeepsFront (ts : Texts) (n : ℕ) (before after : List ℕ) : Type 0 where
+  pub entries : entriesOf n after ≡ entriesOf n before
+  pub printed : Printed ts n after
 
 -- The content algorithm of the k-th own header, and those of n of them from the k-th on.
 
@@ -129,20 +135,13 @@ unfoldable pub headedOrder : List (List ℕ) → List ℕ → List ℕ → List 
 headedOrder known header message front q rs recipient =
     allTests known header message front q rs ++ (19 if leb (length rs) recipient ∷ [])
 
--- What is handed out, by the top level, the header, the parameters that are all recipients', and the recipients.
-unfoldable pub headedOutcome : List ℕ → List ℕ → Top → List Entry → List Recipient → ℕ → Outcome
-headedOutcome header message t front rs recipient =
-    let r = asked rs recipient in
-    record {
-      form = t .form;
-      recipients = length rs;
-      components = componentsIn t r;
-      header = header;
-      entries = front ++ ownEntries message r;
-    }
-
--- As Answers' `Judges`, where the header has been decoded before.
-pub record Heads (message : List ℕ) (order : List Test) (x : Outcome) (r : Result) (table₀ table : List ℕ) : Type 0 where
+-- A message judged by an order: the result is that of its first refusal and of its outcome. Where nothing is refused, the decoded
+-- header stands at the start of the text buffer and the entries, with the fingerprints of their names, at the start of the table. Where it is
+-- refused the contents of both are free and their lengths are kept: nothing reads them then.
+pub record Judges (message : List ℕ) (order : List Test) (x : Outcome) (r : Result) (text₀ text table₀ table : List ℕ) : Type 0 where
   pub answers : numbers r ≡ answered message (first order) x
+  pub sameText : length text ≡ length text₀
   pub sameTable : length table ≡ length table₀
+  pub header : first order ≡ 0 → take (length (x .header)) text ≡ x .header
   pub entries : first order ≡ 0 → BeginsWith (x .entries) table₀ table
+  pub printed : first order ≡ 0 → Printed (readTexts (x .header) message) (length (x .entries)) table

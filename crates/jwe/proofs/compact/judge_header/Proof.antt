@@ -4,7 +4,7 @@ use mathlib.Core.Bool.{false}
 use mathlib.Core.List.{List}
 use Prim.Native.Nat.{ℕ}
 use native.Mathlib.Omega.{arith}
-use lib.ListN.{length}
+use lib.ListN.{length, take}
 use Rattle.names.specs.Names.{names}
 use Rattle.prelude.specs.Any.{any}
 use Rattle.rows.specs.Rows.{Entry, readTexts}
@@ -108,6 +108,17 @@ kept c =
     (omega (arith, start .pre .1 .1 .1 .1 .1))
     (sym (c .before .collected .given .1) ∙ entries-answer (c .before .before .before .before .before)) (entries-left (c .before .before .before .before .before))
 
+-- with the fingerprints of their names
+printed : (c : tie.After-known-told2) →
+    let m = message (start-of (told-of c)) in
+    Printed (readTexts (header m) m) (c .before .collected .given .0 .0)
+    (c .before .before .before .before .before .protected-entries .last .1 .0)
+unfolding protectedEntries
+printed c =
+    let m = message (start-of (told-of c)) in
+    let ts = readTexts (header m) m in
+    kept-printed ts (kept c) (entries-stand registered ts (header m) 0 (outermost (header m)) refl)
+
 -- Back to where they passed, from behind the rules.
 abbrev known-of : tie.After-judge → tie.After-known-told2
 known-of c = c .before .before .before .before
@@ -208,20 +219,16 @@ sizes-requires : tie.Need-sizes-requires
 sizes-requires c κs = search needs
 
 judge-requires : tie.Need-judge-requires
-unfolding protectedEntries
 judge-requires c κs =
     let told = told-of (c .before .before .before) in
     let start = start-of told in
     let m = message start in
     let text = read told in
     let known = c .before .before .before in
-    let table = kept known in
     let count = known .before .collected .given .0 .0 in
-    let after = known .before .before .before .before .before .protected-entries .last .1 .0 in
-    let ts = readTexts (header m) m in
-    let printed = kept-printed ts table (entries-stand registered ts (header m) 0 (outermost (header m)) refl) in (
+    let after = known .before .before .before .before .before .protected-entries .last .1 .0 in (
       start .pre .1 .1 .1 .0,
-      (table .fits, subst (λ (h : List ℕ). Printed (readTexts h m) count after) (sym (text .front)) printed),
+      (kept known .fits, subst (λ (h : List ℕ). Printed (readTexts h m) count after) (sym (text .front)) (printed known)),
     )
 
 enum-known-judged : tie.Need-enum-known-judged
@@ -303,7 +310,7 @@ returns-5 c =
           ∙ answered-accepted (message start) (compactOutcome (message start)) none;
       sameText = text .same;
       sameTable = table .same;
-      header = λ z. text .left;
+      header = λ z. sym (ap (λ (n : ℕ). take n (known .before .before .before .before .before .before .before .before .before .before .before .before .before .header .last .1 .1 .0)) (text .size)) ∙ text .front;
       entries = λ z. (
         table .same,
         (
@@ -312,6 +319,11 @@ returns-5 c =
               (sym (table .size)) ∙ table .entries,
         ),
       );
+      printed = λ z. subst
+          (λ (n : ℕ).
+          Printed (readTexts (header (message start)) (message start)) n
+          (known .before .before .before .before .before .protected-entries .last .1 .0))
+          (table .size) (printed known);
     }
 
 pub judge-header-spec : {M : Type 1} → statement M

@@ -1,111 +1,86 @@
 -- `hand_out` gathers the recipient's entries, and answers with their number and mode and with the components.
-use mathlib.Core.Path.{_≡_, refl, ap, sym, _∙_}
-use mathlib.Core.List.{List, _++_}
-use Prim.Native.Nat.{ℕ, _*_, _≤_}
+use mathlib.Core.Path.{ap, ap₂, sym, _∙_}
+use mathlib.Core.List.{List}
+use Prim.Native.Nat.{ℕ}
 use native.Mathlib.Omega.{arith}
-use lib.ListN.{length, drop}
-use Rattle.grammar.specs.Places.{Place}
+use lib.ListN.{length}
+use lib.Seq.{length-take-le}
 use Rattle.rows.specs.Rows.{Entry, readTexts}
-use Rattle.rows.specs.Tables.{entriesOf, width}
 use Rattle.rows.proofs.Entries.{entries-length}
 use Rattle.jose.specs.HeaderRules.{modeIn}
 use Rattle.headers.specs.Components.{withKey}
-use Rattle.headers.specs.Answers.{componentsOf}
-use Rattle.shape.specs.Shape.{Recipient}
-use Rattle.shape.specs.Recipients.{componentsIn}
-use Rattle.shape.specs.Inner.Answers.{topIn}
-use Rattle.jwe.specs.General.{ownEntries}
-use Rattle.jwe.specs.Judge.{asked}
-use Rattle.jwe.specs.Inner.Stages.{recipientAt, recipientsOf, headedOutcome}
-use Rattle.jwe.proofs.RecipientRows.{recipients-length, asked-at}
-use Rattle.jwe.proofs.OwnHeaders.{gathered, gathered-room, gathered-length}
+use Rattle.jwe.specs.Judge.{jsonHeld, outcomeFor}
+use Rattle.jwe.specs.Inner.Holding.{HoldsShare, Gathers}
+use Rattle.jwe.proofs.HeldTables.{gathers-json, header-size}
 use Rattle.jwe.proofs.JsonHeads.{result-is}
 use borrow.Author.Needs.{needs}
 use Rattle.jwe.proofs.general.hand_out.Statement.{statement}
 use Rattle.jwe.proofs.general.hand_out.Tie as tie
 
--- back to the start from behind `gather`, and the recipient
+-- back to the start from behind `gather`
 abbrev start : tie.After-gather → tie.Start
 start c = c .before .before .before .before .before .before .before .before
 
-abbrev this : tie.Start → Recipient
-this s = asked (recipientsOf (s .args .number) (s .args .of .now)) (s .args .i)
+-- what the recipient has
+share : (s : tie.Start) →
+    let args = s .args in
+    HoldsShare (args .message .now) (jsonHeld (args .message .now) .share (args .i)) (args .of .now) (args .own .now)
+    (args .counts .now) (args .i)
+share s = s .pre .1 .1 .1 .1 .1 .1 .share (s .args .i) (s .pre .1 .1 .1 .1 .1 .0)
 
--- what the table has then, that it fits, and its length
-gathers : (c : tie.After-gather) →
+-- what the table has then
+gathered : (c : tie.After-gather) →
     let args = start c .args in
-    let last = c .gather .last .1 .1 .1 .0 in
-    (entriesOf (c .gather .result) last
-    ≡ entriesOf (args .front) (args .table .now) ++ ownEntries (args .message .now) (this (start c)))
-    × ((c .gather .result * width ≤ length last) × (length last ≡ length (args .table .now)))
-gathers c =
-    let args = start c .args in
-    let pre = start c .pre in
-    let message = args .message .now in
-    let of = args .of .now in
-    let own = args .own .now in
-    let counts = args .counts .now in
-    let below = pre .1 .1 .1 .1 .1 .0 in
-    let o = pre .1 .1 .1 .1 .0 (args .i) below in
-    let room = pre .1 .1 .1 .1 .1 .1 in
-    let call = c .gather .ensures in
-    let es = entriesOf (args .front) (args .table .now) in (
-      gathered message of own counts (args .i) (args .front) _ (args .table .now) _ o room (call .0) (call .1)
-          ∙ ap (λ (r : Recipient). es ++ ownEntries message r) (sym (asked-at (args .number) (args .i) of below)),
-      (
-        gathered-room message of own counts (args .i) (args .front) _ (args .table .now) _ o room (call .0) (call .1),
-        gathered-length message of own counts (args .i) (args .front) _ (args .table .now) _ o room (call .0) (call .1),
-      ),
-    )
+    Gathers (args .message .now) (jsonHeld (args .message .now)) (args .i) (args .has .common) (c .gather .result)
+    (c .gather .last .1 .1 .1 .0)
+gathered c =
+    let s = start c in
+    let args = s .args in
+    gathers-json (args .message .now) (args .has) (args .of .now) (args .own .now) (args .counts .now) (args .i) _
+    (args .table .now) _ (share s) (s .pre .1 .1 .1 .1 .1 .1 .common) (s .pre .1 .0) (c .gather .ensures .0) (c .gather .ensures .1)
 
 gather-requires : tie.Need-gather-requires
 gather-requires c κs =
-    let s = c .before .before .before .before .before .before .before in
-    let pre = s .pre in
-    let below = pre .1 .1 .1 .1 .1 .0 in (
-      omega (arith, below, pre .0),
-      (
-        pre .1 .1 .0,
-        (pre .1 .1 .1 .0, (pre .1 .1 .1 .1 .0 (s .args .i) below .few, pre .1 .1 .1 .1 .1 .1)),
-      ),
+    let s = c .before .before .before .before .before .before .before in (
+      omega (arith, s .pre .1 .1 .1 .1 .1 .0, s .pre .1 .1 .1 .1 .1 .1 .few),
+      (s .pre .1 .1 .1 .0, (s .pre .1 .1 .1 .1 .0, (share s .few, omega (arith, s .pre .1 .1 .1 .1 .1 .1 .common .few, s .pre .1 .0)))),
     )
 
+slice-aggregate-mode : tie.Need-slice-aggregate-mode
+slice-aggregate-mode c =
+    let s = start (c .before .before .before) in sym (length-take-le _ _ (omega (arith, s .pre .1 .1 .1 .1 .1 .1 .fits, s .pre .0)))
+
 mode-requires : tie.Need-mode-requires
-mode-requires c κs = gathers (c .before .before .before) .1 .0
+mode-requires c κs = gathered (c .before .before .before .before) .few
 
 key-requires : tie.Need-key-requires
 key-requires c κs =
-    let s = start (c .before .before .before .before) in
-    omega (arith, s .pre .1 .0, s .pre .1 .1 .1 .1 .1 .0)
+    let s = start (c .before .before .before .before .before) in omega (arith, s .pre .1 .1 .0, s .pre .1 .1 .1 .1 .1 .0, s .pre .1 .1 .1 .1 .1 .1 .few)
 
 with-key-requires : tie.Need-with-key-requires
 with-key-requires c κs = search needs
 
 same-length : tie.Need-same-length
-same-length c = gathers (c .before .before .before .before .before .before) .1 .1
+same-length c = c .before .before .before .before .before .before .before .gather .kept .1 .1 .1 .0
 
 returns : tie.Need-returns
-unfolding headedOutcome componentsIn
 returns c =
-    let after = c .before .before .before .before .before .before in
+    let after = c .before .before .before .before .before .before .before in
     let s = start after in
     let args = s .args in
-    let header = args .header .now in
-    let message = args .message .now in
-    let of = args .of .now in
-    let es = entriesOf (args .front) (args .table .now) in
-    let t = topIn (args .top) in
-    let has = gathers after in
+    let m = args .message .now in
+    let h = jsonHeld m in
+    let holds = s .pre .1 .1 .1 .1 .1 .1 in
+    let has = gathered after in
     let n = after .gather .result in
-    let last = after .gather .last .1 .1 .1 .0 in
-    let key = c .before .key .ensures
-    ∙ ap (λ (r : Recipient). r .key) (sym (asked-at (args .number) (args .i) of (s .pre .1 .1 .1 .1 .1 .0))) in
-    let many : n ≡ length (es ++ ownEntries message (this s)) = sym (entries-length n last) ∙ ap length (has .0) in (
-      result-is message (headedOutcome header message t es (recipientsOf (args .number) of) (args .i)) _ _ _ _ _ _ refl
-          (sym (recipients-length (args .number) of))
-          (c .before .before .mode .ensures ∙ ap (modeIn (readTexts header message)) (has .0))
-          (c .with-key .ensures ∙ ap (λ (q : Place). withKey (t .components) q) key) refl many,
-      (has .1 .1, (omega (arith, many, has .1 .0), ap (λ (k : ℕ). entriesOf k last) (sym many) ∙ has .0)),
+    let last = after .gather .last .1 .1 .1 .0 in (
+      result-is m (outcomeFor h (args .i)) _ _ _ _ _ _ (holds .form) (holds .recipients)
+          (c .before .before .mode .ensures ∙ ap₂ (λ (l : List ℕ) (es : List Entry). modeIn (readTexts l m) es) (holds .header) (has .entries))
+          (c .with-key .ensures ∙ ap₂ withKey (holds .components) (c .before .key .ensures ∙ share s .key))
+          (header-size m h (args .has) (args .text .now) (args .table .now) (args .of .now) (args .own .now) (args .counts .now)
+          (s .pre .0) holds)
+          (sym (entries-length n last) ∙ ap length (has .entries)),
+      has,
     )
 
 pub hand-out-spec : {M : Type 1} → statement M
@@ -113,6 +88,7 @@ hand-out-spec =
     tie.close
     (tie.spec
     gather-requires
+    slice-aggregate-mode
     mode-requires
     key-requires
     with-key-requires

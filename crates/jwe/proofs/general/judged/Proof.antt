@@ -82,7 +82,7 @@ returns c =
     let all = own-refuses (names (args .known .now)) (args .header .now) (args .message .now) (front s)
     (componentsOf (args .q)) (rs s) 0 (told .0) (told .1) in (
       refusal ∙ refuses (args .number) (told .1) ∙ ap (λ (n : ℕ). stageOf n (args .number)) (sym all),
-      (own .own-headers .ensures .1, refl),
+      (own .own-headers .ensures .1, record { entries = refl; printed = s .pre .1 .1 .1 .1 .1 .1 .1 .0 }),
     )
 
 ruled-requires : tie.Need-ruled-requires

@@ -47,7 +47,7 @@ passed c told =
 asked : (c : tie.After-present) → present enc (front (start (c .before .before .before .before .before .before))) ≡ c .present .result
 asked c =
     let after = c .before .before .before .before .before .before in
-    ap (present enc) (sym (after .rules .ensures .1)) ∙ sym (c .present .ensures)
+    ap (present enc) (sym (after .rules .ensures .1 .entries)) ∙ sym (c .present .ensures)
 
 -- and what is asked of the own headers then
 decided : (c : tie.After-contents-differ) →
@@ -61,7 +61,7 @@ decided c =
     let s = start after in
     let args = s .args in
     own-decides (names (args .known .now)) (args .header .now) (args .message .now) (args .of .now) (args .own .now)
-    (args .counts .now) (args .number) (s .pre .1 .1 .1 .0) (s .pre .1 .0) (s .pre .1 .1 .1 .1 .1 .0) (front s)
+    (args .counts .now) (args .number) (s .pre .1 .1 .1 .1 .1 .0) (front s)
     (componentsOf (args .q)) (passed after (c .before .before .before .before .enum-told .given .1))
     (asked (c .before .before) ∙ c .before .if1 .left) (sym (c .contents-differ .ensures))
 

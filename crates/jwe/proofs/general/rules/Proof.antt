@@ -25,7 +25,7 @@ use Rattle.jwe.specs.Inner.Stages.{recipientAt, recipientsOf, ruleTests}
 use Rattle.jwe.proofs.CompactOrder.{rules-nonzero}
 use Rattle.jwe.proofs.RecipientRows.{one-passes, one-refuses, all-pass}
 use Rattle.jwe.proofs.OwnHeaders.{gathered, gathered-length, gathered-room, gathered-front}
-use Rattle.jwe.proofs.OwnHeaders.{gathered-printed, gathered-kept}
+use Rattle.jwe.proofs.OwnHeaders.{gathered-printed, gathered-kept, own-stands}
 use borrow.Author.Needs.{needs}
 use Rattle.jwe.proofs.general.rules.Statement.{statement}
 use Rattle.jwe.proofs.general.rules.Tie as tie
@@ -107,21 +107,21 @@ copied c =
     let counts = args .counts .now in
     let same = loop .inv .1 .1 .0 in
     let prints = loop .inv .1 .1 .1 .0 in (
-      gathered message of own counts (loop .i) (args .front) _ (loop .table) _ o fits (call .0) (call .1)
+      gathered message own counts _ (loop .i) (args .front) _ (loop .table) _ o fits (call .0) (call .1)
           ∙ ap (λ (l : List Entry). l ++ ownEntries message (this at)) same,
       (
-        gathered-room message of own counts (loop .i) (args .front) _ (loop .table) _ o fits (call .0) (call .1),
+        gathered-room message own counts _ (loop .i) (args .front) _ (loop .table) _ o fits (call .0) (call .1),
         (
-          gathered-length message of own counts (loop .i) (args .front) _ (loop .table) _ o fits (call .0) (call .1)
+          gathered-length message own counts _ (loop .i) (args .front) _ (loop .table) _ o fits (call .0) (call .1)
               ∙ loop .inv .1 .0,
           (
-            gathered-front message of own counts (loop .i) (args .front) _ (loop .table) _ o fits (call .0) (call .1)
+            gathered-front message own counts _ (loop .i) (args .front) _ (loop .table) _ o fits (call .0) (call .1)
                 ∙ same,
             (
-              gathered-printed message of own counts (loop .i) (args .front) _ (loop .table) _ o fits (call .0) (call .1)
-                  (args .header .now) prints,
-              gathered-kept message of own counts (loop .i) (args .front) _ (loop .table) _ o fits (call .0) (call .1)
-                  (args .header .now) prints,
+              gathered-printed message own counts _ (loop .i) (args .front) _ (loop .table) _ o fits (call .0) (call .1)
+                  (readTexts (args .header .now) message) prints (own-stands message of (loop .i) (args .header .now)),
+              gathered-kept message own counts _ (loop .i) (args .front) _ (loop .table) _ o fits (call .0) (call .1)
+                  (readTexts (args .header .now) message) prints,
             ),
           ),
         ),
@@ -202,7 +202,7 @@ returns c =
     let all = one-refuses (asked (start at)) (never-0 (start at)) _ (args .number) (at .loop .i)
     (args .of .now) (at .loop .inv .1 .1 .1 .1) (after .before .before .loop-test .taken) (told .0) (told .1) in (
       refusal ∙ refuses (args .number) (told .1) ∙ ap (λ (n : ℕ). stageOf n (args .number)) (sym all),
-      copied after .1 .1 .1 .0,
+      record { entries = copied after .1 .1 .1 .0; printed = copied after .1 .1 .1 .1 .1 },
     )
 
 add-i : tie.Need-add-i Inv-loop μ-loop
@@ -244,7 +244,7 @@ returns-2 c =
     let args = start at .args in
     let all = all-pass (asked (start at)) (never-0 (start at)) _ (args .number) (at .loop .i)
     (args .of .now) (at .loop .inv .1 .1 .1 .1) (c .loop-test .left) in
-    (passes all, at .loop .inv .1 .1 .0)
+    (passes all, record { entries = at .loop .inv .1 .1 .0; printed = at .loop .inv .1 .1 .1 .0 })
 
 pub rules-spec : {M : Type 1} → statement M
 rules-spec =

@@ -1,8 +1,8 @@
 -- `key` reads the second and the third of the recipient's numbers.
 use Rattle.jwe.proofs.JsonPlaces.{key-is}
 use borrow.Author.Needs.{needs}
-use Rattle.jwe.proofs.general.key.Statement.{statement}
-use Rattle.jwe.proofs.general.key.Tie as tie
+use Rattle.jwe.proofs.held.key.Statement.{statement}
+use Rattle.jwe.proofs.held.key.Tie as tie
 
 mul-at : tie.Need-mul-at
 mul-at c = search needs

@@ -6,8 +6,8 @@ use lib.ListN.{getD}
 use Rattle.prelude.specs.Buffer.{written}
 use Rattle.jwe.proofs.OwnHeaders.{own-part}
 use borrow.Author.Needs.{needs}
-use Rattle.jwe.proofs.general.gather.Statement.{statement}
-use Rattle.jwe.proofs.general.gather.Tie as tie
+use Rattle.jwe.proofs.held.gather.Statement.{statement}
+use Rattle.jwe.proofs.held.gather.Tie as tie
 use Rattle.rows.specs.Tables.{width, headerTable}
 
 mul-count : tie.Need-mul-count
