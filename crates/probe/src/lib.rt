@@ -1,4 +1,4 @@
-// What the tests and the bench call of base64url, json and spelling beside the host's own functions. The gateway does not
+// What the tests and the bench call of base64url, json, spelling and same beside the host's own functions. The gateway does not
 // link this.
 ghost use mathlib.Core.Bool.{cond};
 ghost use mathlib.Core.Path.{_≡_};
@@ -11,10 +11,12 @@ ghost use Rattle.grammar.specs.Reader.{readText, valueAt};
 ghost use Rattle.json.specs.Inner.Ends.{foundOf};
 ghost use Rattle.grammar.specs.Spellings.{alike, has};
 ghost use Rattle.json.specs.Inner.Numbers.{judgeRefusal, valueKind, foundEnd};
+ghost use Rattle.probe.specs.Inner.Texts.{textsSame};
 use base64url::Checked;
 use base64url::Encoded;
 use json::Found;
 use json::Position;
+use same::Value;
 
 // 0 or 5.
 #[no_mangle]
@@ -108,5 +110,38 @@ pub extern "C" fn probe_value(text: &[u8], at: usize, levels: u32, end: &mut usi
             *end = 0;
             7
         }
+    }
+}
+
+// 2 where one of two texts is no object of at most 12 levels; else 1 where they are the same as values, or 0.
+#[no_mangle]
+pub extern "C" fn probe_same(s: &[u8], t: &[u8]) -> u32
+    ensures { λ r. ⌜ r ≡ textsSame (now (s .entry)) (now (t .entry)) (foundOf (readText 12 (now (s .entry)))) (foundOf (readText 12 (now (t .entry)))) ⌝ }
+{
+    let one = json::judge(s, 12);
+    let Found::Value(end, kind) = one else {
+        return 2;
+    };
+    let other = json::judge(t, 12);
+    let Found::Value(stop, sort) = other else {
+        return 2;
+    };
+    let first = Position { at: 0 }.skip_space(s);
+    let begin = Position { at: 0 }.skip_space(t);
+    let a = Value {
+        start: first.at,
+        len: prelude::minus(end.at, first.at),
+        kind,
+    };
+    let b = Value {
+        start: begin.at,
+        len: prelude::minus(stop.at, begin.at),
+        kind: sort,
+    };
+    let mut work = [0u32; 262144];
+    if same::same(s, t, a, b, 12, &mut work) {
+        1
+    } else {
+        0
     }
 }

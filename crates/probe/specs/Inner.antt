@@ -1,0 +1,2 @@
+-- Two texts compared as values.
+pub mod Texts
