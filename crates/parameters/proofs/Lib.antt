@@ -1,0 +1,4 @@
+pub mod Appending
+pub mod Comparing
+pub mod Pairs
+pub mod Keeping
