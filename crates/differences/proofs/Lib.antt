@@ -1,0 +1,5 @@
+pub mod Recipients
+pub mod Readings
+pub mod Turns
+pub mod Sides
+pub mod Answering

@@ -1,0 +1,2 @@
+-- What only contracts inside cite.
+pub mod Opened
