@@ -4,12 +4,14 @@
  *
  * Every function answers a refusal: 0, or a number of docs/REFUSALS.md. Where octets are written, *octets is how many,
  * at the start of out, and the rest of out is unchanged; refused, *octets is 0 and every lent buffer is unchanged.
+ * jwe_differences reads two messages and says besides what each was refused for.
  * Every length is a size_t and is never cut. Texts need not end in a NUL. docs/RULES.md has the rules.
  *
  * The functions keep no state, allocate nothing and may be called from any thread. Pointers are not NULL, also where
  * the length beside them is 0; no two of a call's buffers overlap where one of them is written. jwe_judge,
- * jwe_component, jwe_read, jwe_write_flattened and jwe_write_general use at most 48 KiB of stack, the others at most
- * 8 KiB; tests/host/stack.c holds them to that. */
+ * jwe_component, jwe_read, jwe_write_flattened and jwe_write_general use at most 48 KiB of stack, jwe_differences,
+ * which has its work memory there, at most 1,280 KiB, the others at most 8 KiB; tests/host/stack.c holds them to that.
+ * A thread whose own stack is smaller must not call jwe_differences. */
 #ifndef JWE_GATEWAY_H
 #define JWE_GATEWAY_H
 
@@ -32,9 +34,9 @@
 #define JWE_NONNULL
 #endif
 
-#define JWE_GATEWAY_VERSION "0.9.0"
+#define JWE_GATEWAY_VERSION "0.10.0"
 #define JWE_GATEWAY_VERSION_MAJOR 0
-#define JWE_GATEWAY_VERSION_MINOR 9
+#define JWE_GATEWAY_VERSION_MINOR 10
 #define JWE_GATEWAY_VERSION_PATCH 0
 
 #ifdef __cplusplus
@@ -173,6 +175,55 @@ JWE_NONNULL
 uint32_t jwe_read(const uint8_t *message, size_t message_len, const uint8_t *known, size_t known_len,
                   uint32_t recipient, uint8_t *JWE_RESTRICT header, size_t header_len, uint32_t *JWE_RESTRICT list,
                   size_t list_len, uint32_t *JWE_RESTRICT result, size_t result_len);
+
+/* What differs between two messages, left and right. */
+
+/* Kinds of differences, in the order in which they are listed: those of the whole message; the keys of each recipient
+ * number that both have; then for each such number its parameters, by name. */
+enum {
+    JWE_DIFFERS_FORM = 0,
+    JWE_DIFFERS_RECIPIENTS = 1, /* how many there are */
+    JWE_DIFFERS_PROTECTED = 2,  /* the octets of the decoded protected header */
+    JWE_DIFFERS_IV = 3,
+    JWE_DIFFERS_AAD = 4,
+    JWE_DIFFERS_CIPHERTEXT = 5,
+    JWE_DIFFERS_TAG = 6,
+    JWE_DIFFERS_KEY = 7,
+    JWE_DIFFERS_ONLY_LEFT = 8,
+    JWE_DIFFERS_ONLY_RIGHT = 9,
+    JWE_DIFFERS_ORIGIN = 10, /* a name that both have, in another header */
+    JWE_DIFFERS_VALUE = 11   /* a name that both have, with another value */
+};
+
+/* Where the numbers of a line stand. Origins and value places are those of jwe_read's list, for that recipient. */
+enum {
+    JWE_DIFFERENCE_KIND = 0,
+    JWE_DIFFERENCE_RECIPIENT = 1,
+    JWE_DIFFERENCE_LEFT = 2, /* origin, value start, value length */
+    JWE_DIFFERENCE_RIGHT = 5 /* the same */
+};
+
+#define JWE_DIFFERENCE_NUMBERS 8u  /* a line */
+#define JWE_DIFFERENCES_ROOM 12408u /* numbers, with which a list is never too short */
+
+/* Judges two messages as jwe_judge does for recipient 0, always both, and puts the answers into *left_refusal and
+ * *right_refusal. Where both are 0, lists what differs, *lines lines of eight numbers: kind, recipient, and on either
+ * side origin, value start and value length. Kinds 0 to 6 leave the other seven numbers 0, kind 7 the last six, and a
+ * side that has no such parameter its three. A message and itself have no lines.
+ *
+ * Components are compared by their decoded octets, and one that is absent is as one that is empty. Parameters are told
+ * apart by name, escapes undone: first those of left in its order (only left; or another origin, another value, or both
+ * in that order), then those only in right in its order. Values are the same where strings say the same after undoing
+ * escapes, numbers have the same characters, arrays the same elements in order, and objects the same members by name,
+ * whatever their order. An object that has a name twice is the same only as the same octets.
+ *
+ * Answers 0, or JWE_TOO_SHORT where both messages are accepted and the list cannot hold all lines. Where that or a
+ * message is refused, *lines is 0 and the list is unchanged; else the rest of the list is. */
+JWE_NONNULL
+uint32_t jwe_differences(const uint8_t *left, size_t left_len, const uint8_t *right, size_t right_len,
+                         const uint8_t *known, size_t known_len, uint32_t *JWE_RESTRICT list, size_t list_len,
+                         uint32_t *JWE_RESTRICT left_refusal, uint32_t *JWE_RESTRICT right_refusal,
+                         size_t *JWE_RESTRICT lines);
 
 #ifdef __cplusplus
 }

@@ -6,21 +6,25 @@
 -- reader is called with (`Call`, crates/prelude/specs/Call.antt); for decoding, AAD and writing a refusal (`decodeRefusal`,
 -- `aadRefusal`, `writeRefusal`, `jsonWriteRefusal`), what is written (`decoded`, `aadText`, `compactText`, `writtenText`), and of
 -- both the octets written and the output afterwards (crates/prelude/specs/Outputs.antt); for the header walk `opened`, `handedBy` and `moved`
--- (crates/walk/specs/Walk.antt). What a message has to meet stands in crates/meets/specs/Meets.antt, over the trees of crate
+-- (crates/walk/specs/Walk.antt); for comparing two messages `refusalOf`, `compareNumber` and `shownLines` (crates/differences/specs/Answers.antt).
+-- What a message has to meet stands in crates/meets/specs/Meets.antt, over the trees of crate
 -- grammar and the encoding of crate base64url.
 use mathlib.Core.Path.{_≡_}
 use mathlib.Core.Bool.{Bool}
-use mathlib.Core.Logic.{_↔_}
-use mathlib.Core.List.{List, map}
-use Prim.Native.Nat.{ℕ, _≤_, _<_}
+use mathlib.Core.Logic.{_↔_, _⊎_}
+use mathlib.Core.List.{List, [], map}
+use Prim.Native.Nat.{ℕ, _*_, _≤_, _<_}
 use lib.ListN.{length, getD}
 use denote.Ref.{RefT, now}
 use Rattle.prelude.specs.Ascii.{ascii}
+use Rattle.prelude.specs.Buffer.{written}
 use Rattle.prelude.specs.Limits.{headerRoom, listRoom, levels}
 use Rattle.prelude.specs.Refusals.{OneOf}
 use Rattle.prelude.specs.Outputs.{octetsWritten, ChangesNothing}
 use Rattle.base64url.specs.Base64url.{decoded}
 use Rattle.base64url.specs.Answers.{decodeRefusal, decodeBuffer}
+use Rattle.grammar.specs.Grammar.{Value}
+use Rattle.grammar.specs.Places.{kind}
 use Rattle.grammar.specs.Readings.{Reading}
 use Rattle.walk.specs.Walk.{walkRefusal, opened, handedBy, after, rowsOf, rowOr}
 use Rattle.walk.specs.declared.Handed.the-variants.{End}
@@ -51,7 +55,14 @@ use Rattle.means.specs.Means.{HandsOut, ResultMeans}
 use Rattle.means.proofs.HandsOut as HandsOut
 use Rattle.means.proofs.ResultMeans as ResultMeans
 use Rattle.means.proofs.ResultOnce as ResultOnce
-use Rattle.gateway.specs.Numbers.{readNumbers, decodeNumbers, aadNumbers, writeNumbers}
+use Rattle.parameters.specs.Lines.{Line, lineWidth, laid}
+use Rattle.differences.specs.Differences.{compared, differences}
+use Rattle.differences.specs.Answers.{refusalOf, compareNumber, shownLines}
+use Rattle.same_values.specs.Same.{SameWith, Same, own, NamesDistinct}
+use Rattle.same_values.proofs.Theorems as Values
+use Rattle.difference_means.specs.Meaning.{RowsFor, Says, In, Agree, mostLines}
+use Rattle.difference_means.proofs.Theorems as Differences
+use Rattle.gateway.specs.Numbers.{readNumbers, decodeNumbers, aadNumbers, writeNumbers, compareNumbers}
 use Rattle.gateway.specs.Samples.{Sample, answer, samples}
 use Rattle.gateway.proofs.Refusing as Refusing
 use Rattle.gateway.proofs.Samples as Samples
@@ -187,6 +198,78 @@ walk-hands = Walk.walk-hands
 pub walk-refused : (x : RefT (List ℕ)) → (walkRefusal (now x) ≡ 0 → ⊥) → (k : ℕ) →
     handedBy (after k (opened x)) ≡ End
 walk-refused = Walk.walk-refused
+
+-- What differs between two messages (request 4/12)
+
+-- Where any refuses there are no lines, and the list is unchanged; the own number is 1 exactly where both are accepted and the list cannot
+-- hold all lines, and never another but 0.
+
+pub comparing-changes-nothing : (left right known list : List ℕ) →
+    let shown = shownLines left right known (length list) in
+    ((refusalOf left known ≡ 0 → ⊥) ⊎ ((refusalOf right known ≡ 0 → ⊥) ⊎ (compareNumber left right known (length list) ≡ 0 → ⊥))) →
+    (length shown ≡ 0) × (written 0 (laid shown) list ≡ list)
+comparing-changes-nothing = Refusing.comparing-changes-nothing
+
+pub compare-listed : (left right known : List ℕ) (room : ℕ) →
+    let n = compareNumber left right known room in (n ≡ 0 → ⊥) → OneOf n compareNumbers
+compare-listed = Refusing.compare-listed
+
+pub compare-short : (left right known : List ℕ) (room : ℕ) →
+    (compareNumber left right known room ≡ 1)
+    ↔ ((refusalOf left known ≡ 0) × (refusalOf right known ≡ 0)
+    × (room < length (differences (compared left) (compared right)) * lineWidth))
+compare-short = Refusing.compare-short
+
+-- What its lines mean (crates/difference_means/specs/Meaning.antt), over what both messages meet: a line is in the list exactly if what it says
+-- holds, its places being those of the rows that apply; and there are such rows.
+
+pub lines-say : (left right known : List ℕ) (m : Meets (call left known 0 headerRoom listRoom))
+    (k : Meets (call right known 0 headerRoom listRoom)) (x : RowsFor (m .form)) (y : RowsFor (k .form)) (l : Line) →
+    In l (differences (compared left) (compared right)) ↔ Says (m .form) (k .form) x y l
+lines-say = Differences.lines-say
+
+pub rows-for : (message known : List ℕ) (m : Meets (call message known 0 headerRoom listRoom)) → RowsFor (m .form)
+rows-for = Differences.rows-for
+
+-- There are none exactly if the messages agree in all that is compared; so a message compared with itself shows no difference.
+
+pub no-difference : (left right known : List ℕ) (m : Meets (call left known 0 headerRoom listRoom))
+    (k : Meets (call right known 0 headerRoom listRoom)) →
+    (differences (compared left) (compared right) ≡ []) ↔ Agree (m .form) (k .form)
+no-difference = Differences.no-difference
+
+pub same-message : (message known : List ℕ) → refusalOf message known ≡ 0 →
+    differences (compared message) (compared message) ≡ []
+same-message = Differences.same-message
+
+-- There are at most 1,551.
+pub few-lines : (left right known : List ℕ) (m : Meets (call left known 0 headerRoom listRoom))
+    (k : Meets (call right known 0 headerRoom listRoom)) → length (differences (compared left) (compared right)) ≤ mostLines
+few-lines = Differences.few-lines
+
+-- Two values are the same (crates/same_values/specs/Same.antt) level by level, and no other relation has that equation; it is one of
+-- equivalence, values with the same octets are the same, and an object that repeats a name is the same as its own octets alone.
+
+pub same-is : (v w : Value) → Same v w ↔ SameWith Same v w
+same-is = Values.same-is
+
+pub same-only : (R : Value → Value → Type 0) → ((v w : Value) → R v w ↔ SameWith R v w) → (v w : Value) → R v w ↔ Same v w
+same-only = Values.same-only
+
+pub same-itself : (v : Value) → Same v v
+same-itself = Values.same-itself
+
+pub same-symmetric : (v w : Value) → Same v w → Same w v
+same-symmetric = Values.same-symmetric
+
+pub same-transitive : (u v w : Value) → Same u v → Same v w → Same u w
+same-transitive = Values.same-transitive
+
+pub same-octets : (v w : Value) → own v ≡ own w → Same v w
+same-octets = Values.same-octets
+
+pub repeated-only : (v w : Value) → (NamesDistinct v → ⊥) → kind v ≡ 0 → Same v w → own v ≡ own w
+repeated-only = Values.repeated-only
 
 -- Every sample of document 01 holds.
 pub samples-hold : map (λ (s : Sample). answer (s .input)) samples ≡ map (λ (s : Sample). s .expected) samples

@@ -16,3 +16,7 @@ aadNumbers = 1 ∷ []
 -- The compact writer.
 abbrev pub writeNumbers : List ℕ
 writeNumbers = 3 ∷ 6 ∷ 7 ∷ 8 ∷ 9 ∷ 13 ∷ 14 ∷ 15 ∷ 17 ∷ 18 ∷ 2 ∷ 1 ∷ []
+
+-- Comparing two messages: its own number.
+abbrev pub compareNumbers : List ℕ
+compareNumbers = 1 ∷ []

@@ -12,8 +12,10 @@ ghost use Rattle.jwe_write.specs.Write.{raw};
 ghost use Rattle.jwe_write.specs.Answers.{WritesCompact};
 ghost use Rattle.json_message.specs.JsonWrite.{rawJson};
 ghost use Rattle.json_write.specs.Answers.{WritesJson};
+ghost use Rattle.differences.specs.Answers.{Compares};
 use aad::Joined;
 use base64url::Decoded;
+use differences::Answer;
 use jwe::Result;
 use prelude::Place;
 use prelude::Stage;
@@ -139,4 +141,13 @@ pub fn write_json(
         recipients,
         out,
     )
+}
+
+// What differs between two messages. `known` lists the extension names that the caller knows. Both messages are judged as for recipient 0.
+// Where both are accepted and the list holds all lines, it begins with them, eight numbers each, and the rest of it is unchanged; elsewhere
+// all of it is, and there are no lines.
+pub fn differences(left: &[u8], right: &[u8], known: &[u8], list: &mut [u32]) -> Answer
+    ensures { λ r. ⌜ Compares (now (left .entry)) (now (right .entry)) (now (known .entry)) (now (list .entry)) r (now (list .exit)) ⌝ }
+{
+    differences::compare(left, right, known, list)
 }

@@ -14,6 +14,7 @@ use base64url::Decoded;
 use prelude::Stage;
 
 mod component;
+mod differing;
 pub mod reading;
 
 // Decodes one component: 5 for a text that is not base64url, 1 where out is shorter than the octets.
