@@ -8,12 +8,16 @@
 /* One octet more than the longest message, so that the library sees of a longer one that it is too long. */
 enum { MOST_READ = JWE_MESSAGE_OCTETS + 1 };
 
-/* What the command line names may be made to fool a terminal: only printable ASCII is repeated. */
+char printable(char c)
+{
+    return c >= ' ' && c <= '~' ? c : '?';
+}
+
 int trouble(const char *about, const char *what)
 {
     fputs("jwe: ", stderr);
     for (; *about != '\0'; about++)
-        fputc(*about >= ' ' && *about <= '~' ? *about : '?', stderr);
+        fputc(printable(*about), stderr);
     fprintf(stderr, ": %s\n", what);
     return TROUBLE;
 }
@@ -48,7 +52,13 @@ bool is_too_long(const struct octets *octets)
 
 int write_output(const uint8_t *octets, size_t length)
 {
-    if (fwrite(octets, 1, length, stdout) < length || fflush(stdout) != 0)
+    fwrite(octets, 1, length, stdout);
+    return flush_output();
+}
+
+int flush_output(void)
+{
+    if (ferror(stdout) || fflush(stdout) != 0)
         return system_trouble("standard output");
     return 0;
 }

@@ -85,7 +85,7 @@ static int aad(struct request *request)
 }
 
 /* Which subcommands take an option. */
-enum { READS = 1, WRITES = 2, INSPECTS = 4 };
+enum { READS = 1, WRITES = 2, INSPECTS = 4, COMPARES = 8 };
 
 /* A subcommand has a row for each way to use it; they differ in what help says. */
 static const struct subcommand {
@@ -102,6 +102,8 @@ static const struct subcommand {
      "Write the octets of a component: protected, key, iv, aad, ciphertext or tag.", READS, 2, component},
     {"aad", "[--recipient N] [--known NAME]... FILE",
      "Write the additional authenticated data (RFC 7516, section 5.1, step 14).", READS, 1, aad},
+    {"compare", "[--numbers] [--known NAME]... LEFT RIGHT",
+     "Say what differs between two messages, a line for each difference.", COMPARES, 2, compare},
     {"write", "--header FILE [--key FILE] [--iv FILE] [--ciphertext FILE] [--tag FILE] [--known NAME]...",
      "Write a compact message; a component whose file is not named is empty.", WRITES, 0, write_message},
     {"write",
@@ -136,9 +138,9 @@ static const struct {
     [TAG] = {"--tag", WRITES},
     [OWN] = {"--own", WRITES},
     [KEY] = {"--key", WRITES},
-    [KNOWN] = {"--known", READS | WRITES},
+    [KNOWN] = {"--known", READS | WRITES | COMPARES},
     [RECIPIENT] = {"--recipient", READS},
-    [NUMBERS] = {"--numbers", INSPECTS},
+    [NUMBERS] = {"--numbers", INSPECTS | COMPARES},
     [NEXT] = {"--next", WRITES},
     [TO_FLATTENED] = {"--flattened", WRITES},
     [TO_GENERAL] = {"--general", WRITES},
@@ -148,9 +150,9 @@ static void print_help(const struct subcommand *first, const struct subcommand *
 {
     for (const struct subcommand *each = first; each < end; each++)
         printf("jwe %s %s\n    %s\n", each->name, each->arguments, each->about);
-    puts("\nFILE may be - for standard input. NAME after --known is an extension that is known, for crit; N is a\n"
-         "recipient, counted from 0. Exit status: 0 accepted, 1 refused, 2 usage, or a file that cannot be read or\n"
-         "written. See jwe(1).");
+    puts("\nFILE, LEFT or RIGHT may be - for standard input. NAME after --known is an extension that is known, for\n"
+         "crit; N is a recipient, counted from 0. Exit status: 0 accepted, 1 refused, 2 usage, or a file that cannot\n"
+         "be read or written; of compare: 0 the same, 1 different, 2 also a message that is refused. See jwe(1).");
 }
 
 static int usage(const char *about, const char *what)
@@ -276,6 +278,8 @@ static int take_words(const struct subcommand *subcommand, struct request *reque
     for (size_t i = 0; i <= request->last_recipient; i++)
         for (int part = 0; part < PARTS; part++)
             standard += request->paths[i][part] != NULL && strcmp(request->paths[i][part], "-") == 0;
+    for (int i = 0; i < operands && subcommand->options == COMPARES; i++)
+        standard += strcmp(request->operands[i], "-") == 0;
     if (status == 0 && operands < subcommand->operands)
         status = usage(subcommand->name, "an operand is missing");
     if (status == 0 && standard > 1)
@@ -292,6 +296,7 @@ static int run(const struct subcommand *subcommand, char **words)
     lay_known(&request);
     status = subcommand->run(&request);
     free(request.message.start);
+    free(request.other.start);
     return status;
 }
 

@@ -5,8 +5,9 @@
 const struct refusal refusals[] = {
     [JWE_TOO_SHORT] = {
         "A lent output is shorter than asked: reading wants 4,096 octets for the header, 576 numbers for the list and, "
-        "in C, 18 for the result; the others want as many octets as they would write.",
-        "Lend more. Decoding n characters needs at most n / 4 * 3 + 2 octets; n octets are written as "
+        "in C, 18 for the result; comparing wants 8 numbers for each difference; the others want as many octets as they "
+        "would write.",
+        "Lend more. 12,408 numbers hold the differences of any two messages. Decoding n characters needs at most n / 4 * 3 + 2 octets; n octets are written as "
         "floor((4n+2)/3) characters, and a compact message has four full stops besides; no message has more than "
         "16,777,216 octets.",
     },
