@@ -1,8 +1,9 @@
 //! Measures check, decode and encode of 16 MiB beside plain Rust table loops in the same process, and a copy for scale; judging JSON
 //! texts of 16 MiB beside a plain Rust recursive descent; reading messages beside plain Rust; and each beside the peers of the
-//! directory that is given, where it is there. Then JSON messages written, beside what that takes at least; and last, messages that
-//! are meant to cost time. Deterministic input; ours and the peer take turns, so that both meet the same machine.
+//! directory that is given, where it is there. Then JSON messages written, beside what that takes at least; two messages compared; and
+//! last, messages that are meant to cost time. Deterministic input; ours and the peer take turns, so that both meet the same machine.
 
+mod differing;
 mod hostile;
 mod jwe;
 mod peers;
@@ -406,5 +407,6 @@ fn main() {
     let mut reader = jwe::Reader::new();
     jwe::measure(&mut reader, &peers);
     writing::measure(&mut reader);
+    differing::measure();
     hostile::measure(&mut reader);
 }

@@ -9,6 +9,9 @@ use std::hint::black_box;
 
 #[path = "../tests/host/second.rs"]
 pub mod second;
+#[allow(dead_code)]
+#[path = "../tests/host/second_differences.rs"]
+pub mod second_differences;
 
 extern "C" {
     fn jwe_read(
@@ -249,7 +252,7 @@ fn small_messages() -> Vec<(&'static str, Vec<u8>)> {
 }
 
 /// Messages per second.
-fn rate(count: usize, mut work: impl FnMut() -> bool) -> f64 {
+pub fn rate(count: usize, mut work: impl FnMut() -> bool) -> f64 {
     let start = processor_time();
     let good = (0..count).all(|_| work());
     let seconds = processor_time() - start;

@@ -30,7 +30,7 @@ int main(void)
     const char *header_text = "{\"alg\":\"dir\",\"enc\":\"A128GCM\"}";
     const uint8_t *m = (const uint8_t *)M, *text = (const uint8_t *)header_text;
     uint8_t out[200], header[JWE_HEADER_OCTETS];
-    uint32_t list[JWE_LIST_NUMBERS], result[JWE_RESULT_NUMBERS];
+    uint32_t list[JWE_LIST_NUMBERS], result[JWE_RESULT_NUMBERS], left = 1, right = 1;
     size_t n = 1;
     char version[32];
 
@@ -61,6 +61,16 @@ int main(void)
     check(jwe_write_general(text, strlen(header_text), text, 0, text, 0, iv, 0, ciphertext, 0, tag, 0, no_names, 1,
                             recipients, 8, out, sizeof out, &n) == JWE_RECIPIENTS_MALFORMED && n == 0,
           "a table that is cut off");
+    check(jwe_differences(m, strlen(M), m, strlen(M), no_names, 1, list, 0, &left, &right, &n) == JWE_OK &&
+              left == JWE_OK && right == JWE_OK && n == 0,
+          "M and itself");
+    check(jwe_differences(m, strlen(M), (const uint8_t *)H "..AA.AQID.", strlen(M) - 2, no_names, 1, list,
+                          JWE_LIST_NUMBERS, &left, &right, &n) == JWE_OK &&
+              left == JWE_OK && right == JWE_OK && n == 1 && list[JWE_DIFFERENCE_KIND] == JWE_DIFFERS_TAG,
+          "M and M without its tag");
+    check(jwe_differences(m, strlen(M), m, strlen(H), no_names, 1, list, 0, &left, &right, &n) == JWE_OK &&
+              left == JWE_OK && right == JWE_NOT_FOUR_DOTS && n == 0,
+          "M and H");
 
     snprintf(version, sizeof version, "%d.%d.%d", JWE_GATEWAY_VERSION_MAJOR, JWE_GATEWAY_VERSION_MINOR,
              JWE_GATEWAY_VERSION_PATCH);

@@ -1,7 +1,8 @@
 //! A fuzzer: changes messages, keeps those that make a block of the archive run for the first time or that reach an answer of
 //! a new kind, and goes on from them. Now and then a message of the host tests' maker is the one that is changed. Every answer
 //! is compared with the second reader's, by the comparer of the host tests, which looks at all lent memory too; a difference is
-//! shown, its message cut down, and ends the program with status 1. The other functions are compared besides.
+//! shown, its message cut down, and ends the program with status 1. The other functions are compared besides, jwe_differences on
+//! the message and the one that it was made of.
 //!
 //!     fuzz SECONDS SEED BLOCKS MESSAGE..
 //!
@@ -10,6 +11,8 @@
 #![allow(dead_code)]
 
 mod cover;
+#[path = "../host/differences.rs"]
+mod differences;
 #[path = "../host/json_writer.rs"]
 mod json_writer;
 mod json_writers;
@@ -29,13 +32,15 @@ mod reference;
 #[path = "../host/writer.rs"]
 mod writer;
 
+use differences::Differ;
 use json_writers::json_writers_agree;
+use jwe::difference_cases;
 use jwe::messages::made;
 use jwe::second::Answer;
 use jwe::{cases, Call, Comparer, NUMBERS};
 use mutate::Mutator;
 use reference::Reference;
-use std::collections::{BTreeMap, HashSet};
+use std::collections::{BTreeMap, BTreeSet, HashSet};
 use std::time::{Duration, Instant};
 
 extern "C" {
@@ -104,7 +109,20 @@ fn writer_agrees(call: &Call, refusal: u32, reference: &Reference) -> bool {
 
 /// The host tests' messages by hand that are short. Some have names with one fingerprint, which chance does not make.
 fn by_hand() -> impl Iterator<Item = Call> {
-    cases::all().into_iter().map(|case| case.call).filter(|call| call.message.len() <= mutate::LONGEST)
+    let pairs = difference_cases::all().into_iter().flat_map(|case| [case.left, case.right]);
+    let compared: BTreeSet<Vec<u8>> = pairs.chain([many_members(false), many_members(true)]).collect();
+    let calls = cases::all().into_iter().map(|case| case.call).chain(compared.into_iter().map(Call::new));
+    calls.filter(|call| call.message.len() <= mutate::LONGEST)
+}
+
+/// A value of more members than are compared by pairs, in their order or reversed.
+fn many_members(reversed: bool) -> Vec<u8> {
+    let mut members: Vec<String> = (0..100).map(|i| format!(r#""m{i}":{i}"#)).collect();
+    if reversed {
+        members.reverse();
+    }
+    let header = r#"{"unprotected":{"alg":"dir","enc":"A128GCM","x":{"#;
+    [header, &members.join(","), r#"}},"ciphertext":""}"#].concat().into_bytes()
 }
 
 fn main() {
@@ -125,6 +143,7 @@ fn main() {
     let reference = Reference::new();
     let mut mutator = Mutator::new(seed);
     let mut comparer = Comparer::new(&jwe::ours, &mut mutator.random);
+    let mut differ = Differ::new(&mut mutator.random);
     let mut corpus: Vec<Call> = messages.iter().map(|path| Call::new(std::fs::read(path).expect(path))).collect();
     corpus.extend(by_hand());
     let mut leading: Vec<usize> = Vec::new();
@@ -136,8 +155,10 @@ fn main() {
     let given = corpus.len();
     while start.elapsed() < Duration::from_secs(seconds) {
         let first = executions < given as u64;
-        let call = if first {
-            corpus[executions as usize].clone()
+        // What it is made of, and the message.
+        let (from, call) = if first {
+            let at = executions as usize;
+            (corpus[at.saturating_sub(1)].clone(), corpus[at].clone())
         } else {
             let n = corpus.len();
             let other = mutator.random.below(n);
@@ -145,16 +166,17 @@ fn main() {
                 0 => {
                     let (_, made) = made(&mut mutator.random, &reference);
                     let call = Call { known: made.known, recipient: made.recipient, ..Call::new(made.message) };
-                    mutator.mutated(&call, &corpus[other])
+                    let mutated = mutator.mutated(&call, &corpus[other]);
+                    (call, mutated)
                 }
                 // Those that made a block run lead further more often.
                 1..=8 if !leading.is_empty() => {
                     let one = leading[mutator.random.below(leading.len())];
-                    mutator.mutated(&corpus[one], &corpus[other])
+                    (corpus[one].clone(), mutator.mutated(&corpus[one], &corpus[other]))
                 }
                 _ => {
                     let one = mutator.random.below(n);
-                    mutator.mutated(&corpus[one], &corpus[other])
+                    (corpus[one].clone(), mutator.mutated(&corpus[one], &corpus[other]))
                 }
             }
         };
@@ -169,6 +191,7 @@ fn main() {
             println!("   asked recipient {}\nexpected {answer:?}", call.recipient);
             std::process::exit(1);
         }
+        differ.pair("fuzzed", [&from.message, &call.message, &call.known]);
         numbers[answer.refusal as usize] += 1;
         let new_kind = kinds_of(&call, &answer).map(|kind| kinds.insert(kind)).contains(&true);
         let new_block = cover::count() > before;

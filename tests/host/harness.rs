@@ -1,11 +1,12 @@
-//! Compares the library with a second base64url, a second reader of JSON, and a second reader and writers of messages on
-//! millions of random and damaged texts and messages, and on all short ones.
+//! Compares the library with a second base64url, a second reader of JSON, a second reader and writers of messages, and a
+//! second comparison of two messages, on millions of random and damaged texts and messages, and on all short ones.
 //! Deterministic by seed: `harness [SEED]`. With a seed, all short texts and groups, which need no chance, are left out. Exits 1 at
 //! the first difference.
 //!
 //! Every call is judged by its answer, its out-parameter and the whole of its memory: the buffer, the octets beside it
 //! and the input. A stray read or write beyond either stops the program.
 
+mod differences;
 #[path = "exports.rs"]
 mod exports;
 #[path = "jwe.rs"]
@@ -351,6 +352,10 @@ fn main() {
     }
     if !exports::compare(&mut random) && everything {
         println!("FAILED harness: a refusal was never met by the other functions");
+        exit(1);
+    }
+    if !differences::compare(&mut random) && everything {
+        println!("FAILED harness: a kind of difference was never met");
         exit(1);
     }
     println!("harness: no difference, seed {seed}");

@@ -8,11 +8,14 @@ pub mod cases;
 pub mod colliding;
 mod colliding_cases;
 mod content_cases;
+pub mod difference_cases;
 mod json_cases;
 pub mod messages;
+pub mod pairs;
 mod parameters;
 pub mod pieces;
 pub mod second;
+pub mod second_differences;
 
 use crate::lent::Lent;
 use crate::random::Random;
@@ -92,11 +95,11 @@ impl Call {
     }
 }
 
-fn octets(numbers: &[u32]) -> Vec<u8> {
+pub fn octets(numbers: &[u32]) -> Vec<u8> {
     numbers.iter().flat_map(|n| n.to_ne_bytes()).collect()
 }
 
-fn numbers(octets: &[u8]) -> Vec<u32> {
+pub fn numbers(octets: &[u8]) -> Vec<u32> {
     octets.chunks_exact(4).map(|four| u32::from_ne_bytes([four[0], four[1], four[2], four[3]])).collect()
 }
 
@@ -109,7 +112,7 @@ pub fn result(answer: &Answer) -> Vec<u32> {
 }
 
 /// A buffer of numbers, which stand at a multiple of four.
-fn as_numbers(lent: &mut Lent) -> &mut [u32] {
+pub fn as_numbers(lent: &mut Lent) -> &mut [u32] {
     let octets = lent.buffer();
     assert!(octets.as_ptr() as usize % 4 == 0 && octets.len() % 4 == 0);
     // SAFETY: the same memory, and any four octets are a number.

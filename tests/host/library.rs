@@ -81,6 +81,19 @@ extern "C" {
         out_len: usize,
         octets: *mut usize,
     ) -> u32;
+    fn jwe_differences(
+        left: *const u8,
+        left_len: usize,
+        right: *const u8,
+        right_len: usize,
+        known: *const u8,
+        known_len: usize,
+        list: *mut u32,
+        list_len: usize,
+        left_refusal: *mut u32,
+        right_refusal: *mut u32,
+        lines: *mut usize,
+    ) -> u32;
 }
 
 // SAFETY, of each call: the pointers and lengths are those of slices.
@@ -172,4 +185,28 @@ pub fn aad(header: &[u8], aad: &[u8], out: &mut [u8], octets: &mut usize) -> u32
 
 pub fn decode(text: &[u8], out: &mut [u8], octets: &mut usize) -> u32 {
     unsafe { crate::jwe_decode(text.as_ptr(), text.len(), out.as_mut_ptr(), out.len(), octets) }
+}
+
+/// Left, right and the known names; the list that is lent. Answers the own number, the refusals and how many lines there are.
+pub fn differences(inputs: [&[u8]; 3], list: &mut [u32]) -> (u32, [u32; 2], usize) {
+    let [left, right, known] = inputs;
+    // What no answer is, so that a number that is not written shows.
+    let (mut refusals, mut lines) = ([u32::MAX; 2], usize::MAX);
+    let [left_refusal, right_refusal] = &mut refusals;
+    let own = unsafe {
+        jwe_differences(
+            left.as_ptr(),
+            left.len(),
+            right.as_ptr(),
+            right.len(),
+            known.as_ptr(),
+            known.len(),
+            list.as_mut_ptr(),
+            list.len(),
+            left_refusal,
+            right_refusal,
+            &mut lines,
+        )
+    };
+    (own, refusals, lines)
 }

@@ -50,7 +50,7 @@ fn six_bits(c: u8) -> Option<u8> {
     }
 }
 
-fn decoded(text: &[u8]) -> Option<Vec<u8>> {
+pub fn decoded(text: &[u8]) -> Option<Vec<u8>> {
     let values = text.iter().map(|&c| six_bits(c)).collect::<Option<Vec<u8>>>()?;
     let count = values.len() * 6 / 8;
     let spare = values.len() * 6 - count * 8;
@@ -67,7 +67,7 @@ fn decoded(text: &[u8]) -> Option<Vec<u8>> {
 // JSON
 
 #[derive(Debug)]
-enum What {
+pub enum What {
     Object(Vec<Member>),
     Array(Vec<Value>),
     String(String),
@@ -79,20 +79,20 @@ enum What {
 
 /// A value with its place, quotation marks included.
 #[derive(Debug)]
-struct Value {
-    start: usize,
-    end: usize,
-    what: What,
+pub struct Value {
+    pub start: usize,
+    pub end: usize,
+    pub what: What,
 }
 
 #[derive(Debug)]
-struct Member {
+pub struct Member {
     /// What its name says, after undoing escapes.
-    name: String,
+    pub name: String,
     /// Where the name stands, without its quotation marks.
     start: usize,
     end: usize,
-    value: Value,
+    pub value: Value,
 }
 
 impl Value {
@@ -108,7 +108,7 @@ impl Value {
         }
     }
 
-    fn members(&self) -> Option<&[Member]> {
+    pub fn members(&self) -> Option<&[Member]> {
         match &self.what {
             What::Object(members) => Some(members),
             _ => None,
@@ -132,7 +132,7 @@ impl Value {
 
 /// What a string says, from what stands between its quotation marks. All of it becomes UTF-16, in which a half of a pair
 /// without its other half shows.
-fn said(spelling: &str) -> Option<String> {
+pub fn said(spelling: &str) -> Option<String> {
     let mut units = Vec::with_capacity(spelling.len());
     let mut rest = spelling.chars();
     while let Some(c) = rest.next() {
@@ -217,7 +217,7 @@ fn fold(stack: &mut Vec<Item>, close: u8, end: usize) -> Option<()> {
 }
 
 /// The reading of a text as one object within the levels.
-fn object(octets: &[u8]) -> Option<Value> {
+pub fn object(octets: &[u8]) -> Option<Value> {
     let text = std::str::from_utf8(octets).ok()?;
     let mut stack = Vec::new();
     let (mut at, mut level) = (0, 0);

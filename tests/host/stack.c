@@ -1,6 +1,6 @@
 /* Measures the stack that the functions for C use, and check, encode and judge: they run on a stack of their own that
  * was painted before, and the lowest octet that lost its paint shows how deep they went. Fails above 8 KiB, for
- * those that read a message or write a JSON one above 48 KiB.
+ * those that read a message or write a JSON one above 48 KiB, for the one that compares two above 1,280 KiB.
  *
  * Not built with the sanitizers, which use the stack themselves. */
 #define _GNU_SOURCE
@@ -16,7 +16,9 @@ uint32_t probe_check(const uint8_t *text, size_t text_len);
 uint32_t probe_encode(const uint8_t *octets, size_t octets_len, uint8_t *out, size_t out_len, size_t at, size_t *end);
 uint32_t probe_judge(const uint8_t *text, size_t text_len, uint32_t levels, size_t *end);
 
-enum { LIMIT = 8192, MESSAGE_LIMIT = 49152, STACK = 131072, FENCE = 65536, SHORT = 1000, LONG = 1 << 24 };
+enum { LIMIT = 8192, MESSAGE_LIMIT = 49152, COMPARING_LIMIT = 1310720, FENCE = 65536, SHORT = 1000, LONG = 1 << 24 };
+/* A part of the stack is enough for all but jwe_differences, and is painted sooner. */
+enum { STACK = 2097152, PART = 131072 };
 enum { LEVELS = 12, RECIPIENTS = 8, NO_OBJECT = 7 };
 
 typedef uint32_t call(const uint8_t *in, size_t in_len, uint8_t *out, size_t out_len, size_t *n);
@@ -96,13 +98,38 @@ static uint32_t write_general(const uint8_t *in, size_t in_len, uint8_t *out, si
                              out_len, n);
 }
 
+/* The message with which others are compared. */
+static struct {
+    uint8_t *text;
+    size_t length;
+} right;
+
+/* Answers the refusals too, so that the caller sees both. */
+static uint32_t compare(const uint8_t *in, size_t in_len, uint8_t *out, size_t out_len, size_t *n)
+{
+    static uint32_t list[JWE_DIFFERENCES_ROOM];
+    uint32_t left_refusal, right_refusal;
+    (void)out;
+    uint32_t own = jwe_differences(in, in_len, right.text, right.length, names, sizeof names, list, out_len,
+                                   &left_refusal, &right_refusal, n);
+    return own | left_refusal | right_refusal;
+}
+
 static uint32_t join(const uint8_t *in, size_t in_len, uint8_t *out, size_t out_len, size_t *n)
 {
     return jwe_aad(in, in_len, in, in_len, out, out_len, n);
 }
 
 static uint8_t *stack;
+static size_t stack_length;
 static ucontext_t outside, inside;
+
+/* Takes so much of the memory's upper end. */
+static void take_stack(uint8_t *map, size_t length)
+{
+    stack = map + FENCE + STACK - length;
+    stack_length = length;
+}
 
 /* The call to be measured, and what came of it. */
 static struct {
@@ -131,10 +158,10 @@ static size_t lowest_touched(call *function, uint8_t paint)
 {
     run.function = function;
     run.paint = paint;
-    memset(stack, paint, STACK);
+    memset(stack, paint, stack_length);
     getcontext(&inside);
     inside.uc_stack.ss_sp = stack;
-    inside.uc_stack.ss_size = STACK;
+    inside.uc_stack.ss_size = stack_length;
     inside.uc_link = &outside;
     makecontext(&inside, on_painted_stack, 0);
     swapcontext(&outside, &inside);
@@ -148,7 +175,7 @@ static size_t used(call *function, const uint8_t *in, size_t in_len, uint8_t *ou
     run.in_len = in_len;
     run.out = out;
     run.out_len = out_len;
-    size_t lowest = STACK, start = STACK;
+    size_t lowest = stack_length, start = stack_length;
     for (int paint = 0x5a; paint <= 0xa5; paint += 0xa5 - 0x5a) {
         size_t found = lowest_touched(idle, (uint8_t)paint);
         start = found < start ? found : start;
@@ -351,15 +378,58 @@ static int report_messages(uint8_t *text, uint8_t *out)
     return good && joined <= LIMIT;
 }
 
+/* The most that comparing uses: two messages with as much nesting as they can have, which are the same octets, the same
+ * values in other octets, or differ in their innermost values; on 13 levels, which are refused; and on many members. */
+static int report_comparing(uint8_t *text)
+{
+    const unsigned arrays[] = {0, ~0u, 0xaaaa, 0x5555};
+    const char *const inmost[][2] = {{"", ""}, {"1", " 1"}, {"1", "1.0"}, {"\"\\u0061\"", "\"a\""}};
+    size_t most = 0, refused = 0;
+    for (size_t i = 0; i < sizeof arrays / sizeof *arrays * (sizeof inmost / sizeof *inmost); i++)
+        for (int form = 0; form < 3; form++)
+            for (size_t levels = LEVELS; levels <= LEVELS + 1; levels++) {
+                const char *const *two = inmost[i / 4];
+                size_t length = put_message(text, form, (struct nesting){levels, arrays[i % 4], two[0]});
+                right.length = put_message(right.text, form, (struct nesting){levels, arrays[i % 4], two[1]});
+                uint32_t answer = levels == LEVELS ? JWE_OK : JWE_NOT_JSON;
+                size_t found = used(compare, text, length, NULL, JWE_DIFFERENCES_ROOM, answer);
+                if (answer == JWE_OK)
+                    most = larger(most, found);
+                else
+                    refused = larger(refused, found);
+            }
+    /* An object of many members, and the same ones in another order. */
+    const char *opening = "{\"unprotected\":{\"alg\":\"dir\",\"enc\":\"A128GCM\",\"x\":{";
+    size_t length = put(text, 0, opening);
+    right.length = put(right.text, 0, opening);
+    enum { MEMBERS = 100000 };
+    for (unsigned i = 0; i < MEMBERS; i++) {
+        char member[32];
+        snprintf(member, sizeof member, "%s\"m%06u\":%u", i > 0 ? "," : "", i, i);
+        length = put(text, length, member);
+        snprintf(member, sizeof member, "%s\"m%06u\":%u", i > 0 ? "," : "", MEMBERS - 1 - i, MEMBERS - 1 - i);
+        right.length = put(right.text, right.length, member);
+    }
+    length = put(text, length, "}},\"ciphertext\":\"\"}");
+    right.length = put(right.text, right.length, "}},\"ciphertext\":\"\"}");
+    most = larger(most, used(compare, text, length, NULL, JWE_DIFFERENCES_ROOM, JWE_OK));
+    int good = larger(most, refused) <= COMPARING_LIMIT;
+    printf("stack: %-19s %5zu octets for messages of %d levels and %d recipients, %zu for %d levels, refused%s\n",
+           "jwe_differences", most, LEVELS, RECIPIENTS, refused, LEVELS + 1,
+           good ? "" : ": FAILED, more than 1,280 KiB");
+    return good;
+}
+
 int main(void)
 {
     uint8_t *text = malloc(LONG + 1), *out = malloc(LONG / 3 * 4 + 4);
+    right.text = out;
     uint8_t *map = mmap(NULL, FENCE + STACK, PROT_NONE, MAP_PRIVATE | MAP_ANONYMOUS, -1, 0);
     if (text == NULL || out == NULL || map == MAP_FAILED || mprotect(map + FENCE, STACK, PROT_READ | PROT_WRITE) != 0) {
         perror("stack: no memory");
         return 2;
     }
-    stack = map + FENCE;
+    take_stack(map, PART);
     memset(text, 'A', LONG + 1);
 
     size_t decode_short = 0, check_short = 0, encode_short = 0;
@@ -381,6 +451,8 @@ int main(void)
     good &= report("encode", encode_short, encode_long);
     good &= report_judge(text);
     good &= report_messages(text, out);
+    take_stack(map, STACK);
+    good &= report_comparing(text);
     free(text);
     free(out);
     munmap(map, FENCE + STACK);
