@@ -75,7 +75,7 @@ def table(declared, tokens, clauses):
     old = {n for n in declared if turnable(n) or re.fullmatch(r"[a-z][a-z0-9_']*_[a-z0-9_']*", n)}
     taken = set(tokens - old)
     new = {}
-    for n in sorted(old, key=lambda n: (n not in clauses, snake(n) == n, "-" in n, n)):
+    for n in sorted(old, key=lambda n: (n not in clauses, not any("/specs/" in f for f in declared[n]), snake(n) == n, "-" in n, n)):
         to = snake(n)
         while to in taken or to in clauses.get(n, ()):
             to += "_lem"
@@ -109,7 +109,7 @@ def turn_rt(text, names):
             return m[2]
         return names.get(m[3], m[3])
 
-    return re.sub(rf"(//[^\n]*)|(b?\"(?:[^\"\\]|\\.)*\"|b?'(?:[^'\\\n]|\\.)')|((?<![\w.-])[a-z][A-Za-z0-9_]*(?:[A-Z-][A-Za-z0-9_']*)+)", one, text)
+    return re.sub(rf"(//[^\n]*)|(b?\"(?:[^\"\\]|\\[\s\S])*\"|b?'(?:[^'\\\n]|\\.)')|((?<![\w.-])[a-z][A-Za-z0-9_]*(?:[A-Z-][A-Za-z0-9_']*)+)", one, text)
 
 
 def turn_json(text, f):

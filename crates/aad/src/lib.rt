@@ -1,12 +1,14 @@
 // The additional authenticated data (RFC 7516, section 5.1, step 14) of a message. What is answered and written stands in
 // specs/Aad.
+#![tactic(auto)]
+
 ghost use Rattle.std.specs.Prelude.{◌≡◌, ◌∷◌, ◌++◌, ◌+◌, ◌≤◌, length};
 ghost use Rattle.prelude.specs.Ascii.{full_stop};
 ghost use Rattle.prelude.specs.Buffer.{written};
 ghost use Rattle.aad.specs.Aad.{Joins};
 
 // The octets written, or that the output is too short for them.
-#[derive(Drop)]
+#[derive(Clone, Copy)]
 pub enum Joined {
     Octets(usize),
     Short,

@@ -1,4 +1,6 @@
 // The algorithms, each with its mode and its sizes (RFC 7518).
+#![tactic(auto)]
+
 ghost use Rattle.std.specs.Prelude.{◌≡◌};
 ghost use Rattle.names.specs.Names.{number_in};
 ghost use Rattle.algorithms.specs.Algorithms.{mode, key_added, key_iv, key_tag, key_size, iv_size, tag_size, algs, alg_names, encs, enc_names};
@@ -49,7 +51,7 @@ pub const ZIPS: [u8; 5] = *b"\x01\
     DEF";
 
 // `alg`: how the content key is managed.
-#[derive(Drop)]
+#[derive(Clone, Copy)]
 pub enum Alg {
     Rsa15,
     RsaOaep,
@@ -71,7 +73,7 @@ pub enum Alg {
 }
 
 // `enc`: how the content is encrypted.
-#[derive(Drop)]
+#[derive(Clone, Copy)]
 pub enum Enc {
     A128CbcHs256,
     A192CbcHs384,
@@ -82,20 +84,20 @@ pub enum Enc {
 }
 
 // What a value of `alg` or `enc` names, or that it is not listed.
-#[derive(Drop)]
+#[derive(Clone, Copy)]
 pub enum NamedAlg {
     Alg(Alg),
     Unlisted,
 }
 
-#[derive(Drop)]
+#[derive(Clone, Copy)]
 pub enum NamedEnc {
     Enc(Enc),
     Unlisted,
 }
 
 // The encrypted key beside the content key: so many octets longer, of a length that is not judged, or absent.
-#[derive(Drop)]
+#[derive(Clone, Copy)]
 pub enum Added {
     Octets(u32),
     Unjudged,

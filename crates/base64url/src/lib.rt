@@ -1,5 +1,7 @@
 // Base64url without padding (RFC 4648 section 5): check, decode and encode. What each function answers stands in
 // specs/: `Base64url` has the alphabet and the groups, `Fault` what is wrong with a text, `Answers` the answers.
+#![tactic(auto)]
+
 ghost use Rattle.std.specs.Prelude.{◌≡◌, ◌+◌, ◌-◌, ◌^◌, ◌≤◌, min, length};
 ghost use Rattle.prelude.specs.Buffer.{written};
 ghost use Rattle.base64url.specs.Base64url.{encoded, encoded_length, decoded_length};
@@ -13,14 +15,14 @@ mod step;
 mod words;
 
 // Whether a text is base64url.
-#[derive(Drop)]
+#[derive(Clone, Copy)]
 pub enum Checked {
     Sound,
     Faulty,
 }
 
 // What decoding answers: the number of octets written, or why there are none.
-#[derive(Drop)]
+#[derive(Clone, Copy)]
 pub enum Decoded {
     Octets(usize),
     // The text is not base64url.
@@ -30,7 +32,7 @@ pub enum Decoded {
 }
 
 // What encoding answers: the position after the last character, or that the text does not fit.
-#[derive(Drop)]
+#[derive(Clone, Copy)]
 pub enum Encoded {
     End(usize),
     Full,

@@ -2,12 +2,14 @@
 // stdout, which tests/conformance/run makes. A case is a line of standard input, five fields with tabs between: its name, the
 // recipient asked for, what is lent, the known names, the message. The last two are templates: `~` and two hexadecimal digits is an
 // octet, `~*`, four such digits and four octets is these octets so many times, and any other octet is itself.
+#![tactic(auto)]
+
 ghost use Rattle.std.specs.Prelude.{◌+◌, ◌≤◌, ◌<◌, length};
 ghost use Rattle.prelude.specs.Limits.{number_limit};
 
-use libc::{STDIN_FILENO, STDOUT_FILENO};
 use prelude::limits::{HEADER_ROOM, LIST_ROOM};
 use rows::layout::LIST_WIDTH;
+use std::io::Read;
 
 // What the lent memory holds before, so that a change shows.
 const OCTET: u8 = 0xa5;
@@ -93,8 +95,13 @@ fn expand(s: &[u8], into: &mut [u8]) -> usize
     end
 }
 
+// Octets to standard output. What cannot be written is missed there by who compares it.
+fn say(rt: &impl Print, octets: &[u8]) {
+    let _ = rt.write_all(octets);
+}
+
 // A number in decimal digits, ten at most, and an octet behind it. They are found from the last on.
-fn print_number(n: u32, behind: u8) {
+fn print_number(rt: &impl Print, n: u32, behind: u8) {
     let mut digits = [0u8; 11];
     digits[10] = behind;
     let mut rest = n;
@@ -104,17 +111,17 @@ fn print_number(n: u32, behind: u8) {
         digits[first] = 48 + (rest % 10) as u8;
         rest /= 10;
         if rest == 0 {
-            io::write_all(STDOUT_FILENO, &digits[first..]);
+            say(rt, &digits[first..]);
             return;
         }
     }
-    io::write_all(STDOUT_FILENO, &digits);
+    say(rt, &digits);
 }
 
-fn print_numbers(numbers: &[u32]) {
+fn print_numbers(rt: &impl Print, numbers: &[u32]) {
     let mut i: usize = 0;
     while i < numbers.len() {
-        print_number(numbers[i], b' ');
+        print_number(rt, numbers[i], b' ');
         i += 1;
     }
 }
@@ -127,9 +134,9 @@ fn digit_of(v: u8) -> u8
 }
 
 // Octets as hexadecimal digits; a hyphen where there are none.
-fn print_octets(octets: &[u8]) {
+fn print_octets(rt: &impl Print, octets: &[u8]) {
     if octets.len() == 0 {
-        io::write_all(STDOUT_FILENO, b"-");
+        say(rt, b"-");
         return;
     }
     let mut i: usize = 0;
@@ -137,7 +144,7 @@ fn print_octets(octets: &[u8]) {
         let mut two = [0u8; 2];
         two[0] = digit_of(octets[i] / 16);
         two[1] = digit_of(octets[i] % 16);
-        io::write_all(STDOUT_FILENO, &two);
+        say(rt, &two);
         i += 1;
     }
 }
@@ -153,29 +160,29 @@ fn number(numbers: &[u32], at: usize) -> usize
 }
 
 // The first numbers of a list, and the first octets of a buffer: all where there are fewer.
-fn print_list(list: &[u32], n: usize) {
+fn print_list(rt: &impl Print, list: &[u32], n: usize) {
     if n < list.len() {
-        print_numbers(&list[..n]);
+        print_numbers(rt, &list[..n]);
         return;
     }
-    print_numbers(list);
+    print_numbers(rt, list);
 }
 
-fn print_header(header: &[u8], n: usize) {
+fn print_header(rt: &impl Print, header: &[u8], n: usize) {
     if n < header.len() {
-        print_octets(&header[..n]);
+        print_octets(rt, &header[..n]);
         return;
     }
-    print_octets(header);
+    print_octets(rt, header);
 }
 
 // What an accepted message hands out.
-fn print_accepted(header: &[u8], list: &[u32], res: &[u32]) {
-    io::write_all(STDOUT_FILENO, b"accepted ");
-    print_numbers(res);
-    print_list(list, number(res, PARAMETERS) * LIST_WIDTH);
-    print_header(header, number(res, HEADER));
-    io::write_all(STDOUT_FILENO, b"\n");
+fn print_accepted(rt: &impl Print, header: &[u8], list: &[u32], res: &[u32]) {
+    say(rt, b"accepted ");
+    print_numbers(rt, res);
+    print_list(rt, list, number(res, PARAMETERS) * LIST_WIDTH);
+    print_header(rt, header, number(res, HEADER));
+    say(rt, b"\n");
 }
 
 // Whether lent octets and numbers hold what they held before.
@@ -202,44 +209,58 @@ fn same_numbers(numbers: &[u32]) -> bool {
 }
 
 // A refusal, and that all that was lent is unchanged.
-fn print_refused(number: u32, header: &[u8], list: &[u32], res: &[u32]) {
+fn print_refused(rt: &impl Print, number: u32, header: &[u8], list: &[u32], res: &[u32]) {
     if !same_octets(header) {
-        io::write_all(STDOUT_FILENO, b"changed ");
+        say(rt, b"changed ");
     }
     if !same_numbers(list) {
-        io::write_all(STDOUT_FILENO, b"changed ");
+        say(rt, b"changed ");
     }
     if !same_numbers(res) {
-        io::write_all(STDOUT_FILENO, b"changed ");
+        say(rt, b"changed ");
     }
-    io::write_all(STDOUT_FILENO, b"refused ");
-    print_number(number, b'\n');
+    say(rt, b"refused ");
+    print_number(rt, number, b'\n');
 }
 
 // A message read for a recipient into lent memory.
-fn print_read(message: &[u8], known: &[u8], recipient: u32, header: &mut [u8], list: &mut [u32]) {
+fn print_read(
+    rt: &impl Print,
+    message: &[u8],
+    known: &[u8],
+    recipient: u32,
+    header: &mut [u8],
+    list: &mut [u32],
+) {
     let mut result = [NUMBER; 18];
     let refusal = host::reading::jwe_read(message, known, recipient, header, list, &mut result);
     if refusal == 0 {
-        print_accepted(header, list, &result);
+        print_accepted(rt, header, list, &result);
         return;
     }
-    print_refused(refusal, header, list, &result);
+    print_refused(rt, refusal, header, list, &result);
 }
 
 // As much memory lent as the third field asks: the header buffer is one octet short for `h`, the list one number for `l`.
-fn print_lent(message: &[u8], known: &[u8], recipient: u32, short: u8) {
+fn print_lent(rt: &impl Print, message: &[u8], known: &[u8], recipient: u32, short: u8) {
     let mut header = [OCTET; HEADER_ROOM];
     let mut list = [NUMBER; LIST_ROOM];
     if short == b'h' {
-        print_read(message, known, recipient, &mut header[..4095], &mut list);
+        print_read(
+            rt,
+            message,
+            known,
+            recipient,
+            &mut header[..4095],
+            &mut list,
+        );
         return;
     }
     if short == b'l' {
-        print_read(message, known, recipient, &mut header, &mut list[..575]);
+        print_read(rt, message, known, recipient, &mut header, &mut list[..575]);
         return;
     }
-    print_read(message, known, recipient, &mut header, &mut list);
+    print_read(rt, message, known, recipient, &mut header, &mut list);
 }
 
 // The recipient that a field asks for: a decimal digit, or `m` for the largest number.
@@ -252,13 +273,21 @@ fn recipient_of(field: &[u8]) -> u32 {
 }
 
 // The message that a template stands for, written out in lent memory.
-fn print_message(template: &[u8], known: &[u8], recipient: u32, short: u8, text: &mut [u8]) {
+fn print_message(
+    rt: &impl Print,
+    template: &[u8],
+    known: &[u8],
+    recipient: u32,
+    short: u8,
+    text: &mut [u8],
+) {
     let n = expand(template, text);
-    print_lent(&text[..n], known, recipient, short);
+    print_lent(rt, &text[..n], known, recipient, short);
 }
 
 // A case of its five fields.
 fn print_case(
+    rt: &impl Print,
     name: &[u8],
     recipient: &[u8],
     room: &[u8],
@@ -266,11 +295,12 @@ fn print_case(
     message: &[u8],
     text: &mut [u8],
 ) {
-    io::write_all(STDOUT_FILENO, name);
-    io::write_all(STDOUT_FILENO, b": ");
+    say(rt, name);
+    say(rt, b": ");
     let mut names = [0u8; 2048];
     let n = expand(known, &mut names);
     print_message(
+        rt,
         message,
         &names[..n],
         recipient_of(recipient),
@@ -285,12 +315,13 @@ fn between<'a>(s: &'a [u8], from: usize, to: usize) -> &'a [u8] {
 }
 
 // One line, split at its tabs.
-fn print_line(line: &[u8], text: &mut [u8]) {
+fn print_line(rt: &impl Print, line: &[u8], text: &mut [u8]) {
     let a = parts::seek(line, 0, b'\t');
     let b = parts::seek(line, a + 1, b'\t');
     let c = parts::seek(line, b + 1, b'\t');
     let d = parts::seek(line, c + 1, b'\t');
     print_case(
+        rt,
         between(line, 0, a),
         between(line, a + 1, b),
         between(line, b + 1, c),
@@ -301,23 +332,41 @@ fn print_line(line: &[u8], text: &mut [u8]) {
 }
 
 // Each line in turn.
-fn print_lines(cases: &[u8], text: &mut [u8]) {
+fn print_lines(rt: &impl Print, cases: &[u8], text: &mut [u8]) {
     let mut at: usize = 0;
     while at < cases.len() {
         let end = parts::seek(cases, at, b'\n');
-        print_line(&cases[at..end], text);
+        print_line(rt, &cases[at..end], text);
         at = end + 1;
     }
 }
 
-// All of standard input; the cases and each message have as much room as is lent.
-fn print_all(cases: &mut [u8], text: &mut [u8]) {
-    let n = io::read_full(STDIN_FILENO, cases);
-    print_lines(&cases[..n], text);
+// Reads until the buffer is full, the input ends or a read fails, and answers how many octets stand at the buffer's start.
+fn read_full(input: &mut impl Read, into: &mut [u8]) -> usize
+    ensures { result ≤ length into.new }
+{
+    let mut done: usize = 0;
+    while done < into.len() {
+        let Ok(n) = input.read(&mut into[done..]) else {
+            return done;
+        };
+        if n == 0 {
+            return done;
+        }
+        done += n;
+    }
+    done
 }
 
-fn main() {
+// All of the input; the cases and each message have as much room as is lent.
+fn print_all(rt: &impl Print, input: &mut impl Read, cases: &mut [u8], text: &mut [u8]) {
+    let n = read_full(input, cases);
+    print_lines(rt, &cases[..n], text);
+}
+
+fn main(rt: HostRuntime) {
     let mut cases = [0u8; 400000];
     let mut text = [0u8; 400000];
-    print_all(&mut cases, &mut text);
+    let mut input = rt.stdin();
+    print_all(&rt, &mut input, &mut cases, &mut text);
 }

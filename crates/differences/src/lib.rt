@@ -1,5 +1,7 @@
 // What differs between two messages: each is judged and collected once, and the lines go to memory of its own first, so that the lent list is
 // changed only where it holds them all.
+#![tactic(auto)]
+
 ghost use Rattle.std.specs.Prelude.{◌≡◌, ◌+◌, ◌*◌, ◌≤◌, min, length};
 ghost use Rattle.prelude.specs.Limits.{most_members, most_recipients};
 ghost use Rattle.headers.specs.Answers.{place_of};
@@ -18,7 +20,7 @@ use prelude::limits::{HEADER_ROOM, MOST_MEMBERS, MOST_RECIPIENTS};
 use rows::layout;
 
 // The own number, 1 where the list is too short; the refusal of either message, 0 where it is accepted; how many lines there are.
-#[derive(Drop)]
+#[derive(Clone, Copy)]
 pub struct Answer {
     pub number: u32,
     pub left: u32,

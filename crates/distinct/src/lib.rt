@@ -1,5 +1,7 @@
 // Whether an object has a name twice, in a text that has been judged: few names are compared with each other, many go through a
 // filter of fingerprints (src/window.rt). What each function answers stands in specs/Names.
+#![tactic(auto)]
+
 ghost use Rattle.std.specs.Prelude.{◌≡◌, not, ◌*◌, ◌≤◌, length};
 ghost use Rattle.grammar.specs.Grammar.{curly};
 ghost use Rattle.grammar.specs.Reader.{members_at};

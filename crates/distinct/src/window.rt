@@ -15,14 +15,14 @@ use json_read::Position;
 use json_read::member::{Member, Row};
 
 // The first free place from a tag's start on; or that the tag stands before it, or that no place is free.
-#[derive(Drop)]
+#[derive(Clone, Copy)]
 pub enum Slot {
     Free(usize),
     Taken,
 }
 
 // What a window answers: a name stands twice; or where the members behind it begin, with the turns that are left.
-#[derive(Drop)]
+#[derive(Clone, Copy)]
 pub enum Window {
     Repeats,
     Next(Position, usize),

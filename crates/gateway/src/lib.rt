@@ -1,7 +1,9 @@
 // The public face: what users call. Each function is thin over a crate below and has its full contract. The demands and the
 // samples of the papers stand in proofs/.
+#![tactic(auto)]
+
 ghost use Rattle.std.specs.Prelude.{◌≡◌, length};
-ghost use Rattle.jwe.specs.Judge.{call, result, header_after, list_after};
+ghost use Rattle.jwe.specs.Judge.{call, result_of, header_after, list_after};
 ghost use Rattle.jwe.specs.Answers.{numbers};
 ghost use Rattle.base64url.specs.Answers.{Decodes};
 ghost use Rattle.shown.specs.Shown.{component_shown, component_at, value_shown, value_at};
@@ -35,23 +37,23 @@ pub fn read(
     header: &mut [u8],
     list: &mut [u32],
 ) -> Result
-    ensures* answered { λ r. ⌜ numbers r
-        ≡ result (call message.now known.now recipient
-        (length header.old) (length list.old)) ⌝ }
-    ensures* decoded { λ _. ⌜ header.new
+    ensures answered { numbers result
+        ≡ result_of (call message.now known.now recipient
+        (length header.old) (length list.old)) }
+    ensures decoded { header.new
         ≡ header_after (call message.now known.now recipient
-        (length header.old) (length list.old)) header.old ⌝ }
-    ensures* listed { λ _. ⌜ list.new
+        (length header.old) (length list.old)) header.old }
+    ensures listed { list.new
         ≡ list_after (call message.now known.now recipient
-        (length header.old) (length list.old)) list.old ⌝ }
+        (length header.old) (length list.old)) list.old }
 {
     jwe::read(message, known, recipient, header, list)
 }
 
 // A component of the result as that part of the message; the empty part where the place does not fit.
 pub fn component(message: &[u8], place: Place) -> &[u8]
-    ensures* octets { λ r. ⌜ r.now ≡ component_shown message.now place.start place.len ⌝ }
-    ensures* place { λ r. ⌜ r.ref_ptr ≡ component_at message.entry place.start place.len ⌝ }
+    ensures octets { result.now ≡ component_shown message.now place.start place.len }
+    ensures place { result.ref_ptr ≡ component_at message.entry place.start place.len }
 {
     shown::component(message, place.start, place.len)
 }
@@ -65,8 +67,8 @@ pub fn value<'a>(
     start: usize,
     len: usize,
 ) -> &'a [u8]
-    ensures* octets { λ r. ⌜ r.now ≡ value_shown message.now header.now origin start len ⌝ }
-    ensures* place { λ r. ⌜ r.ref_ptr ≡ value_at message.entry header.entry origin start len ⌝ }
+    ensures octets { result.now ≡ value_shown message.now header.now origin start len }
+    ensures place { result.ref_ptr ≡ value_at message.entry header.entry origin start len }
 {
     shown::value(message, header, origin, start, len)
 }
@@ -74,7 +76,7 @@ pub fn value<'a>(
 // Decodes one component: 5 where it is not base64url, then 1 where the output is shorter than the octets. They are at the
 // output's start, and the rest of it is unchanged; refused, all of it is.
 pub fn decode(text: &[u8], out: &mut [u8]) -> Decoded
-    ensures* { λ r. ⌜ Decodes text.now out.old r out.new ⌝ }
+    ensures { Decodes text.now out.old result out.new }
 {
     base64url::decode(text, out)
 }
@@ -82,7 +84,7 @@ pub fn decode(text: &[u8], out: &mut [u8]) -> Decoded
 // Writes the additional authenticated data of an encoded protected header and an encoded aad, either of which may be empty, at
 // the output's start; the rest of it is unchanged, and all of it where there is too little room.
 pub fn aad(header: &[u8], aad: &[u8], out: &mut [u8]) -> Joined
-    ensures* { λ r. ⌜ Joins header.now aad.now out.old r out.new ⌝ }
+    ensures { Joins header.now aad.now out.old result out.new }
 {
     aad::join(header, aad, out)
 }
@@ -98,9 +100,9 @@ pub fn write(
     known: &[u8],
     out: &mut [u8],
 ) -> Stage
-    ensures* { λ r. ⌜ WritesCompact
+    ensures { WritesCompact
         (raw header.now key.now iv.now ciphertext.now tag.now)
-        known.now out.old r out.new ⌝ }
+        known.now out.old result out.new }
 {
     jwe_write::write(header, key, iv, ciphertext, tag, known, out)
 }
@@ -120,10 +122,10 @@ pub fn write_json(
     recipients: &[u8],
     out: &mut [u8],
 ) -> Stage
-    ensures* { λ r. ⌜ WritesJson general
+    ensures { WritesJson general
         (raw_json protected.now shared.now aad.now iv.now ciphertext.now
         tag.now recipients.now)
-        known.now out.old r out.new ⌝ }
+        known.now out.old result out.new }
 {
     json_write::write(
         general, protected, shared, aad, iv, ciphertext, tag, known, recipients, out,
@@ -134,7 +136,7 @@ pub fn write_json(
 // Where both are accepted and the list holds all lines, it begins with them, eight numbers each, and the rest of it is unchanged; elsewhere
 // all of it is, and there are no lines.
 pub fn differences(left: &[u8], right: &[u8], known: &[u8], list: &mut [u32]) -> Answer
-    ensures* { λ r. ⌜ Compares left.now right.now known.now list.old r list.new ⌝ }
+    ensures { Compares left.now right.now known.now list.old result list.new }
 {
     differences::compare(left, right, known, list)
 }

@@ -1,4 +1,6 @@
 // The headers of a message: components checked, the protected header decoded, objects collected as entries.
+#![tactic(auto)]
+
 ghost use Rattle.std.specs.Prelude.{◌≡◌, true, false, ◌+◌, ◌*◌, ◌≤◌, length};
 ghost use Rattle.names.specs.Names.{names, filled};
 ghost use Rattle.grammar.specs.Grammar.{curly};
@@ -21,7 +23,7 @@ use prelude::limits::LEVELS;
 use prelude::{Place, Stage};
 
 // The encoded components by their places in the message; 0, 0 where one is absent.
-#[derive(Drop)]
+#[derive(Clone, Copy)]
 pub struct Components {
     pub protected: Place,
     pub key: Place,

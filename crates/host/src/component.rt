@@ -12,8 +12,7 @@ use prelude::Place;
 use prelude::limits::{HEADER_ROOM, LIST_ROOM};
 
 // Judges a message for a recipient. What reading it hands out stays in here.
-#[unsafe(no_mangle)]
-pub extern "C" fn jwe_judge(message: &[u8], known: &[u8], recipient: u32) -> u32
+pub fn jwe_judge(message: &[u8], known: &[u8], recipient: u32) -> u32
     ensures { result ≡ refusal (call message.now known.now recipient header_room list_room) }
 {
     let mut header = [0u8; HEADER_ROOM];
@@ -49,8 +48,7 @@ fn place_of(q: Components, n: u32) -> Place
 
 // Judges a message for a recipient, and decodes a component: 0 to 5 are protected, key, iv, aad, ciphertext and tag; others
 // give no octets. Refusals are the reader's, then 1 where out is shorter than the octets.
-#[unsafe(no_mangle)]
-pub extern "C" fn jwe_component(
+pub fn jwe_component(
     message: &[u8],
     known: &[u8],
     recipient: u32,

@@ -4,8 +4,7 @@ ghost use Rattle.differences.specs.Answers.{answer_of, Compares};
 // Compares two messages: the own number, 1 where both are accepted and the list cannot hold all lines. *left_refusal and *right_refusal are
 // the messages' refusals as for recipient 0 given room, *lines is how many lines the list begins with, eight numbers each; its rest is
 // unchanged. Where any refuses there are none, and all of the list is unchanged.
-#[unsafe(no_mangle)]
-pub extern "C" fn jwe_differences(
+pub fn jwe_differences(
     left: &[u8],
     right: &[u8],
     known: &[u8],

@@ -1,6 +1,8 @@
-// The functions that the gateway's C program links. include/jwe_gateway.h declares them for C. Each answers document 01's
-// refusal, 0 where there is none; where octets are written, *octets is how many, 0 where refused. Refused, every lent buffer
-// is unchanged.
+// The functions that the gateway's C program links, as `host_c` exports them. include/jwe_gateway.h declares them for C. Each
+// answers document 01's refusal, 0 where there is none; where octets are written, *octets is how many, 0 where refused.
+// Refused, every lent buffer is unchanged.
+#![tactic(auto)]
+
 ghost use Rattle.std.specs.Prelude.{length, true, false};
 ghost use Rattle.prelude.specs.Outputs.{Writes};
 ghost use Rattle.base64url.specs.Base64url.{decoded};
@@ -13,13 +15,12 @@ use aad::Joined;
 use base64url::Decoded;
 use prelude::Stage;
 
-mod component;
-mod differing;
+pub mod component;
+pub mod differing;
 pub mod reading;
 
 // Decodes one component: 5 for a text that is not base64url, 1 where out is shorter than the octets.
-#[unsafe(no_mangle)]
-pub extern "C" fn jwe_decode(text: &[u8], out: &mut [u8], octets: &mut usize) -> u32
+pub fn jwe_decode(text: &[u8], out: &mut [u8], octets: &mut usize) -> u32
     ensures { Writes
         (decode_refusal text.now (length out.old))
         (decoded text.now)
@@ -43,13 +44,7 @@ pub extern "C" fn jwe_decode(text: &[u8], out: &mut [u8], octets: &mut usize) ->
 }
 
 // Writes the additional authenticated data of an encoded protected header and an encoded aad; only 1 can refuse.
-#[unsafe(no_mangle)]
-pub extern "C" fn jwe_aad(
-    encoded_header: &[u8],
-    encoded_aad: &[u8],
-    out: &mut [u8],
-    octets: &mut usize,
-) -> u32
+pub fn jwe_aad(encoded_header: &[u8], encoded_aad: &[u8], out: &mut [u8], octets: &mut usize) -> u32
     ensures { Writes
         (aad_refusal encoded_header.now encoded_aad.now (length out.old))
         (aad_text encoded_header.now encoded_aad.now)
@@ -69,8 +64,7 @@ pub extern "C" fn jwe_aad(
 }
 
 // Writes the compact message of a header's text and the raw other components.
-#[unsafe(no_mangle)]
-pub extern "C" fn jwe_write_compact(
+pub fn jwe_write_compact(
     header: &[u8],
     key: &[u8],
     iv: &[u8],
@@ -102,8 +96,7 @@ pub extern "C" fn jwe_write_compact(
 }
 
 // Writes the flattened message of the headers' texts, the raw other components and one recipient, contents first.
-#[unsafe(no_mangle)]
-pub extern "C" fn jwe_write_flattened(
+pub fn jwe_write_flattened(
     protected: &[u8],
     shared: &[u8],
     aad: &[u8],
@@ -141,8 +134,7 @@ pub extern "C" fn jwe_write_flattened(
 }
 
 // Writes the general message of the headers' texts, the raw other components and the recipients, contents first.
-#[unsafe(no_mangle)]
-pub extern "C" fn jwe_write_general(
+pub fn jwe_write_general(
     protected: &[u8],
     shared: &[u8],
     aad: &[u8],

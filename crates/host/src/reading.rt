@@ -69,10 +69,9 @@ fn put_result(r: Result, into: &mut [u32])
     into[PARAMETERS] = r.parameters as u32;
 }
 
-// Reads a message. Answers 0 and the result's numbers at the start of `result`, or the refusal's number; that is 1
-// as well where too few numbers are lent for them. Refused, `result` is unchanged.
-#[unsafe(no_mangle)]
-pub extern "C" fn jwe_read(
+// Reads a message. Answers 0 and the result's numbers at the start of `res`, or the refusal's number; that is 1
+// as well where too few numbers are lent for them. Refused, `res` is unchanged.
+pub fn jwe_read(
     message: &[u8],
     known: &[u8],
     recipient: u32,

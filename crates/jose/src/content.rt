@@ -12,7 +12,7 @@ use rows::layout;
 const STRING: usize = 2;
 
 // Where an `enc` stands, without its quotation marks.
-#[derive(Drop)]
+#[derive(Clone, Copy)]
 pub enum Named {
     At(Place),
     Nothing,

@@ -1,5 +1,7 @@
 // The pieces that the JSON writer is given, judged before anything is written: what the reader will say of the message that
 // they make. What is asked, and in which order, stands in json_message's specs/Inner.
+#![tactic(auto)]
+
 ghost use Rattle.std.specs.Prelude.{◌≡◌, true, cond, ◌+◌, ◌*◌, ◌≤◌, length, eqb};
 ghost use Rattle.prelude.specs.Any.{any};
 ghost use Rattle.prelude.specs.Limits.{levels, longest};
@@ -127,7 +129,7 @@ fn number(stage: Stage) -> u32
 
 // What a recipient is refused for: 8 or 9 on its own header, and, where that passes, 12 to 18. 0 where for nothing. And where the
 // content algorithm of its own header stands.
-#[derive(Drop)]
+#[derive(Clone, Copy)]
 struct Faults {
     object: u32,
     rules: u32,

@@ -1,5 +1,7 @@
 // The JSON serialization (RFC 7516, section 7.2) as it is written: how long it is, and its octets put into a buffer. Nothing
 // is judged here. Members of length 0 but ciphertext are left out; a comma stands before each but the first.
+#![tactic(auto)]
+
 ghost use Rattle.std.specs.Prelude.{◌≡◌, true, ◌+◌, ◌≤◌, min, length};
 ghost use Rattle.prelude.specs.Buffer.{written};
 ghost use Rattle.prelude.specs.Limits.{longest};
@@ -10,7 +12,7 @@ mod measure;
 mod put;
 
 // Where the next member goes, and whether one stands before it.
-#[derive(Drop)]
+#[derive(Clone, Copy)]
 struct Cursor {
     at: usize,
     begun: bool,

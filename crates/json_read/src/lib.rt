@@ -1,5 +1,7 @@
 // JSON by RFC 8259, read in place: positions in a text, and readers that answer where a part ends. What each answers stands
 // in specs/Reader.antt, which specs/Grammar.antt and proofs/Theorems.antt tie to the RFC's grammar.
+#![tactic(auto)]
+
 ghost use Rattle.std.specs.Prelude.{◌≡◌};
 ghost use Rattle.grammar.specs.Grammar.{is_space, is_digit};
 ghost use Rattle.grammar.specs.Reader.{octet_at, step, skip, skip_space, opens_object, read_text};
@@ -11,13 +13,13 @@ mod string;
 mod value;
 
 // A position in a text: it moves by methods that take it and give the next one.
-#[derive(Drop)]
+#[derive(Clone, Copy)]
 pub struct Position {
     pub at: usize,
 }
 
 // What a reader of a part answers: the position after it, or that it does not stand here.
-#[derive(Drop)]
+#[derive(Clone, Copy)]
 pub enum Ends {
     At(Position),
     Refused,
@@ -25,7 +27,7 @@ pub enum Ends {
 
 // What a reader of a value answers: the position after it and its kind (0 object, 1 array, 2 string, 3 number, 4 true,
 // 5 false, 6 null), or that no value of so few levels stands here.
-#[derive(Drop)]
+#[derive(Clone, Copy)]
 pub enum Found {
     Value(Position, u8),
     Nothing,

@@ -18,7 +18,7 @@ pub const WIDTH: usize = 5;
 pub const ROOM: usize = MOST_MEMBERS * WIDTH;
 
 // A member: the place of its name without quotation marks (0, 0 for an element), the place of its value, its kind.
-#[derive(Drop)]
+#[derive(Clone, Copy)]
 pub struct Row {
     pub name: Place,
     pub value: Place,
@@ -26,14 +26,14 @@ pub struct Row {
 }
 
 // What a reader of members or elements answers: the one that begins here and where the next one begins, or that none does.
-#[derive(Drop)]
+#[derive(Clone, Copy)]
 pub enum Member {
     Here(Row, Position),
     End,
 }
 
 // What collecting answers: how many members there are, or that there are more than 32.
-#[derive(Drop)]
+#[derive(Clone, Copy)]
 pub enum Collected {
     Rows(usize),
     More,

@@ -8,14 +8,14 @@ ghost use Rattle.json_read.specs.Inner.Ends.{ends_of, hex_at, Small, resumed, Be
 use crate::{Ends, Position};
 
 // What an escape gives: the position after it, and whether it is a first half that waits for its second.
-#[derive(Drop)]
+#[derive(Clone, Copy)]
 pub enum Escape {
     Next(Position, bool),
     Wrong,
 }
 
 // One digit more of \u: the position after it and what the digits say, or that none stands there.
-#[derive(Drop)]
+#[derive(Clone, Copy)]
 pub enum Hex {
     More(Position, u32),
     Wrong,

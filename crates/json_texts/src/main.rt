@@ -1,6 +1,8 @@
 // Named texts that JSON's reader judges, each rule of RFC 8259, RFC 3629 and document 01 from both sides, and spellings that
 // it compares. Writes a line for each; the file stdout has what the papers say of them. A case is a name and its texts, with
 // the octet 1D between them and 1E behind: one literal for many cases, since each literal has its price in the proof.
+#![tactic(auto)]
+
 use json_read::Found;
 
 // RFC 8259 section 2: space, and a text is one value; document 01: that value is an object.
@@ -356,28 +358,33 @@ const HAS: [u8; 384] = *b"\
     \\ud800\\udc00 has F0 90 80 80\x1d\\ud800\\udc00\x1d\xf0\x90\x80\x80\x1e\
     \\ud834\\udd1e has F0 9D 84\x1d\\ud834\\udd1e\x1d\xf0\x9d\x84\x1e";
 
-// A text within 12 levels.
-fn judged(name: &[u8], text: &[u8]) {
-    io::write_all(1, name);
-    let answer = json_read::judge(text, 12);
-    let Found::Value(_, _) = answer else {
-        io::write_all(1, b": refused\n");
-        return;
-    };
-    io::write_all(1, b": object\n");
+// Octets to standard output. What cannot be written is missed there by who compares it.
+fn say(rt: &impl Print, octets: &[u8]) {
+    let _ = rt.write_all(octets);
 }
 
-fn told(name: &[u8], same: bool) {
-    io::write_all(1, name);
+// A text within 12 levels.
+fn judged(rt: &impl Print, name: &[u8], text: &[u8]) {
+    say(rt, name);
+    let answer = json_read::judge(text, 12);
+    let Found::Value(_, _) = answer else {
+        say(rt, b": refused\n");
+        return;
+    };
+    say(rt, b": object\n");
+}
+
+fn told(rt: &impl Print, name: &[u8], same: bool) {
+    say(rt, name);
     if same {
-        io::write_all(1, b": alike\n");
+        say(rt, b": alike\n");
     } else {
-        io::write_all(1, b": different\n");
+        say(rt, b": different\n");
     }
 }
 
 // What a case asks.
-#[derive(Drop)]
+#[derive(Clone, Copy)]
 enum Question {
     // Whether a text is an object.
     Object,
@@ -388,16 +395,16 @@ enum Question {
 }
 
 // Two spellings, or a spelling and octets.
-fn compared(question: Question, name: &[u8], a: &[u8], b: &[u8]) {
+fn compared(rt: &impl Print, question: Question, name: &[u8], a: &[u8], b: &[u8]) {
     let Question::Alike = question else {
-        told(name, spelling::has(a, b));
+        told(rt, name, spelling::has(a, b));
         return;
     };
-    told(name, spelling::alike(a, b));
+    told(rt, name, spelling::alike(a, b));
 }
 
 // One case: its name, and what stands behind it.
-fn asked(question: Question, name: &[u8], texts: &[u8]) {
+fn asked(rt: &impl Print, question: Question, name: &[u8], texts: &[u8]) {
     let Question::Object = question else {
         let middle = parts::seek(texts, 0, 0x1d);
         if texts.len() <= middle {
@@ -405,6 +412,7 @@ fn asked(question: Question, name: &[u8], texts: &[u8]) {
         }
         let second = middle + 1;
         compared(
+            rt,
             question,
             name,
             parts::part(texts, 0, middle),
@@ -412,11 +420,11 @@ fn asked(question: Question, name: &[u8], texts: &[u8]) {
         );
         return;
     };
-    judged(name, texts);
+    judged(rt, name, texts);
 }
 
 // Each case in turn.
-fn each(question: Question, cases: &[u8]) {
+fn each(rt: &impl Print, question: Question, cases: &[u8]) {
     let n = cases.len();
     let mut at: usize = 0;
     while at < n {
@@ -429,62 +437,62 @@ fn each(question: Question, cases: &[u8]) {
             return;
         }
         let text = middle + 1;
-        asked(question, &cases[at..middle], &cases[text..end]);
+        asked(rt, question, &cases[at..middle], &cases[text..end]);
         at = end + 1;
     }
 }
 
-fn main() {
+fn main(rt: HostRuntime) {
     let cases = SPACE;
-    each(Question::Object, &cases);
+    each(&rt, Question::Object, &cases);
     let cases = WHOLE;
-    each(Question::Object, &cases);
+    each(&rt, Question::Object, &cases);
     let cases = OBJECTS;
-    each(Question::Object, &cases);
+    each(&rt, Question::Object, &cases);
     let cases = NO_OBJECTS;
-    each(Question::Object, &cases);
+    each(&rt, Question::Object, &cases);
     let cases = COMMAS;
-    each(Question::Object, &cases);
+    each(&rt, Question::Object, &cases);
     let cases = ARRAYS;
-    each(Question::Object, &cases);
+    each(&rt, Question::Object, &cases);
     let cases = WORDS;
-    each(Question::Object, &cases);
+    each(&rt, Question::Object, &cases);
     let cases = NUMBERS;
-    each(Question::Object, &cases);
+    each(&rt, Question::Object, &cases);
     let cases = NO_NUMBERS;
-    each(Question::Object, &cases);
+    each(&rt, Question::Object, &cases);
     let cases = NO_PARTS;
-    each(Question::Object, &cases);
+    each(&rt, Question::Object, &cases);
     let cases = ESCAPES;
-    each(Question::Object, &cases);
+    each(&rt, Question::Object, &cases);
     let cases = NO_ESCAPES;
-    each(Question::Object, &cases);
+    each(&rt, Question::Object, &cases);
     let cases = HALVES;
-    each(Question::Object, &cases);
+    each(&rt, Question::Object, &cases);
     let cases = LONE_HALVES;
-    each(Question::Object, &cases);
+    each(&rt, Question::Object, &cases);
     let cases = STRINGS;
-    each(Question::Object, &cases);
+    each(&rt, Question::Object, &cases);
     let cases = LONG_STRINGS;
-    each(Question::Object, &cases);
+    each(&rt, Question::Object, &cases);
     let cases = ONE_AND_TWO_OCTETS;
-    each(Question::Object, &cases);
+    each(&rt, Question::Object, &cases);
     let cases = THREE_OCTETS;
-    each(Question::Object, &cases);
+    each(&rt, Question::Object, &cases);
     let cases = FOUR_OCTETS;
-    each(Question::Object, &cases);
+    each(&rt, Question::Object, &cases);
     let cases = LEVELS_OF_OBJECTS;
-    each(Question::Object, &cases);
+    each(&rt, Question::Object, &cases);
     let cases = LEVELS_OF_ARRAYS;
-    each(Question::Object, &cases);
+    each(&rt, Question::Object, &cases);
     let cases = IMAGE;
-    each(Question::Object, &cases);
+    each(&rt, Question::Object, &cases);
     let cases = OTHERS;
-    each(Question::Object, &cases);
+    each(&rt, Question::Object, &cases);
     let cases = ALIKE;
-    each(Question::Alike, &cases);
+    each(&rt, Question::Alike, &cases);
     let cases = ALIKE_ESCAPES;
-    each(Question::Alike, &cases);
+    each(&rt, Question::Alike, &cases);
     let cases = HAS;
-    each(Question::Has, &cases);
+    each(&rt, Question::Has, &cases);
 }

@@ -1,5 +1,7 @@
 // The JSON writer (RFC 7516, section 7.2). What it writes and its refusals in order stand in json_message's specs: `JsonText` and
 // `JsonWrite`; its answers in specs/Answers.
+#![tactic(auto)]
+
 ghost use Rattle.std.specs.Prelude.{◌≡◌};
 ghost use Rattle.json_message.specs.JsonWrite.{raw_json};
 ghost use Rattle.json_message.specs.WriteOrder.{most_for};

@@ -19,7 +19,7 @@ use headers::Components;
 use prelude::{Place, Stage};
 
 // The components between full stops, or that there are not exactly four full stops.
-#[derive(Drop)]
+#[derive(Clone, Copy)]
 pub enum FullStops {
     Four(Components),
     Other,

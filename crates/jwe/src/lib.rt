@@ -1,4 +1,6 @@
 // The reader: from octets to an answer, by document 01's rules in document 01's order.
+#![tactic(auto)]
+
 ghost use Rattle.std.specs.Prelude.{◌≡◌, true, cond, ◌≤◌, length};
 ghost use Rattle.prelude.specs.Limits.{header_room, list_room, longest, most_recipients};
 ghost use Rattle.names.specs.Names.{names, filled, sound};
@@ -7,7 +9,7 @@ ghost use Rattle.jwe.specs.Compact.{compact_order};
 ghost use Rattle.jwe.specs.General.{json_order};
 ghost use Rattle.rows.specs.Tables.{recipient_table};
 ghost use Rattle.shape.specs.Inner.Answers.{recipients_room};
-ghost use Rattle.jwe.specs.Judge.{call, held, refusal, outcome, result, refused, header_after, list_after};
+ghost use Rattle.jwe.specs.Judge.{call, held, refusal, outcome, result_of, refused, header_after, list_after};
 ghost use Rattle.jwe.specs.Answers.{numbers, refused_by};
 ghost use Rattle.jwe.specs.Inner.Stages.{table_room, own_table, Judges};
 ghost use Rattle.jwe.specs.Inner.Holding.{Holds};
@@ -21,7 +23,7 @@ mod general;
 pub mod held;
 
 // What the reader answers (document 01, 'What the reader hands out').
-#[derive(Drop)]
+#[derive(Clone, Copy)]
 pub struct Result {
     pub number: u32,
     pub form: u32,
@@ -35,7 +37,7 @@ pub struct Result {
 // What an accepted message holds, for any recipient (specs/Judge `Held`): its form, how many recipients it has, the components but the
 // keys of JSON recipients, how long the decoded protected header is, and how many parameters are all recipients'. `number` is the
 // refusal, 0 where there is none. The rest stands in the tables that `hold` fills.
-#[derive(Drop)]
+#[derive(Clone, Copy)]
 pub struct Holding {
     pub number: u32,
     pub form: u32,
@@ -47,7 +49,7 @@ pub struct Holding {
 
 // A refusal: its number with zeros.
 pub(crate) fn refused(n: u32) -> Result
-    ensures* { λ r. ⌜ numbers r ≡ refused n ⌝ }
+    ensures { numbers result ≡ refused n }
 {
     let none = Place { start: 0, len: 0 };
     Result {
@@ -70,7 +72,7 @@ pub(crate) fn refused(n: u32) -> Result
 
 // The refusal of a stage: its number with zeros.
 pub(crate) fn handed(stage: Stage) -> Result
-    ensures* { λ r. ⌜ numbers r ≡ refused (refused_by stage) ⌝ }
+    ensures { numbers result ≡ refused (refused_by stage) }
 {
     let Stage::Refused(n) = stage else {
         return refused(0);
@@ -84,7 +86,7 @@ fn judge(message: &[u8], known: &[u8], recipient: u32, text: &mut [u8], table: &
     requires known_value { filled known.now ≡ true }
     requires text_len { length text.old ≡ header_room }
     requires table_len { length table.old ≡ table_room (opens_object message.now) }
-    ensures* { λ r. ⌜ Judges message.now (cond (opens_object message.now) (json_order message.now (names known.now) recipient) (compact_order message.now (names known.now) recipient)) (outcome message.now recipient) r text.old text.new table.old table.new ⌝ }
+    ensures { Judges message.now (cond (opens_object message.now) (json_order message.now (names known.now) recipient) (compact_order message.now (names known.now) recipient)) (outcome message.now recipient) result text.old text.new table.old table.new }
 {
     if json_read::opens_object(message) {
         return general::judge(message, known, recipient, text, table);
@@ -107,15 +109,15 @@ fn hand_over(
     requires table_len { length table.old ≡ table_room (opens_object message.now) }
     requires header_room_in_bounds { header_room ≤ length header.old }
     requires list_room_in_bounds { list_room ≤ length list.old }
-    ensures* r_value { λ r. ⌜ numbers r
-        ≡ result (call message.now known.now recipient
-        (length header.old) (length list.old)) ⌝ }
-    ensures* header_after { λ _. ⌜ header.new
+    ensures r_value { numbers result
+        ≡ result_of (call message.now known.now recipient
+        (length header.old) (length list.old)) }
+    ensures header_after { header.new
         ≡ header_after (call message.now known.now recipient
-        (length header.old) (length list.old)) header.old ⌝ }
-    ensures* list_after { λ _. ⌜ list.new
+        (length header.old) (length list.old)) header.old }
+    ensures list_after { list.new
         ≡ list_after (call message.now known.now recipient
-        (length header.old) (length list.old)) list.old ⌝ }
+        (length header.old) (length list.old)) list.old }
 {
     let mut text = [0u8; HEADER_ROOM];
     let result = judge(message, known, recipient, &mut text, table);
@@ -137,15 +139,15 @@ pub fn read(
     header: &mut [u8],
     list: &mut [u32],
 ) -> Result
-    ensures* r_value { λ r. ⌜ numbers r
-        ≡ result (call message.now known.now recipient
-        (length header.old) (length list.old)) ⌝ }
-    ensures* header_after { λ _. ⌜ header.new
+    ensures r_value { numbers result
+        ≡ result_of (call message.now known.now recipient
+        (length header.old) (length list.old)) }
+    ensures header_after { header.new
         ≡ header_after (call message.now known.now recipient
-        (length header.old) (length list.old)) header.old ⌝ }
-    ensures* list_after { λ _. ⌜ list.new
+        (length header.old) (length list.old)) header.old }
+    ensures list_after { list.new
         ≡ list_after (call message.now known.now recipient
-        (length header.old) (length list.old)) list.old ⌝ }
+        (length header.old) (length list.old)) list.old }
 {
     if header.len() < HEADER_ROOM {
         return refused(1);
@@ -184,9 +186,9 @@ pub fn hold(
     requires of_len { length of.old ≡ recipients_room }
     requires own_len { length own.old ≡ own_table }
     requires counts_len { length counts.old ≡ most_recipients }
-    ensures* number_value { λ r. ⌜ r.number ≡ refusal (call message.now known.now 0 header_room list_room) ⌝ }
-    ensures* fact { λ r. ⌜ (r.number ≡ 0 → Holds message.now (held message.now) r text.new
-        table.new of.new own.new counts.new) ⌝ }
+    ensures number_value { result.number ≡ refusal (call message.now known.now 0 header_room list_room) }
+    ensures fact { (result.number ≡ 0 → Holds message.now (held message.now) result text.new
+        table.new of.new own.new counts.new) }
 {
     if LONGEST < message.len() {
         return held::refused(2);

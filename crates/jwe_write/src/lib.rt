@@ -1,5 +1,7 @@
 // The compact writer (RFC 7516, section 7.1). What it writes and answers stands in specs/: `Write` has the refusals in
 // order, `Answers` the answers.
+#![tactic(auto)]
+
 ghost use Rattle.std.specs.Prelude.{◌≡◌, true, ◌∷◌, ◌+◌, ◌≤◌, min, length};
 ghost use Rattle.prelude.specs.Buffer.{written};
 ghost use Rattle.prelude.specs.Limits.{header_room, longest};

@@ -1,4 +1,6 @@
 // Parameters of two messages matched by name. A side is a decoded protected header, a message and a table of entries of both.
+#![tactic(auto)]
+
 ghost use Rattle.std.specs.Prelude.{◌≡◌, ◌+◌, ◌*◌, ◌≤◌, ◌<◌, length, drop};
 ghost use Rattle.grammar.specs.Spellings.{undo};
 ghost use Rattle.spelling.specs.Inner.Fingerprints.{fingerprint};

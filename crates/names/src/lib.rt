@@ -1,5 +1,7 @@
 // Lists of names, contents first: one octet n, n length octets, then the names one after another. The caller's list of
 // extension names has this form, and so have our own tables of names. What each function answers stands in specs/Names.
+#![tactic(auto)]
+
 ghost use Rattle.std.specs.Prelude.{◌≡◌, true};
 ghost use Rattle.names.specs.Names.{names, filled, sound, number_in};
 

@@ -1,6 +1,8 @@
 // The members of two objects paired by name, in any order, in two texts that have been judged. A walk goes along the left members;
 // the partner of each is looked for behind the last one's, where it stands if both objects have one order; then where a table
 // says (src/table.rt), which is made at the first miss; and where neither has it, along all right members.
+#![tactic(auto)]
+
 ghost use Rattle.std.specs.Prelude.{◌≡◌, ◌*◌, ◌<◌, ◌≤◌, length};
 ghost use Rattle.grammar.specs.Grammar.{curly};
 ghost use Rattle.grammar.specs.Reader.{members_at};
@@ -16,7 +18,7 @@ use json_read::member::{Member, Row};
 
 // Where a walk stands: at a left member, with the turns that are left; at a right member; and the left member's number in the
 // window for which the table has places.
-#[derive(Drop)]
+#[derive(Clone, Copy)]
 pub struct Walk {
     pub at: Position,
     pub left: usize,
@@ -25,7 +27,7 @@ pub struct Walk {
 }
 
 // What a step answers: no left member is left; the next one has no partner; or the two, and where the walk goes on.
-#[derive(Drop)]
+#[derive(Clone, Copy)]
 pub enum Step {
     End,
     Lone,
@@ -33,7 +35,7 @@ pub enum Step {
 }
 
 // A right member that has the name, the position behind it, and the left one's number in the window.
-#[derive(Drop)]
+#[derive(Clone, Copy)]
 pub enum Found {
     Named(Row, Position, usize),
     Other,

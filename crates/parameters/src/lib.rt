@@ -1,6 +1,8 @@
 // The parameters of a recipient in two messages compared: the lines that their differences give. A side is a decoded protected header, a
 // message and a table of entries of both; of the entries the first ones are all recipients', and what was found of these is kept, so that
 // it is found once for all recipients. What each function puts stands in specs/Parameters.
+#![tactic(auto)]
+
 ghost use Rattle.std.specs.Prelude.{◌≡◌, cond, ◌+◌, ◌*◌, ◌≤◌, ◌<◌, length, drop};
 ghost use Rattle.rows.specs.Rows.{read_texts};
 ghost use Rattle.rows.specs.Tables.{first_of, entries_of, width};

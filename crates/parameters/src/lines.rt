@@ -12,7 +12,7 @@ use rows::layout;
 pub const WIDTH: usize = 8;
 
 // One side of a line: a parameter's origin, and the start and the length of its value.
-#[derive(Drop)]
+#[derive(Clone, Copy)]
 pub struct Side {
     pub origin: u32,
     pub start: u32,

@@ -1,4 +1,6 @@
 // Parts of a text by their places, and the next octet of a kind. What each function answers stands in specs/Parts.
+#![tactic(auto)]
+
 ghost use Rattle.std.specs.Prelude.{◌≡◌, ◌≤◌, max, length};
 ghost use Rattle.parts.specs.Parts.{part, part_at, seek, holds, count};
 

@@ -1,5 +1,7 @@
 // What the tests and the bench call of base64url, json, spelling and same beside the host's own functions. The gateway does not
 // link this.
+#![tactic(auto)]
+
 ghost use Rattle.std.specs.Prelude.{cond, ◌≡◌, ◌-◌, ◌^◌, min, length};
 ghost use Rattle.base64url.specs.Base64url.{encoded_length};
 ghost use Rattle.base64url.specs.Answers.{check_number, check_answer, encode_number, encode_next, encode_answer};

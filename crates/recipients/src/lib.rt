@@ -1,5 +1,7 @@
 // The recipients that the JSON writer is given, contents first: one octet n from 1 to 8, per recipient the lengths of its
 // header and its key, then their bodies. What each function answers stands in specs/Parsed.
+#![tactic(auto)]
+
 ghost use Rattle.std.specs.Prelude.{◌≡◌, true, ◌<◌};
 ghost use Rattle.recipients.specs.Parsed.{said_count, body_start, sound_table};
 ghost use Rattle.recipients.specs.Inner.Answers.{count_answer, body_at};
@@ -10,14 +12,14 @@ use prelude::limits::MOST_RECIPIENTS;
 pub mod four;
 
 // How many recipients a table has, or that it is malformed.
-#[derive(Drop)]
+#[derive(Clone, Copy)]
 pub enum Counted {
     Recipients(usize),
     Malformed,
 }
 
 // Where a recipient's header and key stand in the table; either may have length 0.
-#[derive(Drop)]
+#[derive(Clone, Copy)]
 pub struct Body {
     pub header: Place,
     pub key: Place,

@@ -1,4 +1,6 @@
 // The report on a message: what document 01's program writes. Its text stands in specs/Report.
+#![tactic(auto)]
+
 ghost use Rattle.std.specs.Prelude.{◌≡◌, ◌*◌, ◌≤◌, length};
 ghost use Rattle.prelude.specs.Buffer.{AllBelow, written};
 ghost use Rattle.prelude.specs.Limits.{number_limit};
@@ -14,7 +16,7 @@ mod lines;
 mod words;
 
 // The octets written, or that too little is lent.
-#[derive(Drop)]
+#[derive(Clone, Copy)]
 pub enum Reported {
     Octets(usize),
     Short,

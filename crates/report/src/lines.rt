@@ -46,9 +46,9 @@ const KINDS: [u8; 44] = *b"\x07\
     null";
 
 pub(crate) fn put_first(form: u32, count: usize, mode: u32, out: &mut [u8], at: usize) -> usize
-    requires { at + length (firstLine form count mode) ≤ length out.old }
-    ensures value { result ≡ at + length (firstLine form count mode) }
-    ensures out_after { out.new ≡ written at (firstLine form count mode) out.old }
+    requires { at + length (first_line form count mode) ≤ length out.old }
+    ensures value { result ≡ at + length (first_line form count mode) }
+    ensures out_after { out.new ≡ written at (first_line form count mode) out.old }
 {
     let forms = FORMS;
     let modes = MODES;
@@ -59,9 +59,9 @@ pub(crate) fn put_first(form: u32, count: usize, mode: u32, out: &mut [u8], at: 
 }
 
 fn put_component(name: &[u8], place: Place, out: &mut [u8], at: usize) -> usize
-    requires { at + length (componentLine name.now (place_of place)) ≤ length out.old }
-    ensures value { result ≡ at + length (componentLine name.now (place_of place)) }
-    ensures out_after { out.new ≡ written at (componentLine name.now (place_of place)) out.old }
+    requires { at + length (component_line name.now (place_of place)) ≤ length out.old }
+    ensures value { result ≡ at + length (component_line name.now (place_of place)) }
+    ensures out_after { out.new ≡ written at (component_line name.now (place_of place)) out.old }
 {
     let a = put_word(name, b' ', out, at);
     let b = put_number(place.start, b' ', out, a);
@@ -69,9 +69,9 @@ fn put_component(name: &[u8], place: Place, out: &mut [u8], at: usize) -> usize
 }
 
 pub(crate) fn put_components(places: Components, out: &mut [u8], at: usize) -> usize
-    requires { at + length (componentLines (componentsOf places)) ≤ length out.old }
-    ensures value { result ≡ at + length (componentLines (componentsOf places)) }
-    ensures out_after { out.new ≡ written at (componentLines (componentsOf places)) out.old }
+    requires { at + length (component_lines (components_of places)) ≤ length out.old }
+    ensures value { result ≡ at + length (component_lines (components_of places)) }
+    ensures out_after { out.new ≡ written at (component_lines (components_of places)) out.old }
 {
     let a = put_component(b"protected", places.protected, out, at);
     let b = put_component(b"key", places.key, out, a);

@@ -1,1 +1,2 @@
 // No code: what the compact writer writes reads back, and what is read as compact writes back.
+#![tactic(auto)]

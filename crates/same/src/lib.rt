@@ -1,5 +1,7 @@
 // Two JSON values compared where they stand in two texts that have been judged: document 02's 4/12. What each function
 // answers stands in specs/Same.
+#![tactic(auto)]
+
 ghost use Rattle.std.specs.Prelude.{◌≡◌, not, false, ◌&&◌, ◌≤◌, length, eqb};
 ghost use Rattle.grammar.specs.Grammar.{curly, square};
 ghost use Rattle.grammar.specs.Reader.{members_at, elements_at, as_element};
@@ -18,7 +20,7 @@ use pairs::Step;
 pub const WORK_ROOM: usize = 262144;
 
 // A value: its place and its kind, as a row or an entry of document 01's list has them.
-#[derive(Drop)]
+#[derive(Clone, Copy)]
 pub struct Value {
     pub start: usize,
     pub len: usize,

@@ -20,7 +20,7 @@ const GENERAL: u32 = 2;
 
 // The form, whether a protected header is there, where the shared header stands (0 where there is none), and the components but
 // the keys.
-#[derive(Drop)]
+#[derive(Clone, Copy)]
 pub struct Top {
     pub form: u32,
     pub protected: bool,

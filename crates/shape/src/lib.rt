@@ -1,4 +1,6 @@
 // The shape of a JSON message: its top level, and its recipients.
+#![tactic(auto)]
+
 ghost use Rattle.std.specs.Prelude.{◌≡◌, ◌*◌, ◌≤◌, length};
 ghost use Rattle.rows.specs.Tables.{entries_of, header_table, width};
 ghost use Rattle.prelude.specs.Buffer.{written};

@@ -1,5 +1,7 @@
 // Components and values shown in place, as parts of the caller's own texts. What each function shows stands in
 // specs/Shown.
+#![tactic(auto)]
+
 ghost use Rattle.std.specs.Prelude.{◌≡◌};
 ghost use Rattle.shown.specs.Shown.{component_shown, component_at, value_shown, value_at};
 

@@ -1,5 +1,7 @@
 // Past an object or an array in a text that has been read before: by its brackets alone, over blocks in which nothing
 // has to be looked at. What each function answers stands in specs/Inner/Past.
+#![tactic(auto)]
+
 ghost use Rattle.std.specs.Prelude.{◌≡◌, false, ℕ, ◌+◌, ◌≤◌, ◌<◌, length, get_or};
 ghost use Rattle.grammar.specs.Grammar.{quote};
 ghost use Rattle.skip.specs.Inner.Past.{is_opening, is_closing, is_mark, outside, inside, past_from, past_nested};
@@ -114,7 +116,7 @@ fn skip_string(s: &[u8], from: usize) -> usize
 }
 
 // Where the search goes on, and how many brackets are open there.
-#[derive(Drop)]
+#[derive(Clone, Copy)]
 struct Next {
     at: usize,
     depth: usize,

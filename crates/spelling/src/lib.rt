@@ -1,4 +1,6 @@
 // Strings compared by their spellings, the octets between the quotation marks, escapes undone on the way.
+#![tactic(auto)]
+
 ghost use Rattle.std.specs.Prelude.{cond, ◌≡◌, ◌-◌, ◌≤◌, ◌<◌, true, false, length, drop, get_or};
 ghost use Rattle.grammar.specs.Strings.{hex_digit, escape_point, combined, unit, is_high};
 ghost use Rattle.grammar.specs.Spellings.{undo, equal, alike, has};
@@ -9,7 +11,7 @@ ghost use Rattle.spelling.specs.Inner.Cursors.{hex_base, mixed_at, whole};
 
 // Where in a spelling we are, between characters: a first half that stands directly before, or 0; and of the code point that
 // the last escape said, how many octets are still to come.
-#[derive(Drop)]
+#[derive(Clone, Copy)]
 pub struct Cursor {
     pub at: usize,
     pub half: u32,
@@ -18,14 +20,14 @@ pub struct Cursor {
 }
 
 // Where in two spellings we are.
-#[derive(Drop)]
+#[derive(Clone, Copy)]
 struct Pair {
     left: Cursor,
     right: Cursor,
 }
 
 // The next octet after undoing escapes and the cursor behind it, or that none is to come.
-#[derive(Drop)]
+#[derive(Clone, Copy)]
 pub enum Octet {
     Next(u8, Cursor),
     End,
@@ -33,7 +35,7 @@ pub enum Octet {
 
 // A fingerprint of what a spelling says up to a position between characters; and a first half that stands directly
 // before it, or 0.
-#[derive(Drop)]
+#[derive(Clone, Copy)]
 pub struct Mixed {
     pub value: u32,
     pub at: usize,

@@ -1,10 +1,12 @@
 // UTF-8 (RFC 3629). Blocks of octets below 128 are passed over; any other block is walked, character by character, to its end.
+#![tactic(auto)]
+
 ghost use Rattle.std.specs.Prelude.{◌≡◌, ◌+◌, ◌≤◌, ◌<◌, [], ◌∷◌, length, drop};
 ghost use Rattle.grammar.specs.Utf8.{to, within, tail, utf8_after, utf8};
 ghost use Rattle.utf8.specs.Inner.Utf8Parts.{past, onward, Reaches, Low};
 
 // Where a run of characters ends, or that one of them is wrong.
-#[derive(Drop)]
+#[derive(Clone, Copy)]
 pub enum Run {
     To(usize),
     Broken,
