@@ -1,16 +1,15 @@
 -- Decoding by words: what `join` makes of eight values, and that a block's values become their octets.
-use mathlib.Core.Path.{◌≡◌, refl, ap, ap₂, sym, subst, ◌∙◌}
-use mathlib.Core.List.{List, [], ◌∷◌, ◌++◌, map, append-nil}
-use Prim.Native.Nat.{ℕ, ◌+◌, ◌*◌, ◌/◌, ◌%◌, ◌^◌, ◌≤◌, ◌<◌}
+use mathlib.Core.Path.{◌≡◌, refl, ap, ap₂, sym, ◌∙◌}
+use mathlib.Core.List.{List, [], ◌∷◌, ◌++◌, map}
+use Prim.Native.Nat.{ℕ, ◌+◌, ◌*◌, ◌/◌, ◌%◌, ◌≤◌, ◌<◌}
 use native.Mathlib.Omega.{arith}
-use lib.Dec.{ltb, leb, leb→le}
-use lib.Bits.{bit_and, and_block, and_mask, and_le_r}
-use lib.ListN.{length, drop, get_or, drop_of_length-le, length-map}
-use Rattle.prelude.specs.Buffer.{AllBelow, written}
+use lib.Dec.{leb, leb→le}
+use lib.Bits.{bit_and, and_le_r}
+use lib.ListN.{length, drop, get_or, length-map}
+use Rattle.prelude.specs.Buffer.{AllBelow}
 use Rattle.prelude.proofs.Lists.{drop_next}
-use Rattle.prelude.specs.Ascii.{ascii}
 use Rattle.prelude.proofs.Numbers.{below}
-use Rattle.base64url.specs.Base64url.{six_bits, octets, decoded, sextets}
+use Rattle.base64url.specs.Base64url.{six_bits, octets, decoded}
 use Rattle.base64url.proofs.Alphabet.{value_near}
 use Rattle.base64url.specs.Inner.Step.{near}
 use Rattle.base64url.specs.Inner.Words.{digits, pair, joined, words_of, six_octets, octets_of}

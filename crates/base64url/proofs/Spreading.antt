@@ -8,7 +8,7 @@ use lib.ListN.{length, drop, get_or}
 use Rattle.prelude.specs.Buffer.{AllBelow}
 use Rattle.prelude.proofs.Lists.{drop_next}
 use Rattle.base64url.specs.Base64url.{sextets}
-use Rattle.base64url.specs.Inner.Words.{digits, turned_half, turned_word, word_of_lem, word_at, sixes_of, six_octets}
+use Rattle.base64url.specs.Inner.Words.{digits, turned_half, turned_word, word_of, word_at, sixes_of, six_octets}
 use Rattle.base64url.specs.Inner.Words.{spill_of, four_values, spread_of, eight_octets, spread_all}
 use Rattle.base64url.proofs.Lanes.{sixes, twelves}
 use Rattle.base64url.proofs.Turning.{half_octets}
@@ -169,10 +169,10 @@ t3 e f he hf = omega arith
 abbrev bytes : ℕ → ℕ → ℕ → ℕ
 bytes a b c = a * 65536 + b * 256 + c
 
-word_of : (a b c d e f : ℕ) → a < 256 → b < 256 → c < 256 → d < 256 → e < 256 → f < 256
-    → word_of_lem a b c d e f ≡ bytes a b c * 1099511627776 + bytes d e f * 65536
-unfolding word_of_lem turned_word
-word_of a b c d e f ha hb hc hd he hf =
+word_of_lem : (a b c d e f : ℕ) → a < 256 → b < 256 → c < 256 → d < 256 → e < 256 → f < 256
+    → word_of a b c d e f ≡ bytes a b c * 1099511627776 + bytes d e f * 65536
+unfolding word_of turned_word
+word_of_lem a b c d e f ha hb hc hd he hf =
     ap₂ (λ (x y : ℕ). turned_half x + turned_half y * 4294967296) (upper (digits a b c d) (e + f * 256) below)
     (lower (digits a b c d) (e + f * 256) below)
     ∙ ap₂ (λ (x y : ℕ). x + y * 4294967296) (two e f he hf) (four a b c d ha hb hc hd)
@@ -267,13 +267,13 @@ octets_of_lem a b c d e f g h ha hb hc hd he hf hg hh =
     small a b c d ha hb hc hd = omega arith
 
 word_values : (a b c d e f : ℕ) → a < 256 → b < 256 → c < 256 → d < 256 → e < 256 → f < 256
-    → eight_octets (spread_of (word_of_lem a b c d e f))
+    → eight_octets (spread_of (word_of a b c d e f))
     ≡ (a / 4) ∷ (a % 4 * 16 + b / 16) ∷ (b % 16 * 4 + c / 64) ∷ (c % 64)
     ∷ (d / 4) ∷ (d % 4 * 16 + e / 16) ∷ (e % 16 * 4 + f / 64) ∷ (f % 64) ∷ []
 unfolding spread_of
 word_values a b c d e f ha hb hc hd he hf =
     ap (λ (w : ℕ). eight_octets (four_values (w / 1099511627776) + four_values (w / 65536 % 16777216) * 4294967296))
-    (word_of a b c d e f ha hb hc hd he hf)
+    (word_of_lem a b c d e f ha hb hc hd he hf)
     ∙ ap₂ (λ (s t : ℕ). eight_octets (four_values s + four_values t * 4294967296))
     (upper (bytes a b c) (bytes d e f) (small d e f hd he hf)) (lower (bytes a b c) (bytes d e f) (small d e f hd he hf))
     ∙ ap₂ (λ (s t : ℕ). eight_octets (s + t * 4294967296)) (values_of a b c ha hb hc) (values_of d e f hd he hf)

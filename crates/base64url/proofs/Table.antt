@@ -1,7 +1,7 @@
 -- One test over a table's 256 entries, and that a table which passes has the six bits of each octet.
 use mathlib.Core.Bool.{Bool}
 use mathlib.Core.List.{List}
-use Prim.Native.Nat.{ℕ, ◌<◌}
+use Prim.Native.Nat.{ℕ}
 use lib.ListN.{get_or}
 use lib.Dec.{T, eqb, eqb→eq}
 use Rattle.prelude.proofs.Numbers.{every, below}

@@ -8,7 +8,7 @@ use borrow.Author.Tests.{eq-eqb}
 use Rattle.prelude.specs.Limits.{header_room, list_room}
 use Rattle.grammar.specs.Bounds.{Every}
 use Rattle.headers.specs.Components.{with_key}
-use Rattle.jwe.specs.Judge.{Call, call, call_for, refusal, held, outcome, accepted, refused, result}
+use Rattle.jwe.specs.Judge.{Call, call, call_for, refusal, held, outcome, accepted, refused, result_of}
 use Rattle.meets.specs.Members.{Member, Distinct}
 use Rattle.meets.specs.Meets.{Octets, Recipient, Message, compact, json, count, Meets}
 use Rattle.meets.specs.Handed.{Rows, Applies}
@@ -69,7 +69,7 @@ module _ (message known : List ℕ) (m : Meets (call message known 0 header_room
     passes = (accepted_exactly (call_for n here)).1 (each_recipient here m n below)
 
     means : ResultMeans m.form n (accepted message (outcome message n))
-    unfolding result
+    unfolding result_of
     means =
         subst (ResultMeans m.form n)
         (ap (λ (b : Bool). cond b (accepted message (outcome message n)) (refused (refusal (call_for n here))))

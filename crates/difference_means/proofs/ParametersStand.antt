@@ -18,7 +18,7 @@ use Rattle.jwe.specs.General.{shared_entries, own_entries, parameters}
 use Rattle.jwe.specs.Judge.{asked, Outcome, outcome}
 use Rattle.jwe.specs.Inner.Outcomes.{compact_outcome, outcome_of, json_outcome}
 use Rattle.jwe.proofs.Outcomes.{by_form}
-use Rattle.meets.specs.Members.{Member, names_of_lem, Distinct, OneForOne}
+use Rattle.meets.specs.Members.{Member, names_of, Distinct, OneForOne}
 use Rattle.meets.specs.Rules.{Headers}
 use Rattle.meets.specs.Rules as rules
 use Rattle.meets.specs.Meets.{Compact, Json, Message, compact, json, count}
@@ -122,16 +122,16 @@ module _ (known : List (List ℕ)) (message : List ℕ) (n : ℕ) where
 
 -- Names
 
-names_of : (o : ℕ) (ms ns : List Member) (qs : List Parameter) → names_in qs ≡ names_of_lem ns →
-    names_in (of_origin o ms ++ qs) ≡ names_of_lem (ms ++ ns)
-names_of o [] ns qs e = e
-names_of o (m ∷ ms) ns qs e = ap (λ (xs : List Str). m.name ∷ xs) (names_of o ms ns qs e)
+names_of_lem : (o : ℕ) (ms ns : List Member) (qs : List Parameter) → names_in qs ≡ names_of ns →
+    names_in (of_origin o ms ++ qs) ≡ names_of (ms ++ ns)
+names_of_lem o [] ns qs e = e
+names_of_lem o (m ∷ ms) ns qs e = ap (λ (xs : List Str). m.name ∷ xs) (names_of_lem o ms ns qs e)
 
-names_same : (h : Headers) → names_in (of_headers h) ≡ names_of_lem (rules.parameters h)
+names_same : (h : Headers) → names_in (of_headers h) ≡ names_of (rules.parameters h)
 names_same h =
-    names_of 0 h.protected (h.shared ++ h.own) _ (names_of 1 h.shared h.own _ (last h.own))
+    names_of_lem 0 h.protected (h.shared ++ h.own) _ (names_of_lem 1 h.shared h.own _ (last h.own))
   where
-    last : (ms : List Member) → names_in (of_origin 2 ms) ≡ names_of_lem ms
+    last : (ms : List Member) → names_in (of_origin 2 ms) ≡ names_of ms
     last [] = refl
     last (m ∷ ms) = ap (λ (xs : List Str). m.name ∷ xs) (last ms)
 
@@ -139,7 +139,7 @@ pub names_distinct : {known : List (List ℕ)} {message : List ℕ} (f : Message
     Distinct (names_in (parameters_of f n))
 names_distinct {known} {message} f n below = subst Distinct (sym (names_same (headers_of f n))) (cases f below)
   where
-    cases : (f : Message known message) → n < count f → Distinct (names_of_lem (rules.parameters (headers_of f n)))
+    cases : (f : Message known message) → n < count f → Distinct (names_of (rules.parameters (headers_of f n)))
     cases (compact c) below =
         parameters_distinct (headers_of (compact c) n)
         (record { protected = c.object.distinct; shared = tt; own = tt }) c.rules.apart

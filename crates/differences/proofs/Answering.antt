@@ -3,13 +3,13 @@ use mathlib.Core.Path.{◌≡◌, refl, ap, ap₂, sym, subst, ◌∙◌}
 use mathlib.Core.Bool.{Bool, true, false, ◌&&◌, cond}
 use mathlib.Core.List.{List, []}
 use mathlib.Core.Logic.{◌⊎◌, inl, inr}
-use Prim.Native.Nat.{ℕ, ◌+◌, ◌*◌, ◌≤◌, ◌<◌}
+use Prim.Native.Nat.{ℕ, ◌*◌, ◌≤◌, ◌<◌}
 use native.Mathlib.Omega.{arith}
 use lib.ListN.{length, take}
 use lib.Dec.{eqb, leb}
-use borrow.Author.Tests.{le-leb, lt-leb, eq-eqb, ne_eqb}
+use borrow.Author.Tests.{le-leb, lt-leb, ne_eqb}
 use Rattle.prelude.specs.Buffer.{written}
-use Rattle.prelude.specs.Limits.{header_room, most_recipients}
+use Rattle.prelude.specs.Limits.{most_recipients}
 use Rattle.rows.specs.Tables.{recipient_table}
 use Rattle.shape.specs.Inner.Answers.{recipients_room}
 use Rattle.jwe.specs.Judge.{held}

@@ -1,16 +1,16 @@
 -- Both sides as the code has them: what was found of the parameters that are all recipients' is kept, and the lines that it puts are the
 -- definition's.
-use mathlib.Core.Path.{◌≡◌, refl, ap, ap₂, sym, subst, ◌∙◌}
-use mathlib.Core.Bool.{Bool, not}
+use mathlib.Core.Path.{◌≡◌, ap, ap₂, sym, subst, ◌∙◌}
+use mathlib.Core.Bool.{not}
 use mathlib.Core.List.{List, ◌++◌}
-use Prim.Native.Nat.{ℕ, ◌*◌, ◌≤◌, ◌<◌, min}
+use Prim.Native.Nat.{ℕ, ◌*◌, ◌≤◌, min}
 use native.Mathlib.Omega.{arith}
 use lib.ListN.{length}
 use lib.Dec.{eqb}
 use Rattle.prelude.specs.Limits.{most_members}
 use Rattle.grammar.specs.Places.{Place}
 use Rattle.grammar.specs.Spellings.{equal}
-use Rattle.rows.specs.Rows.{Entry, read_texts}
+use Rattle.rows.specs.Rows.{read_texts}
 use Rattle.rows.specs.Tables.{entries_of, width}
 use Rattle.rows.specs.Inner.Prints.{Printed}
 use Rattle.rows.proofs.Entries.{entries_length}
@@ -20,7 +20,7 @@ use Rattle.jwe.specs.Judge.{held}
 use Rattle.jwe.specs.declared.Holding.{Holding}
 use Rattle.matching.specs.Inner.Places.{Matched}
 use Rattle.parameters.specs.Lines.{missing, Line, line, line_if}
-use Rattle.parameters.specs.Inner.Putting.{EachReads, Valued, KeptLeft, KeptRight}
+use Rattle.parameters.specs.Inner.Putting.{EachReads, Valued}
 use Rattle.differences.specs.Differences.{compared, whole, message_lines, key_lines, recipient_lines, up_to, differences}
 use Rattle.differences.specs.Inner.Opened.{other_at, component_lines, whole_lines, key_line}
 use Rattle.differences.specs.Inner.Opened.{Fronted, Opened, CommonLeft, CommonRight, Sided}

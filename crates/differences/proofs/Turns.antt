@@ -1,24 +1,23 @@
 -- One recipient after the other: its own parameters are put behind those of all, the lines of both sides are the definition's, and the
 -- tables stay fit for the next.
-use mathlib.Core.Path.{◌≡◌, refl, ap, ap₂, sym, subst, ◌∙◌}
+use mathlib.Core.Path.{◌≡◌, refl, sym, subst, ◌∙◌}
 use mathlib.Core.List.{List, ◌++◌}
 use Prim.Native.Nat.{ℕ, ◌+◌, ◌*◌, ◌≤◌, ◌<◌}
 use native.Mathlib.Omega.{arith}
 use lib.ListN.{length, take, drop, get_or}
 use Rattle.prelude.specs.Buffer.{written}
 use Rattle.prelude.specs.Limits.{most_members, most_recipients}
-use Rattle.rows.specs.Rows.{Entry, Texts, read_texts}
-use Rattle.rows.specs.Tables.{entries_of, width, header_table, recipient_table}
+use Rattle.rows.specs.Rows.{Entry, read_texts}
+use Rattle.rows.specs.Tables.{entries_of, width, header_table}
 use Rattle.rows.specs.Inner.Prints.{Printed}
 use Rattle.jwe.specs.Judge.{held}
 use Rattle.jwe.specs.Inner.Stages.{own_table}
 use Rattle.jwe.specs.Inner.Holding.{Gathers}
 use Rattle.jwe.proofs.HeldTables.{behind, held_stands}
-use Rattle.parameters.specs.Lines.{Line}
 use Rattle.parameters.specs.Parameters.{parameter_lines}
 use Rattle.parameters.specs.Inner.Putting.{EachReads, Comparable, KeptLeft, KeptRight}
 use Rattle.differences.specs.Differences.{compared, recipient_lines}
-use Rattle.differences.specs.Inner.Opened.{Opened, CommonLeft, CommonRight, recipient_most}
+use Rattle.differences.specs.Inner.Opened.{Opened, CommonLeft, CommonRight}
 use Rattle.differences.proofs.Readings.{recipient_read}
 
 -- One side.

@@ -3,7 +3,7 @@
 use mathlib.Core.Path.{◌≡◌, refl, ap, ap₂, sym, subst, ◌∙◌}
 use mathlib.Core.Bool.{Bool, true, false, ◌||◌, cond, true≢false}
 use mathlib.Core.List.{List, [], ◌∷◌, ◌++◌, append-nil, append_assoc}
-use mathlib.Core.Logic.{◌⊎◌, inl, inr}
+use mathlib.Core.Logic.{inl, inr}
 use mathlib.Core.Option.{Option, none, some}
 use Prim.Native.Nat.{ℕ, zero, suc, ◌+◌, ◌*◌, ◌-◌, ◌≤◌, ◌<◌}
 use native.Mathlib.Nat.{le_of_suc-le-suc, not-suc-le-zero}
@@ -16,7 +16,7 @@ use borrow.Author.Tests.{eqb-true, eqb-false, ltb-true, ltb-false}
 use Rattle.grammar.specs.Grammar.{Bracket, curly, comma}
 use Rattle.grammar.specs.Places.{Member}
 use Rattle.grammar.specs.Bounds.{Every}
-use Rattle.grammar.specs.Spellings.{undo, alike}
+use Rattle.grammar.specs.Spellings.{undo}
 use Rattle.spelling.specs.Inner.Fingerprints.{fingerprint}
 use Rattle.grammar.specs.Reader.{octet_at, step, skip_space, Answer, Entry, entry_at, rows_after, rows_at, value_at}
 use Rattle.json_read.specs.Inner.Known.{KnownNext, KnownFrom}
@@ -29,8 +29,7 @@ use Rattle.distinct.proofs.Walks.{row_more, known_more}
 use Rattle.json_read.specs.declared.Position.{Position}
 use Rattle.json_read.specs.declared.member.Row.{Row}
 use Rattle.json_read.specs.declared.member.Member.TheVariants.{Here}
-use Rattle.distinct.specs.Inner.Filter.{tag, tag_of, start_of, NoneFree, Seen, MarkedIn, Marked, Freed, Looked, Entered, Behind}
-use Rattle.distinct.specs.declared.window.Slot.TheVariants.{Free, Taken}
+use Rattle.distinct.specs.Inner.Filter.{tag, tag_of, start_of, NoneFree, MarkedIn, Marked, Freed, Entered, Behind}
 
 -- Fewer turns
 

@@ -2,7 +2,7 @@
 --
 -- Demand 1's first half, that any octets, lent lengths and recipient number get an answer, is the contracts themselves: no function of
 -- crates/gateway/src/lib.rt has a condition, and each is proved to answer and leave what its definitions say, for every input.
--- Those definitions are, for reading, `refusal`, `result`, `header_after` and `list_after` (crates/jwe/specs/Judge.antt) of what the
+-- Those definitions are, for reading, `refusal`, `result_of`, `header_after` and `list_after` (crates/jwe/specs/Judge.antt) of what the
 -- reader is called with (`Call`, crates/prelude/specs/Call.antt); for decoding, AAD and writing a refusal (`decode_refusal`,
 -- `aad_refusal`, `write_refusal`, `json_write_refusal`), what is written (`decoded`, `aad_text`, `compact_text`, `written_text`), and of
 -- both the octets written and the output afterwards (crates/prelude/specs/Outputs.antt); for the header walk `opened`, `handed_by` and `moved`
@@ -29,7 +29,7 @@ use Rattle.grammar.specs.Readings.{Reading}
 use Rattle.walk.specs.Walk.{walk_refusal, opened, handed_by, after, rows_of, row_or}
 use Rattle.walk.specs.declared.Handed.TheVariants.{End}
 use Rattle.walk.proofs.Theorems as Walk
-use Rattle.jwe.specs.Judge.{Call, call, call_for, refusal, refused, places_in, result, header_after, list_after}
+use Rattle.jwe.specs.Judge.{Call, call, call_for, refusal, refused, places_in, result_of, header_after, list_after}
 use Rattle.aad.specs.Aad.{aad_text, aad_refusal, aad_buffer}
 use Rattle.jwe_write.specs.Write.{Raw, compact_text, write_refusal}
 use Rattle.jwe_write.specs.Answers.{write_buffer}
@@ -72,7 +72,7 @@ use Rattle.gateway.proofs.Samples as Samples
 pub refusal_changes_nothing : (c : Call) (buffer list : List ℕ) →
     let n = refusal c in
     (n ≡ 0 → ⊥) →
-    OneOf n read_numbers × ((result c ≡ refused n) × (header_after c buffer ≡ buffer) × (list_after c list ≡ list))
+    OneOf n read_numbers × ((result_of c ≡ refused n) × (header_after c buffer ≡ buffer) × (list_after c list ≡ list))
 refusal_changes_nothing c buffer list n =
     (Refusing.read_listed c n, Refused.refusal_changes_nothing c n buffer list)
 
@@ -146,7 +146,7 @@ written_reads_back = RoundTrips.written_reads_back
 -- An accepted compact message, taken apart at the places of its result and written again with the same list and room for it,
 -- gives the same octets.
 pub read_writes_back : (c : Call) →
-    let r = result c in
+    let r = result_of c in
     get_or r 0 0 ≡ 0 → get_or r 1 0 ≡ 0 → (out : List ℕ) → length c.message ≤ length out →
     WritesBack c.message c.known out (places_in r)
 read_writes_back = RoundTrips.read_writes_back
@@ -181,11 +181,11 @@ handed_out = HandsOut.hands_out
 
 -- The numbers of the result mean what the message meets, and no other numbers do.
 
-pub result_means : (c : Call) (m : Meets c) (n : ℕ) → n < count m.form → ResultMeans m.form n (result (call_for n c))
+pub result_means : (c : Call) (m : Meets c) (n : ℕ) → n < count m.form → ResultMeans m.form n (result_of (call_for n c))
 result_means = ResultMeans.result_means
 
 pub result_once : (c : Call) (m : Meets c) (n : ℕ) → n < count m.form → (r : List ℕ) → ResultMeans m.form n r →
-    r ≡ result (call_for n c)
+    r ≡ result_of (call_for n c)
 result_once = ResultOnce.result_once
 
 -- The header walk. Call k on a text that is not refused hands out the k-th member of its reading by the grammar, every member

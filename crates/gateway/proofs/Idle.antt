@@ -38,7 +38,7 @@ use Rattle.jwe.specs.Compact.{stops, four_stops, compact_components, compact_ord
 use Rattle.jwe.specs.General.{shared_entries, own_entries, parameters, all_places, any_misspelled, protected_order}
 use Rattle.jwe.specs.General.{headers_order, recipients_order, content_order, json_spelled, json_later, json_order}
 use Rattle.jwe.specs.Judge.{Call, call, call_for, order, refusal, asked, held, outcome, accepted}
-use Rattle.jwe.specs.Judge.{refused, result, list_after}
+use Rattle.jwe.specs.Judge.{refused, result_of, list_after}
 use Rattle.meets.specs.Meets.{Meets}
 use Rattle.meets.proofs.Accepted.{accepted_exactly}
 use Rattle.refusals.specs.Table.{Refuses}
@@ -69,7 +69,7 @@ abbrev ask : List ℕ → ℕ → Call
 ask message n = call message none n 4096 576
 
 abbrev answered : List ℕ → ℕ → ℕ → ℕ
-answered message n i = get_or (result (ask message n)) i 0
+answered message n i = get_or (result_of (ask message n)) i 0
 
 abbrev list : ℕ → List ℕ
 list n = list_after (ask two n) (replicate 576 0)
@@ -89,7 +89,7 @@ record Computed : Type 0 where
   exchanged : refusal (ask broken 0) ≡ 13
 
 computed : Computed
-unfolding ascii alphabet character place_in six_bits sextets octets encoded decoded first_outside spare_bits fault names sound limited filled total cut number_in part seek seek_in holds utf8 utf8_after follow encode undo undo_from adds next equal has alike pass_over skip turn scan_string string_at digits_at int_at perhaps_at fraction_at exponent_at number_at word_at before_at entry_at entries_at rows_at nested_at rows_in value_with value_at members_at elements_of elements_at read_text opens_object any any_pair entries_in present having value_of repeated listed registered kind_asked algs alg_name encs enc_name alg_names enc_names zip_names nth first incomplete wrong_crit mode_in recipient_order content_algorithm differing misspelled header_text unread text_order outermost protected_entries members_of header_entries object_order member_names member_entries wrong_member wrong_top wrong_elements wrong_element top_entries top_order elements_in element_entries element_order elements_order recipients_in components_in stops four_stops compact_components compact_order shared_entries own_entries parameters all_places any_misspelled protected_order headers_order recipients_order content_order json_spelled json_later json_order order refusal asked held outcome accepted refused result written list_after flat_map xor
+unfolding ascii alphabet character place_in six_bits sextets octets encoded decoded first_outside spare_bits fault names sound limited filled total cut number_in part seek seek_in holds utf8 utf8_after follow encode undo undo_from adds next equal has alike pass_over skip turn scan_string string_at digits_at int_at perhaps_at fraction_at exponent_at number_at word_at before_at entry_at entries_at rows_at nested_at rows_in value_with value_at members_at elements_of elements_at read_text opens_object any any_pair entries_in present having value_of repeated listed registered kind_asked algs alg_name encs enc_name alg_names enc_names zip_names nth first incomplete wrong_crit mode_in recipient_order content_algorithm differing misspelled header_text unread text_order outermost protected_entries members_of header_entries object_order member_names member_entries wrong_member wrong_top wrong_elements wrong_element top_entries top_order elements_in element_entries element_order elements_order recipients_in components_in stops four_stops compact_components compact_order shared_entries own_entries parameters all_places any_misspelled protected_order headers_order recipients_order content_order json_spelled json_later json_order order refusal asked held outcome accepted refused result_of written list_after flat_map xor
 computed = record {
   one = refl;
   other = refl;
@@ -116,7 +116,7 @@ pub not_always_refusing : ((c : Call) → refusal c ≡ 0 → ⊥) → ⊥
 not_always_refusing refuses = refuses (ask M 0) computed.one
 
 -- One constant answer.
-pub not_constant : (r : List ℕ) → ((c : Call) → result c ≡ r) → ⊥
+pub not_constant : (r : List ℕ) → ((c : Call) → result_of c ≡ r) → ⊥
 not_constant r same =
     let c = computed in
     apart (answered M 0 0) (answered broken 0 0) 0 13 c.numbers.0 c.numbers.1 (λ z. omega arith)
@@ -161,7 +161,7 @@ not_the_same_for_all same =
 
 -- One number of the result for every recipient: its mode (3), the length of its key (7).
 abbrev pub Shared : ℕ → Type 0
-Shared i = (c : Call) → Meets c → get_or (result c) i 0 ≡ get_or (result (call_for 0 c)) i 0
+Shared i = (c : Call) → Meets c → get_or (result_of c) i 0 ≡ get_or (result_of (call_for 0 c)) i 0
 
 pub not_shared : (Shared 3 → ⊥) × (Shared 7 → ⊥)
 not_shared =
@@ -177,7 +177,7 @@ not_shared =
 abbrev pub MadeUp : ℕ → Type 0
 MadeUp i =
     (k : List ℕ → ℕ → ℕ → ℕ → ℕ)
-    × ((c : Call) → Meets c → get_or (result c) i 0 ≡ k c.known c.recipient c.header_lent c.list_lent)
+    × ((c : Call) → Meets c → get_or (result_of c) i 0 ≡ k c.known c.recipient c.header_lent c.list_lent)
 
 made_up : (i : ℕ) (s t : List ℕ) → refusal (ask s 0) ≡ 0 → refusal (ask t 0) ≡ 0 →
     (answered s 0 i ≡ answered t 0 i → ⊥) → MadeUp i → ⊥

@@ -1,16 +1,15 @@
 -- A refusal has one of the numbers that its function can give, and changes nothing (demand 1).
-use mathlib.Core.Path.{◌≡◌, refl, ap, ap₂, sym, subst, ◌∙◌}
-use mathlib.Core.Bool.{Bool, true, false, ◌||◌, ◌&&◌, cond}
+use mathlib.Core.Path.{◌≡◌, refl, ap, ap₂}
+use mathlib.Core.Bool.{Bool, true, false, ◌&&◌, cond}
 use mathlib.Core.Logic.{◌⊎◌, inl, inr, ◌↔◌}
-use mathlib.Core.List.{List, [], ◌∷◌}
-use Prim.Native.Nat.{ℕ, ◌*◌, ◌≤◌, ◌<◌}
+use mathlib.Core.List.{List, []}
+use Prim.Native.Nat.{ℕ, ◌*◌, ◌<◌}
 use native.Mathlib.Omega.{arith}
 use lib.ListN.{length}
-use lib.Dec.{T, eqb, leb}
-use borrow.Author.Tests.{eqb-true, eq-eqb, ne_eqb, leb-false, lt-leb}
+use lib.Dec.{eqb}
+use borrow.Author.Tests.{eqb-true, leb-false, lt-leb}
 use Rattle.prelude.specs.Refusals.{OneOf}
 use Rattle.prelude.specs.Outputs.{octets_written, ChangesNothing}
-use Rattle.prelude.proofs.Numbers.{below}
 use Rattle.prelude.proofs.Refusals.{first_listed}
 use Rattle.prelude.proofs.Outputs.{changes_nothing}
 use Rattle.base64url.specs.Base64url.{decoded}

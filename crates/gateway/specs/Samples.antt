@@ -11,7 +11,7 @@ use Rattle.base64url.specs.Answers.{decode_refusal, decode_buffer}
 use Rattle.grammar.specs.Places.{Place}
 use Rattle.shown.specs.Shown.{component_shown}
 use Rattle.aad.specs.Aad.{aad_text, aad_refusal, aad_buffer}
-use Rattle.jwe.specs.Judge.{call, refused, places_in, result, list_after}
+use Rattle.jwe.specs.Judge.{call, refused, places_in, result_of, list_after}
 
 pub data Question : Type 0 where
   -- How many characters octets make encoded.
@@ -35,13 +35,13 @@ zeros n = replicate n 0
 unfoldable pub read_answer : List ℕ → ℕ → List ℕ
 read_answer message recipient =
     let c = call message (0 ∷ []) recipient header_room list_room in
-    let r = result c in
+    let r = result_of c in
     r ++ take (list_width * get_or r parameters_at 0) (list_after c (zeros list_room))
 
 -- The AAD of the encoded protected header and aad as reading for recipient 0 shows them, into 64 octets.
 unfoldable pub aad_answer : List ℕ → List ℕ
 aad_answer message =
-    let q = places_in (result (call message (0 ∷ []) 0 header_room list_room)) in
+    let q = places_in (result_of (call message (0 ∷ []) 0 header_room list_room)) in
     let shown : Place → List ℕ = λ p. component_shown message p.start p.size in
     let header = shown q.protected in
     let aad = shown q.aad in

@@ -9,7 +9,7 @@ use lib.ListN.{length, drop, length-drop}
 use lib.Dec.{eqb, ltb}
 use borrow.Author.Tests.{ltb-true}
 use Rattle.grammar.specs.Grammar.{quote, digit_zero, is_digit, is_nonzero, is_minus, is_point, is_e, is_plus_minus}
-use Rattle.grammar.specs.Reader.{octet_at, step, pass_over, skip, End, refused, ended, and_then_lem, Scan, between, Turn}
+use Rattle.grammar.specs.Reader.{octet_at, step, pass_over, skip, End, refused, ended, and_then, Scan, between, Turn}
 use Rattle.grammar.specs.Reader.{broken, closed, go_on, turn, scan_string, string_at, digits_at, int_at, perhaps_at}
 use Rattle.grammar.specs.Reader.{fraction_at, exponent_at, number_at, word_at}
 use Rattle.grammar.proofs.Here.{step_inside, class_inside}
@@ -28,10 +28,10 @@ pub ended_wider : (n m at from : ℕ) (x : End) → n ≤ m → at ≤ from → 
 ended_wider n m at from refused g h i = tt
 ended_wider n m at from (ended e) g h i = (omega arith, omega arith)
 
-pub and_then : (n at : ℕ) (x : End) (f : ℕ → End) → Ended n at x → ((e : ℕ) → at < e → e ≤ n → Ended n at (f e)) →
-    Ended n at (and_then_lem x f)
-and_then n at refused f h g = tt
-and_then n at (ended e) f h g = g e h.0 h.1
+pub and_then_lem : (n at : ℕ) (x : End) (f : ℕ → End) → Ended n at x → ((e : ℕ) → at < e → e ≤ n → Ended n at (f e)) →
+    Ended n at (and_then x f)
+and_then_lem n at refused f h g = tt
+and_then_lem n at (ended e) f h g = g e h.0 h.1
 
 -- Runs of octets
 
@@ -143,10 +143,10 @@ module _ (s : List ℕ) where
   unfolding number_at
   number_in_lem at =
       let q = perhaps_at is_minus s at in
-      and_then (length s) at (int_at s q) (λ e. and_then_lem (fraction_at s e) (λ f. exponent_at s f))
+      and_then_lem (length s) at (int_at s q) (λ e. and_then (fraction_at s e) (λ f. exponent_at s f))
       (ended_wider (length s) (length s) at q (int_at s q) (omega arith) (perhaps_on is_minus at) (int_in q))
       (λ e h i.
-      and_then (length s) at (fraction_at s e) (λ f. exponent_at s f) (fraction_in at e h i) (λ f. exponent_in at f))
+      and_then_lem (length s) at (fraction_at s e) (λ f. exponent_at s f) (fraction_in at e h i) (λ f. exponent_in at f))
 
   -- Words
 

@@ -13,7 +13,7 @@ use lib.Dec.{T, eqb}
 use borrow.Author.Tests.{lt-ltb}
 use Rattle.grammar.specs.Grammar.{digit_zero, is_digit, is_nonzero, is_minus, is_point, is_e, is_plus_minus, Octet, Int}
 use Rattle.grammar.specs.Grammar.{int_zero, int, Exponent, Num}
-use Rattle.grammar.specs.Reader.{octet_at, step, pass_over, skip, End, refused, ended, and_then_lem, digits_at, int_at}
+use Rattle.grammar.specs.Reader.{octet_at, step, pass_over, skip, End, refused, ended, and_then, digits_at, int_at}
 use Rattle.grammar.specs.Reader.{perhaps_at, fraction_at, exponent_at, number_at, word_at}
 use Rattle.grammar.proofs.Parse.{At, at, Got, failed, got, then, true→T, scan, run, one, octet, opt, perhaps}
 use Rattle.grammar.proofs.Parse.{word, digits, digits_of, read_int, fraction_after, exponent_after, read_fraction}
@@ -96,9 +96,9 @@ end_of (got a st) = ended st.pos
 
 -- One reader after another, each ending as the parser does.
 pub then_ends : {A B : Type 0} (g : Got A) (f : A → At → Got B) {e : End} (k : ℕ → End) → e ≡ end_of g →
-    ((a : A) (st : At) → g ≡ got a st → k st.pos ≡ end_of (f a st)) → and_then_lem e k ≡ end_of (then g f)
-then_ends failed f k p q = ap (λ z. and_then_lem z k) p
-then_ends (got a st) f k p q = ap (λ z. and_then_lem z k) p ∙ q a st refl
+    ((a : A) (st : At) → g ≡ got a st → k st.pos ≡ end_of (f a st)) → and_then e k ≡ end_of (then g f)
+then_ends failed f k p q = ap (λ z. and_then z k) p
+then_ends (got a st) f k p q = ap (λ z. and_then z k) p ∙ q a st refl
 
 -- What is made of the answer does not change where it ends.
 pub ends_same : {A B : Type 0} (g : Got A) (f : A → B) → end_of g ≡ end_of (then g (λ a st. got (f a) st))
@@ -200,10 +200,10 @@ exponent_ends {s} {n} h =
 pub number_ends : {s : List ℕ} {n : ℕ} {t : List ℕ} → Rest s n t → number_at s n ≡ end_of (read_num n t)
 unfolding number_at read_num perhaps_at
 number_ends {s} {n} {t} h =
-    cond_ap (λ m. and_then_lem (int_at s m) (λ e. and_then_lem (fraction_at s e) (λ f. exponent_at s f)))
+    cond_ap (λ m. and_then (int_at s m) (λ e. and_then (fraction_at s e) (λ f. exponent_at s f)))
     (is_minus (octet_at s n)) (step s n) n
     ∙ opt_ends is_minus parts refl h
-    (λ o t' r. ap (λ m. and_then_lem (int_at s m) (λ e. and_then_lem (fraction_at s e) (λ f. exponent_at s f))) (step_cons r)
+    (λ o t' r. ap (λ m. and_then (int_at s m) (λ e. and_then (fraction_at s e) (λ f. exponent_at s f))) (step_cons r)
     ∙ from_int (some o) (rest_next r))
     (from_int none h)
   where
@@ -215,9 +215,9 @@ number_ends {s} {n} {t} h =
         got (record { negative = m; whole = i; fraction = f; exponent = e }) st₄)))
 
     from_int : (m : Option (Octet is_minus)) {k : ℕ} {u : List ℕ} → Rest s k u →
-        and_then_lem (int_at s k) (λ e. and_then_lem (fraction_at s e) (λ f. exponent_at s f)) ≡ end_of (parts m (at k u))
+        and_then (int_at s k) (λ e. and_then (fraction_at s e) (λ f. exponent_at s f)) ≡ end_of (parts m (at k u))
     from_int m {k} {u} r =
-        then_ends (read_int k u) _ (λ e. and_then_lem (fraction_at s e) (λ f. exponent_at s f)) (int_ends r) (λ i st₂ q.
+        then_ends (read_int k u) _ (λ e. and_then (fraction_at s e) (λ f. exponent_at s f)) (int_ends r) (λ i st₂ q.
         let r₂ = stays r (int_sound k u q) in
         then_ends (read_fraction st₂.pos st₂.rest) _ (λ f. exponent_at s f) (fraction_ends r₂) (λ f st₃ q₃.
         let r₃ = stays r₂ (fraction_sound st₂.pos st₂.rest q₃) in

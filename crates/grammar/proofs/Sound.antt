@@ -13,7 +13,7 @@ use Rattle.grammar.specs.Places.{levels, levels_entries, kind_literal, leading, 
 use Rattle.grammar.specs.Places.{done, placed, emptied_label, emptied}
 use Rattle.grammar.specs.Strings.{every_label, every, every_entries}
 use Rattle.grammar.proofs.Parse.{At, at, Got, failed, got, then, true→T, scan, run, word, read_string, Node}
-use Rattle.grammar.proofs.Parse.{Inside, Head, leaf, inside_last, inside_more, go_on_lem, read_label, start}
+use Rattle.grammar.proofs.Parse.{Inside, Head, leaf, inside_last, inside_more, go_on_lem, read_label}
 use Rattle.grammar.proofs.Scan.{no_got, got_val, got_at, then_inv, Spelled, spelled_then, spelled_nothing}
 use Rattle.grammar.proofs.Scan.{scanned, word_inv}
 use Rattle.grammar.proofs.Complete.{node, inside, head, place_path}

@@ -40,9 +40,9 @@ pub data End : Type 0 where
   ended : ℕ → End
 
 -- One part after another.
-abbrev pub and_then_lem : End → (ℕ → End) → End
-and_then_lem refused f = refused
-and_then_lem (ended e) f = f e
+abbrev pub and_then : End → (ℕ → End) → End
+and_then refused f = refused
+and_then (ended e) f = f e
 
 -- Strings (section 7), octet by octet, with the rule on \u
 
@@ -121,7 +121,7 @@ exponent_at s at = cond (is_e (octet_at s at)) (digits_at is_digit s (perhaps_at
 -- A number that begins here: [ minus ] int [ frac ] [ exp ].
 unfoldable pub number_at : List ℕ → ℕ → End
 number_at s at =
-    and_then_lem (int_at s (perhaps_at is_minus s at)) (λ e. and_then_lem (fraction_at s e) (λ f. exponent_at s f))
+    and_then (int_at s (perhaps_at is_minus s at)) (λ e. and_then (fraction_at s e) (λ f. exponent_at s f))
 
 -- Words: the octets of w, one after the other.
 unfoldable pub word_at : List ℕ → List ℕ → ℕ → End

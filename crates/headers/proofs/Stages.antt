@@ -1,5 +1,5 @@
 -- For callers of a stage, and of the rules on a recipient: what the answer tells of the refusals, and that their numbers
--- are none of them 0, so that orders can be put one behind the other (jose's `first-append`).
+-- are none of them 0, so that orders can be put one behind the other (jose's `first_append`).
 use mathlib.Core.Path.{◌≡◌, refl, ap, sym, ◌∙◌}
 use mathlib.Core.Bool.{Bool, true, false, cond}
 use mathlib.Core.List.{List, ◌++◌}

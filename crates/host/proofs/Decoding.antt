@@ -6,7 +6,7 @@ use mathlib.Core.List.{List, [], ◌∷◌}
 use Prim.Native.Nat.{ℕ, zero, suc, ◌≤◌}
 use native.Mathlib.Omega.{arith}
 use lib.ListN.{length, get_or}
-use lib.Dec.{eqb, ltb}
+use lib.Dec.{ltb}
 use borrow.Author.Tests.{eq-eqb, ne_eqb}
 use Rattle.prelude.specs.Refusals.{first}
 use Rattle.prelude.specs.Outputs.{Writes}
@@ -14,12 +14,11 @@ use Rattle.prelude.proofs.Outputs.{writes_refused}
 use Rattle.base64url.specs.Base64url.{decoded}
 use Rattle.base64url.specs.Fault.{first_outside, spare_bits, fault}
 use Rattle.base64url.specs.Answers.{of_fault, decode_order, decode_refusal}
-use Rattle.parts.specs.Parts.{part}
 use Rattle.parts.proofs.Laws.{part_fits}
 use Rattle.grammar.specs.Bounds.{Every}
 use Rattle.grammar.specs.Places.{Place}
 use Rattle.headers.specs.Components.{misspelled, octets_at, absent, Components, places}
-use Rattle.jwe.specs.Judge.{Call, refusal, refused, Outcome, outcome, accepted, result}
+use Rattle.jwe.specs.Judge.{Call, refusal, refused, Outcome, outcome, accepted, result_of}
 use Rattle.headers.specs.Answers.{components_of}
 use Rattle.jwe.specs.Answers.{numbers}
 use Rattle.jwe.specs.declared.Result.{Result}
@@ -111,9 +110,9 @@ module _ (c : Call) (n : ℕ) where
       (ap decoded t) w
 
   -- the components that the reader's result has
-  pub components_are : (r : Result) → numbers r ≡ result c → number ≡ 0 →
+  pub components_are : (r : Result) → numbers r ≡ result_of c → number ≡ 0 →
       components_of r.components ≡ (outcome c.message c.recipient).components
-  unfolding accepted result
+  unfolding accepted result_of
   components_are r e z =
       let x = accepted c.message handed in
       let is : numbers r ≡ x = e ∙ ap (λ (b : Bool). cond b x (refused number)) (eq-eqb number 0 z) in

@@ -9,7 +9,7 @@ use lib.Dec.{eqb}
 use borrow.Author.Tests.{lt-ltb, le-ltb, eq-eqb, ne_eqb, eqb-true}
 use Rattle.prelude.specs.Buffer.{AllBelow, written}
 use Rattle.grammar.proofs.Endings.{either}
-use Rattle.jwe.specs.Judge.{Call, refusal, accepted, refused, result, header_after, list_after}
+use Rattle.jwe.specs.Judge.{Call, refusal, accepted, refused, result_of, header_after, list_after}
 use Rattle.jwe.specs.Answers.{numbers}
 use Rattle.jwe.specs.declared.Result.{Result}
 use Rattle.jwe.proofs.Small.{limit, result_small}
@@ -17,8 +17,8 @@ use Rattle.prelude.specs.Result.{result_room}
 use Rattle.host.specs.Read.{read_refusal, read_header, read_list, read_result}
 
 -- The result begins with the refusal's number.
-pub number_first : (c : Call) (r : Result) → numbers r ≡ result c → r.number ≡ refusal c
-unfolding result accepted refused
+pub number_first : (c : Call) (r : Result) → numbers r ≡ result_of c → r.number ≡ refusal c
+unfolding result_of accepted refused
 number_first c r e =
     let n = refusal c in
     ap (λ (l : List ℕ). get_or l 0 0) e
@@ -29,7 +29,7 @@ module _ (c : Call) (header list buffer : List ℕ) where
   first = refusal c
 
   abbrev told : List ℕ
-  told = result c
+  told = result_of c
 
   abbrev after : List ℕ
   after = header_after c header

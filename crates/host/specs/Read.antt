@@ -2,7 +2,7 @@
 use Rattle.std.specs.Prelude.{List, cond, ℕ, length, ltb}
 use Rattle.prelude.specs.Outputs.{output_after}
 use Rattle.prelude.specs.Result.{result_room}
-use Rattle.jwe.specs.Judge.{Call, refusal, result, header_after, list_after}
+use Rattle.jwe.specs.Judge.{Call, refusal, result_of, header_after, list_after}
 
 -- The refusal, of the call and how many numbers were lent for the result: too few is 1, as it is for the header and the list.
 unfoldable pub read_refusal : Call → ℕ → ℕ
@@ -18,4 +18,4 @@ read_list c resultLent before = cond (ltb resultLent result_room) before (list_a
 
 -- Accepted, the buffer begins with the numbers of the result; refused, it is unchanged.
 unfoldable pub read_result : Call → List ℕ → List ℕ
-read_result c before = output_after (read_refusal c (length before)) (result c) before
+read_result c before = output_after (read_refusal c (length before)) (result_of c) before

@@ -2,7 +2,7 @@
 -- name and of its value, and of a protected `crit` the octets of its elements; and on the sizes. Outside protection the elements of
 -- `crit` do not matter: 16 refuses it before 17 asks them.
 use mathlib.Core.Path.{◌≡◌, refl, ap, ap₂, sym, ◌∙◌}
-use mathlib.Core.Bool.{Bool, true, false, not, ◌&&◌, ◌||◌, cond, true≢false}
+use mathlib.Core.Bool.{Bool, true, false, not, ◌&&◌, ◌||◌, true≢false}
 use mathlib.Core.List.{List, [], ◌∷◌, ◌++◌, map}
 use Prim.Native.Nat.{ℕ}
 use lib.Dec.{eqb}
@@ -14,10 +14,10 @@ use Rattle.grammar.specs.Spellings.{alike}
 use Rattle.prelude.specs.Any.{any, any_pair}
 use Rattle.prelude.specs.Refusals.{Test, ◌if◌, first}
 use Rattle.rows.specs.Rows.{Entry, Texts, text_of, name_in, value_in, name_says, numbered, present, apart, same, repeated}
-use Rattle.algorithms.specs.Algorithms.{algs, alg_names, enc_names, zip_names, nth, mode_of}
+use Rattle.algorithms.specs.Algorithms.{alg_names, enc_names, zip_names}
 use Rattle.jose.specs.Registered.{registered, alg, enc, zip, crit, string, any_kind, kind_asked}
-use Rattle.jose.specs.HeaderRules.{levels, incomplete, wrong_kind, unlisted, unprotected, spelled_element, unknown}
-use Rattle.jose.specs.HeaderRules.{same_element, misplaced, is_empty, wrong_crit, critical, wrong_key, mode_in, breaks}
+use Rattle.jose.specs.HeaderRules.{levels, incomplete, wrong_kind, unlisted, unprotected, spelled_element}
+use Rattle.jose.specs.HeaderRules.{is_empty, wrong_crit, critical, wrong_key, mode_in, breaks}
 use Rattle.jose.specs.HeaderRules.{tests_of, rules_order, recipient_rules, recipient_order}
 use Rattle.jose.specs.declared.Sizes.{Sizes}
 

@@ -1,11 +1,11 @@
 -- Rules asked in order: what is known of the first that is broken once those before a place have passed.
 use mathlib.Core.Path.{◌≡◌, refl, ap, sym, ◌∙◌}
 use mathlib.Core.Bool.{Bool, true, false, cond, true≢false}
-use mathlib.Core.List.{List, [], ◌∷◌}
+use mathlib.Core.List.{List, ◌∷◌}
 use Prim.Native.Nat.{ℕ, ◌+◌, ◌≤◌, ◌<◌}
 use lib.ListN.{length, drop, get_or, drop_of_length-le}
-use borrow.Author.Tests.{eq-eqb, ne_eqb}
-use Rattle.prelude.specs.Refusals.{Test, ◌if◌, first, stage_of}
+use borrow.Author.Tests.{ne_eqb}
+use Rattle.prelude.specs.Refusals.{◌if◌, first, stage_of}
 use Rattle.prelude.specs.declared.Stage.TheVariants.{Passed, Refused}
 use Rattle.prelude.proofs.Lists.{drop_next}
 use Rattle.prelude.proofs.Refusals.{first_fails, first_passes}

@@ -1,5 +1,5 @@
 -- The registered names by their numbers, and the kinds that the rules ask for.
-use Rattle.std.specs.Prelude.{Bool, not, ◌&&◌, ◌||◌, cond, ℕ, eqb, leb}
+use Rattle.std.specs.Prelude.{◌&&◌, ◌||◌, cond, ℕ, eqb, leb}
 unfoldable pub use Rattle.names.specs.Registered.{registered}
 
 -- The numbers of those that the rules name, counted from 1; zip is the compression parameter of section 4.1.3.

@@ -12,7 +12,7 @@ use Rattle.prelude.specs.Buffer.{AllBelow}
 use Rattle.grammar.specs.Bounds.{Every}
 use Rattle.grammar.specs.Places.{Place, placed, start_of, kind_of}
 use Rattle.names.specs.Names.{number_in}
-use Rattle.rows.specs.Rows.{value_of, numbered}
+use Rattle.rows.specs.Rows.{value_of}
 use Rattle.shape.specs.Shape as shape
 use Rattle.shape.specs.Shape.{member_names, wrong_member, wrong_header, wrong_component, wrong_in_element}
 use Rattle.json_text.proofs.Embedded.{Stands}

@@ -2,7 +2,7 @@
 -- knows that what opens in it reads.
 use mathlib.Core.Path.{◌≡◌, refl, ap, sym, subst, subst₂, ◌∙◌}
 use mathlib.Core.Bool.{Bool, true, false, ◌&&◌, cond}
-use mathlib.Core.List.{List, [], ◌∷◌}
+use mathlib.Core.List.{List}
 use mathlib.Core.Option.{Option, none, some}
 use Prim.Native.Nat.{ℕ, zero, suc, ◌-◌, ◌<◌}
 use native.Mathlib.Omega.{arith}
@@ -13,7 +13,7 @@ use Rattle.grammar.specs.Grammar.{quote, comma, letter_t, letter_f, letter_n, li
 use Rattle.grammar.specs.Grammar.{letters, Bracket, curly, square, opening, closing}
 use Rattle.grammar.specs.Places.{kind_nested}
 use Rattle.grammar.specs.Reader.{octet_at, step, skip_space, End, refused, ended, string_at, number_at, word_at, Answer}
-use Rattle.grammar.specs.Reader.{nothing, found, of_kind, Before, before_at, Entry, entry_of, value_after, entry_at, close_or}
+use Rattle.grammar.specs.Reader.{nothing, found, of_kind, Before, before_at, entry_of, value_after, entry_at, close_or}
 use Rattle.grammar.specs.Reader.{after_entry, entries_at, nested_at, is_number_start, value_with, value_at, nested_within}
 use Rattle.grammar.specs.Reader.{wholly, read_text}
 use Rattle.grammar.specs.Utf8.{utf8}

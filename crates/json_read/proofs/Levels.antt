@@ -1,5 +1,5 @@
 -- More levels change no answer of the reader of values: by induction on levels and turns.
-use mathlib.Core.Path.{◌≡◌, refl, ap, sym, subst, ◌∙◌}
+use mathlib.Core.Path.{◌≡◌, refl, sym, subst}
 use mathlib.Core.Bool.{Bool, true, false, cond}
 use mathlib.Core.List.{List}
 use mathlib.Core.Option.{Option, none, some}
@@ -8,10 +8,10 @@ use native.Mathlib.Nat.{not-suc-le-zero, le_of_suc-le-suc}
 use native.Mathlib.Omega.{arith}
 use lib.ListN.{length}
 use lib.Dec.{eqb}
-use Rattle.grammar.specs.Grammar.{quote, comma, letter_t, letter_f, letter_n, literal-true, literal-false, literal-null}
-use Rattle.grammar.specs.Grammar.{letters, Bracket, curly, square, opening, closing}
-use Rattle.grammar.specs.Reader.{octet_at, step, skip_space, string_at, number_at, word_at, Answer, nothing, found, of_kind}
-use Rattle.grammar.specs.Reader.{Before, before_at, value_after, entry_at, after_entry, entries_at, nested_at, is_number_start}
+use Rattle.grammar.specs.Grammar.{comma}
+use Rattle.grammar.specs.Grammar.{Bracket, curly, square, opening, closing}
+use Rattle.grammar.specs.Reader.{octet_at, step, skip_space, Answer, nothing, found}
+use Rattle.grammar.specs.Reader.{Before, before_at, value_after, entry_at, after_entry, entries_at, nested_at}
 use Rattle.grammar.specs.Reader.{value_with, value_at}
 
 pub not_found : {e k : ℕ} → nothing ≡ found e k → ⊥

@@ -2,13 +2,13 @@
 use mathlib.Core.Path.{◌≡◌, refl, ap, ap₂, sym, ◌∙◌}
 use mathlib.Core.Bool.{Bool, true, false, cond}
 use mathlib.Core.List.{List}
-use Prim.Native.Nat.{ℕ, ◌+◌, ◌-◌, ◌<◌}
+use Prim.Native.Nat.{ℕ, ◌-◌, ◌<◌}
 use native.Mathlib.Omega.{arith}
 use lib.ListN.{length}
 use lib.Dec.{eqb}
 use borrow.Author.Tests.{eq-eqb, ne_eqb}
 use Rattle.grammar.specs.Grammar.{quote, comma}
-use Rattle.grammar.specs.Reader.{End, refused, ended, found, octet_at, step, skip_space, between, string_at, entry_of}
+use Rattle.grammar.specs.Reader.{refused, ended, found, octet_at, step, skip_space, between, string_at, entry_of}
 use Rattle.json_read.specs.Members.{next_from, member_of}
 use Rattle.json_read.specs.declared.Position.{Position}
 use Rattle.json_read.specs.declared.member.Member.TheVariants.{Here}

@@ -1,16 +1,16 @@
 -- The rows of an object or an array, by reading one entry after the other until none begins.
-use mathlib.Core.Path.{◌≡◌, refl, ap, ap₂, sym, subst, ◌∙◌}
+use mathlib.Core.Path.{◌≡◌, refl, ap, sym, ◌∙◌}
 use mathlib.Core.Bool.{Bool, true, false, cond}
 use mathlib.Core.List.{List, [], ◌∷◌}
 use mathlib.Core.Option.{Option, none, some}
-use Prim.Native.Nat.{ℕ, zero, suc, ◌+◌, ◌-◌, ◌≤◌, ◌<◌}
+use Prim.Native.Nat.{ℕ, zero, suc, ◌-◌, ◌≤◌, ◌<◌}
 use native.Mathlib.Omega.{arith}
 use lib.ListN.{length}
 use lib.Dec.{eqb}
 use borrow.Author.Tests.{eqb-true}
 use Rattle.grammar.specs.Grammar.{Bracket, curly, square, comma, closing}
 use Rattle.grammar.specs.Places as places
-use Rattle.grammar.specs.Reader.{Answer, nothing, refused, octet_at, step, skip_space, string_at, Entry, entry_of}
+use Rattle.grammar.specs.Reader.{Answer, octet_at, step, skip_space, Entry, entry_of}
 use Rattle.grammar.specs.Reader.{entry_at, before_at, rows_after, rows_at, rows_in, value_with, value_at, nested_within}
 use Rattle.grammar.specs.Reader.{members_at, elements_of, elements_at}
 use Rattle.json_read.specs.Members.{next_from, row_of, member_of, numbers, five_of}

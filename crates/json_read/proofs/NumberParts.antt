@@ -1,12 +1,12 @@
 -- Parts of a number as the code reads them, one test or one call after the other.
-use mathlib.Core.Path.{◌≡◌, refl, ap, sym, subst, ◌∙◌}
+use mathlib.Core.Path.{◌≡◌, refl, ap, sym, ◌∙◌}
 use mathlib.Core.Bool.{Bool, true, false, ◌||◌, cond}
 use mathlib.Core.List.{List}
 use Prim.Native.Nat.{ℕ}
 use native.Mathlib.Omega.{arith}
 use lib.Dec.{eqb}
 use Rattle.grammar.specs.Grammar.{is_digit, is_nonzero, is_minus, is_point, is_e, is_plus_minus}
-use Rattle.grammar.specs.Reader.{End, refused, ended, and_then_lem, octet_at, step, skip, perhaps_at, digits_at, int_at}
+use Rattle.grammar.specs.Reader.{End, refused, ended, and_then, octet_at, step, skip, perhaps_at, digits_at, int_at}
 use Rattle.grammar.specs.Reader.{fraction_at, exponent_at, number_at}
 use Rattle.json_read.specs.Inner.Ends.{ends_of}
 use Rattle.json_read.specs.declared.Position.{Position}
@@ -80,7 +80,7 @@ module _ (s : List ℕ) (at : ℕ) where
 
   -- a number, by where its parts end
   number_from : End → End
-  number_from x = and_then_lem x (λ e. and_then_lem (fraction_at s e) (λ f. exponent_at s f))
+  number_from x = and_then x (λ e. and_then (fraction_at s e) (λ f. exponent_at s f))
 
   module _ (m : ℕ) (minus : m ≡ perhaps_at is_minus s at) where
     whole : (x : End) → int_at s m ≡ x → number_at s at ≡ number_from x
@@ -95,9 +95,9 @@ module _ (s : List ℕ) (at : ℕ) where
       pub number_no_fraction : fraction_at s n ≡ refused → Refused ≡ ends_of (number_at s at)
       unfolding number_from
       number_no_fraction e =
-          sym (ap ends_of (whole (ended n) int ∙ ap (λ (x : End). and_then_lem x (λ f. exponent_at s f)) e))
+          sym (ap ends_of (whole (ended n) int ∙ ap (λ (x : End). and_then x (λ f. exponent_at s f)) e))
 
       pub number_exponent : (k : ℕ) → fraction_at s n ≡ ended k → ends_of (exponent_at s k) ≡ ends_of (number_at s at)
       unfolding number_from
       number_exponent k e =
-          sym (ap ends_of (whole (ended n) int ∙ ap (λ (x : End). and_then_lem x (λ f. exponent_at s f)) e))
+          sym (ap ends_of (whole (ended n) int ∙ ap (λ (x : End). and_then x (λ f. exponent_at s f)) e))

@@ -1,13 +1,13 @@
 -- The value of every row that the reader collects reads, as it is made only of one that was found; so in a row that is
 -- an object or an array, what opens reads.
-use mathlib.Core.Path.{◌≡◌, refl, sym, subst}
+use mathlib.Core.Path.{◌≡◌, refl}
 use mathlib.Core.List.{List, [], ◌∷◌}
 use mathlib.Core.Option.{Option, none, some}
 use Prim.Native.Nat.{ℕ, zero, suc}
 use lib.ListN.{length}
 use lib.Dec.{eqb}
 use Rattle.grammar.specs.Grammar.{comma, closing, Bracket, curly, square}
-use Rattle.grammar.specs.Places.{kind_nested, Place, Member, Element}
+use Rattle.grammar.specs.Places.{kind_nested, Place, Member}
 use Rattle.grammar.specs.Bounds.{Every}
 use Rattle.grammar.specs.Reader.{octet_at, step, skip_space, Answer, nothing, found, Before, before_at, Entry, entry_of}
 use Rattle.grammar.specs.Reader.{value_after, entry_at, rows_after, rows_at, rows_in, value_at, members_at, elements_of}

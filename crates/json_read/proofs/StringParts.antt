@@ -1,14 +1,14 @@
 -- Strings as the code reads them: the octet at a position moves the scan on, and a run of octets that stand for themselves
 -- moves it to the run's end.
 use mathlib.Core.Path.{◌≡◌, refl, ap, ap₂, sym, subst, ◌∙◌}
-use mathlib.Core.Bool.{Bool, true, false, not, ◌&&◌, ◌||◌, beq, true≢false, cond}
+use mathlib.Core.Bool.{Bool, true, false, not, ◌||◌, beq, true≢false, cond}
 use mathlib.Core.List.{List, [], ◌∷◌}
 use Prim.Native.Nat.{ℕ, zero, suc, ◌+◌, ◌-◌, ◌*◌, ◌≤◌, ◌<◌}
 use native.Mathlib.Omega.{arith}
 use lib.ListN.{length, take, drop, get_or, drop_of_length-le, length-take, length-drop}
 use lib.Seq.{get_or-take, get_or-drop}
 use lib.Dec.{T, eqb, leb, ltb}
-use borrow.Author.Tests.{lt-ltb, le-ltb, ltb-true, ltb-false, leb-true, eqb-true, eq-eqb, ne_eqb}
+use borrow.Author.Tests.{ltb-true, ltb-false, leb-true, eqb-true, eq-eqb, ne_eqb}
 use Rattle.prelude.proofs.Lists.{drop_next}
 use Rattle.prelude.proofs.Numbers.{below}
 use Rattle.grammar.specs.Grammar.{quote, backslash, letter_u, among, is_digit, is_unescaped, is_escape, is_hex}
@@ -16,13 +16,12 @@ use Rattle.grammar.specs.Strings.{hex_digit, hex_more, is_high, is_low}
 use Rattle.grammar.specs.Reader.{End, refused, ended, Scan, between, escaping, digit, Turn, broken, closed, go_on}
 use Rattle.grammar.specs.Reader.{octet_at, step, skip, pass_over, turn, after_unit, after_char, scan_string, string_at}
 use Rattle.json_read.specs.Inner.Ends.{hex_at, resumed, Beyond, escape_of, Plain}
-use Rattle.json_read.specs.declared.string.Hex.{Hex}
 use Rattle.json_read.specs.declared.string.Escape.{Escape}
 use Rattle.json_read.specs.declared.string.Escape.TheVariants.{Next, Wrong}
 use Rattle.json_read.specs.declared.string.Hex.TheVariants.{More, Wrong as NoHex}
 use Rattle.json_read.specs.declared.Position.{Position}
 use Rattle.grammar.proofs.Scan.{T→true, all, among_all}
-use Rattle.grammar.proofs.Here.{octet_here, octet_end, step_inside, step_end, class_inside, skip_end, skip_next, skip_stop}
+use Rattle.grammar.proofs.Here.{octet_here, octet_end, step_inside, class_inside, skip_end, skip_next, skip_stop}
 
 -- What is left after a turn that ends before position p.
 unfoldable pub resume : List ℕ → ℕ → Turn → End

@@ -1,12 +1,10 @@
 -- The code's answers for members and elements.
-use Rattle.std.specs.Prelude.{ℕ, ◌*◌, Bool, cond, List, [], ◌∷◌, ◌++◌, length, eqb, leb}
+use Rattle.std.specs.Prelude.{ℕ, ◌*◌, cond, List, [], ◌∷◌, ◌++◌, length, eqb, leb}
 use Rattle.std.proofs.Math.Option.{Option, none, some}
 use Rattle.prelude.specs.Limits.{most_members}
 use Rattle.grammar.specs.Grammar.{comma}
 use Rattle.grammar.specs.Places as places
 use Rattle.grammar.specs.Reader.{octet_at, step, skip_space, Entry}
-use Rattle.json_read.specs.declared.Position.{Position}
-use Rattle.prelude.specs.declared.Place.{Place}
 use Rattle.json_read.specs.declared.member.Row.{Row}
 use Rattle.json_read.specs.declared.member.Member.{Member}
 use Rattle.json_read.specs.declared.member.Member.TheVariants.{Here, End}

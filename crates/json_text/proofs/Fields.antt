@@ -224,7 +224,7 @@ fields_stand {s} {n} (f ∷ g ∷ gs) b t h =
     let r₁ = rest_next (rest_along (field_text f) r) in
     let k : suc (n + length (field_text f)) ≡ behind_field n f = omega (arith, field_length f) in (
       field_stands f _ tt r,
-      fields_stand (g ∷ gs) b t (subst (λ z. Rest s z (joined (map field_text (g ∷ gs)) ++ b)) k r₁),
+      fields_stand {n = behind_field n f} (g ∷ gs) b t (subst (λ z. Rest s z (joined (map field_text (g ∷ gs)) ++ b)) k r₁),
     )
 
 elements_stand : {s : List ℕ} {n : ℕ} (xs : List Element) (b : List ℕ) → T (halts is_number_lem b) →
@@ -238,7 +238,7 @@ elements_stand {s} {n} (x ∷ y ∷ ys) b t h =
     let r₁ = rest_next (rest_along x.text r) in
     let k : suc (n + length x.text) ≡ n + length x.text + 1 = omega arith in (
       record { after = _; is = r.is; ends = tt },
-      elements_stand (y ∷ ys) b t (subst (λ z. Rest s z (joined (map (λ (x : Element). x.text) (y ∷ ys)) ++ b)) k r₁),
+      elements_stand {n = n + length x.text + 1} (y ∷ ys) b t (subst (λ z. Rest s z (joined (map (λ (x : Element). x.text) (y ∷ ys)) ++ b)) k r₁),
     )
 
 pub object_fields : {s : List ℕ} {m : ℕ} (fs : List Field) → Stands s m (object_text fs) → FieldsStand s (m + 1) fs

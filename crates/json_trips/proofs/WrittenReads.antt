@@ -15,7 +15,7 @@ use Rattle.prelude.proofs.Writing.{begins}
 use Rattle.grammar.specs.Bounds.{Every}
 use Rattle.rows.specs.Rows.{Entry}
 use Rattle.rows.specs.Tables.{listed}
-use Rattle.jwe.specs.Judge.{Call, call, Outcome, refusal, refused, outcome, accepted, places_in, result, header_after}
+use Rattle.jwe.specs.Judge.{Call, call, Outcome, refusal, refused, outcome, accepted, places_in, result_of, header_after}
 use Rattle.jwe.specs.Judge.{list_after}
 use Rattle.recipients.specs.Table.{RawRecipient}
 use Rattle.recipients.specs.Parsed.{said_count, recipients_in}
@@ -73,12 +73,12 @@ module _ (general : Bool) (c : RawJson) (known out buffer list : List ℕ) (o : 
   abbrev x : Outcome
   x = outcome message n
 
-  result_is : result reading ≡ accepted message x
-  unfolding result
+  result_is : result_of reading ≡ accepted message x
+  unfolding result_of
   result_is = ap (λ (b : Bool). cond b (accepted message x) (refused (refusal reading))) passes
 
   -- Everything that is said of the numbers of the result holds where it holds of what is handed out.
-  by_result : (P : List ℕ → Type 0) → P (accepted message x) → P (result reading)
+  by_result : (P : List ℕ → Type 0) → P (accepted message x) → P (result_of reading)
   by_result P p = subst P (sym result_is) p
 
   components_back : JsonComeBack message x.components c r

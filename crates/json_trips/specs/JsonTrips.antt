@@ -13,7 +13,7 @@ use Rattle.headers.specs.Components.{octets_at, Components, flattened_form, gene
 use Rattle.headers.specs.Headers.{protected_entries}
 use Rattle.shape.specs.Shape as shape
 use Rattle.shape.specs.Recipients.{top_entries}
-use Rattle.jwe.specs.Judge.{Call, call, places_in, result, header_after, list_after}
+use Rattle.jwe.specs.Judge.{Call, call, places_in, result_of, header_after, list_after}
 use Rattle.recipients.specs.Table.{RawRecipient, Sound}
 use Rattle.recipients.specs.Parsed.{said_count, recipients_in}
 use Rattle.json_message.specs.WriteOrder.{most_for}
@@ -80,19 +80,19 @@ pub record TextsComeBack (c : RawJson) (n : ℕ) (r : RawRecipient) (reading : C
       octets_at reading.message (value_of shape.header (numbered_list (member_lists reading.message) n))
       ≡ trimmed r.header
   pub list_left : list_after reading list ≡ written 0 (listed (given_rows c r shared_from own_from)) list
-  pub parameters : get_or (result reading) parameters_at 0 ≡ length (given_rows c r shared_from own_from)
+  pub parameters : get_or (result_of reading) parameters_at 0 ≡ length (given_rows c r shared_from own_from)
 
 -- A message that was written reads back for its n-th recipient: it is accepted in the form that was asked and with as many
 -- recipients as were given, the header buffer begins with the protected header that was given, its rest unchanged, and the
 -- texts and the components come back at the places that the result has.
 pub record JsonReadsBack (general : Bool) (c : RawJson) (n : ℕ) (reading : Call) (buffer list : List ℕ) : Type 0 where
-  pub accepted : get_or (result reading) number_at 0 ≡ 0
-  pub form : get_or (result reading) form_at 0 ≡ cond general general_form flattened_form
-  pub count : get_or (result reading) recipients_at 0 ≡ said_count c.recipients
+  pub accepted : get_or (result_of reading) number_at 0 ≡ 0
+  pub form : get_or (result_of reading) form_at 0 ≡ cond general general_form flattened_form
+  pub count : get_or (result_of reading) recipients_at 0 ≡ said_count c.recipients
   pub header_left : header_after reading buffer ≡ written 0 c.protected buffer
-  pub header_size : get_or (result reading) header_at 0 ≡ length c.protected
+  pub header_size : get_or (result_of reading) header_at 0 ≡ length c.protected
   pub texts : TextsComeBack c n (given_recipient c n) reading list
-  pub components : JsonComeBack reading.message (places_in (result reading)) c (given_recipient c n)
+  pub components : JsonComeBack reading.message (places_in (result_of reading)) c (given_recipient c n)
 
 -- When the writer refuses nothing
 

@@ -7,7 +7,6 @@ use native.Mathlib.Omega.{arith}
 use lib.ListN.{length}
 use lib.Dec.{ltb}
 use borrow.Author.Tests.{lt-ltb, le-ltb}
-use Rattle.prelude.specs.Any.{any}
 use Rattle.prelude.specs.Buffer.{written}
 use Rattle.prelude.specs.Limits.{longest, levels}
 use Rattle.prelude.specs.Refusals.{Test, ◌if◌, first, stage_of}
@@ -24,7 +23,7 @@ use Rattle.recipients.specs.Table.{RawRecipient}
 use Rattle.recipients.specs.Parsed.{said_count, recipients_in, sound_table}
 use Rattle.recipients.proofs.Places.{recipients_count, sound_some}
 use Rattle.json_message.specs.Handed.{text_entries, MessageOctets}
-use Rattle.json_message.specs.WriteOrder.{most_for, unread_alone, message_order}
+use Rattle.json_message.specs.WriteOrder.{most_for, unread_alone}
 use Rattle.json_message.specs.JsonWrite.{RawJson, message_of, written_text, wrong_table, json_write_order, json_write_refusal}
 use Rattle.json_message.specs.Inner.Judged.{shared_levels, own_levels}
 use Rattle.json_message.specs.Inner.PiecesOrder.{unread_inside, hollow_inside, objects_order, rules_of, content_test}

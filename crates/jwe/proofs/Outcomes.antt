@@ -1,7 +1,7 @@
 -- What is handed out, form by form.
-use mathlib.Core.Path.{◌≡◌, ap, sym, subst, ◌∙◌}
+use mathlib.Core.Path.{◌≡◌, ap, sym, subst}
 use mathlib.Core.Bool.{Bool, true, false, cond}
-use mathlib.Core.List.{List, [], ◌++◌, append-nil, append_assoc}
+use mathlib.Core.List.{List, append-nil, append_assoc}
 use Prim.Native.Nat.{ℕ}
 use lib.ListN.{length}
 use Rattle.grammar.specs.Reader.{opens_object}
@@ -11,7 +11,7 @@ use Rattle.headers.specs.Headers.{header_text, protected_entries}
 use Rattle.shape.specs.Recipients.{top_of, top_entries, recipients_in, components_in}
 use Rattle.jwe.specs.Compact.{compact_components}
 use Rattle.jwe.specs.General.{shared_entries, own_entries, parameters}
-use Rattle.jwe.specs.Judge.{Held, compact_held, json_held, held, Outcome, outcome_for, asked, outcome}
+use Rattle.jwe.specs.Judge.{compact_held, json_held, held, Outcome, outcome_for, asked, outcome}
 use Rattle.jwe.specs.Inner.Outcomes.{compact_outcome, outcome_of, json_outcome}
 
 module _ (message : List ℕ) (n : ℕ) where

@@ -1,16 +1,15 @@
 -- What `read` answers: 1 to 3, then what judging answers, and what the lent outputs hold afterwards.
-use mathlib.Core.Path.{◌≡◌, refl, ap, ap₂, sym, subst, ◌∙◌}
+use mathlib.Core.Path.{◌≡◌, ap, ap₂, sym, subst, ◌∙◌}
 use mathlib.Core.Bool.{Bool, true, false, not, ◌||◌, cond}
-use mathlib.Core.List.{List, [], ◌∷◌}
+use mathlib.Core.List.{List}
 use Prim.Native.Nat.{ℕ, ◌*◌, ◌≤◌, ◌<◌}
 use native.Mathlib.Omega.{arith}
 use lib.ListN.{length, take, get_or, length-take}
-use lib.Dec.{eqb, ltb}
+use lib.Dec.{ltb}
 use borrow.Author.Tests.{lt-ltb, le-ltb, eq-eqb, ne_eqb}
 use Rattle.prelude.specs.Buffer.{written}
 use Rattle.names.specs.Names.{names, sound}
 use Rattle.grammar.specs.Reader.{opens_object}
-use Rattle.rows.specs.Rows.{Entry}
 use Rattle.rows.specs.Tables.{listed, entries_of, width}
 use Rattle.prelude.specs.Refusals.{Test, ◌if◌, first}
 use Rattle.prelude.proofs.Refusals.{first_fails, first_passes}
@@ -19,7 +18,7 @@ use Rattle.jwe.specs.Compact.{compact_order}
 use Rattle.jwe.specs.General.{json_order}
 use Rattle.jwe.specs.Judge.{Call, Outcome, order, refusal, outcome, accepted, refused}
 use Rattle.jwe.specs.Inner.Outcomes.{compact_outcome, json_outcome}
-use Rattle.jwe.specs.Judge.{result, header_after, list_after}
+use Rattle.jwe.specs.Judge.{result_of, header_after, list_after}
 use Rattle.jwe.specs.Answers.{numbers}
 use Rattle.jwe.specs.Inner.Stages.{table_room, Judges}
 use Rattle.jwe.specs.declared.Result.{Result}
@@ -91,13 +90,13 @@ module _ (c : Call) where
 module _ (c : Call) (header list : List ℕ) where
   -- the three promises, of an answer and of what the outputs hold then
   abbrev pub Answers : Result → List ℕ → List ℕ → Type 0
-  Answers r header' list' = (numbers r ≡ result c) × ((header' ≡ header_after c header) × (list' ≡ list_after c list))
+  Answers r header' list' = (numbers r ≡ result_of c) × ((header' ≡ header_after c header) × (list' ≡ list_after c list))
 
   abbrev handed : Outcome
   handed = outcome c.message c.recipient
 
   pub answers_refused : (n : ℕ) → refusal c ≡ n → 0 < n → (r : Result) → numbers r ≡ refused n → Answers r header list
-  unfolding result header_after list_after
+  unfolding result_of header_after list_after
   answers_refused n e h r f =
       let k = refusal c in
       let no = ne_eqb k 0 (λ z. omega (arith, z, e, h)) in (
@@ -111,7 +110,7 @@ module _ (c : Call) (header list : List ℕ) where
   pub answers_accepted : refusal c ≡ 0 → (r : Result) → numbers r ≡ accepted c.message handed →
       (header' list' : List ℕ) → header' ≡ written 0 handed.header header →
       list' ≡ written 0 (listed handed.entries) list → Answers r header' list'
-  unfolding result header_after list_after
+  unfolding result_of header_after list_after
   answers_accepted e r f header' list' g h =
       let k = refusal c in
       let yes = eq-eqb k 0 e in (

@@ -17,7 +17,7 @@ use Rattle.prelude.specs.Refusals.{◌if◌, first}
 use Rattle.prelude.specs.Limits.{longest, header_room, list_room, number_limit}
 use Rattle.jwe.specs.Compact.{compact_order}
 use Rattle.jwe.specs.General.{json_order}
-use Rattle.jwe.specs.Judge.{Call, order, refusal, outcome, accepted, refused, result}
+use Rattle.jwe.specs.Judge.{Call, order, refusal, outcome, accepted, refused, result_of}
 use Rattle.jwe.specs.Answers.{numbers}
 use Rattle.jwe.specs.declared.Result.{Result}
 use Rattle.jwe.proofs.SmallRefusals.{refusal_low}
@@ -60,8 +60,8 @@ module _ (c : Call) where
       second false true rest h = absurd (omega (arith, h))
       second false false rest h = refl
 
-  pub result_small : AllBelow limit (result c)
-  unfolding result
+  pub result_small : AllBelow limit (result_of c)
+  unfolding result_of
   result_small =
       let n = refusal c in
       either (AllBelow limit) (eqb n 0)
@@ -148,7 +148,7 @@ fields_small r h = (
   parameters_small r h,
 )
 
-pub result_fields : (c : Call) (r : Result) → numbers r ≡ result c → SmallFields r
+pub result_fields : (c : Call) (r : Result) → numbers r ≡ result_of c → SmallFields r
 result_fields c r e = fields_small r (subst (AllBelow limit) (sym e) (result_small c))
 
 pub accepted_fields : (message : List ℕ) (recipient : ℕ) (r : Result) → length message ≤ longest →

@@ -16,7 +16,6 @@ use Rattle.jwe.specs.Compact.{after, Stops, stops, four_stops, between, compact_
 use Rattle.headers.specs.Answers.{code_place, code_components, components_of}
 use Rattle.jwe.specs.Answers.{split_of}
 use Rattle.headers.specs.declared.Components.{Components}
-use Rattle.jwe.specs.declared.compact.FullStops.{FullStops}
 use Rattle.jwe.specs.declared.compact.FullStops.TheVariants.{Four, Other}
 
 -- One of a list, or one of those behind it

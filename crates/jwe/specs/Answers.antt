@@ -1,8 +1,6 @@
 -- The code's answers.
 use Rattle.std.specs.Prelude.{◌≡◌, cond, List, [], ◌∷◌, ℕ, ◌*◌, ◌≤◌, length}
-use Rattle.grammar.specs.Places as json
 use Rattle.prelude.specs.declared.Place.{Place}
-use Rattle.headers.specs.Components as headers
 use Rattle.headers.specs.Answers.{code_components}
 use Rattle.prelude.specs.declared.Stage.{Stage}
 use Rattle.prelude.specs.declared.Stage.TheVariants.{Passed, Refused}

@@ -1,6 +1,6 @@
 -- The judgement: the refusal of what was lent, and where there is none what is handed out (document 01, 'What the reader
 -- hands out').
-use Rattle.std.specs.Prelude.{List, [], ◌∷◌, ◌++◌, Bool, not, ◌||◌, cond, ℕ, zero, suc, ◌+◌, ◌-◌, length, get_or, replicate, eqb, ltb}
+use Rattle.std.specs.Prelude.{List, [], ◌∷◌, ◌++◌, not, ◌||◌, cond, ℕ, zero, suc, ◌+◌, ◌-◌, length, get_or, replicate, eqb, ltb}
 use Rattle.names.specs.Names.{names, sound}
 use Rattle.grammar.specs.Places.{Place}
 use Rattle.grammar.specs.Reader.{opens_object}
@@ -147,8 +147,8 @@ places_in r = record {
 abbrev pub answered : List ℕ → ℕ → Outcome → List ℕ
 answered message n x = cond (eqb n 0) (accepted message x) (refused n)
 
-unfoldable pub result : Call → List ℕ
-result c = answered c.message (refusal c) (outcome c.message c.recipient)
+unfoldable pub result_of : Call → List ℕ
+result_of c = answered c.message (refusal c) (outcome c.message c.recipient)
 
 unfoldable pub header_after : Call → List ℕ → List ℕ
 header_after c before = output_after (refusal c) (outcome c.message c.recipient).header before

@@ -9,7 +9,7 @@ use native.Mathlib.Omega.{arith}
 use lib.ListN.{length, drop}
 use Rattle.rows.specs.Rows.{Entry, Texts, name_says}
 use Rattle.rows.specs.Tables.{first_of, entries_of, width}
-use Rattle.rows.proofs.Entries.{entry_at, entries_done, entries_length}
+use Rattle.rows.proofs.Entries.{entry_at, entries_done}
 use Rattle.matching.specs.Matching.{partner}
 use Rattle.matching.specs.Inner.Places.{nth, MatchedAt, Matched}
 use Rattle.matching.proofs.Kept.{Below}

@@ -20,7 +20,7 @@ use Rattle.shape.specs.Recipients.{top_entries, recipients_in, components_in, to
 use Rattle.jwe.proofs.Outcomes.{outcome_is}
 use Rattle.jwe.specs.Compact.{compact_components}
 use Rattle.jwe.specs.General.{shared_entries, own_entries, parameters}
-use Rattle.jwe.specs.Judge.{Call, call_for, refusal, asked, outcome, accepted, refused, result}
+use Rattle.jwe.specs.Judge.{Call, call_for, refusal, asked, outcome, accepted, refused, result_of}
 use Rattle.jwe.specs.Inner.Outcomes.{compact_outcome, outcome_of, json_outcome}
 use Rattle.round_trips.specs.Trips.{written_places}
 use Rattle.round_trips.proofs.Places.{dotted_written, places_are}
@@ -240,8 +240,8 @@ module _ (c : Call) (passes : refusal c ≡ 0) where
   abbrev n : ℕ
   n = c.recipient
 
-  result_is : result c ≡ accepted message (outcome message n)
-  unfolding result
+  result_is : result_of c ≡ accepted message (outcome message n)
+  unfolding result_of
   result_is =
       let m = refusal c in
       ap (λ (b : Bool). cond b (accepted message (outcome message n)) (refused m)) (eq-eqb m 0 passes)
@@ -251,7 +251,7 @@ module _ (c : Call) (passes : refusal c ≡ 0) where
   outcome_as b e = outcome_is message n ∙ ap (λ (x : Bool). cond x (json_outcome message n) (compact_outcome message)) e
 
   pub passed_means : (names : List (List ℕ)) (f : Message names c.message) → c.recipient < count f →
-      ResultMeans f c.recipient (result c)
+      ResultMeans f c.recipient (result_of c)
   passed_means names (compact x) below =
       subst (ResultMeans (compact x) n)
       (sym (result_is ∙ ap (accepted message) (outcome_as false ((forms_apart names message).0 x))))
@@ -262,6 +262,6 @@ module _ (c : Call) (passes : refusal c ≡ 0) where
       (json_means names message j n below (reading_passed c passes j.reading))
 
 -- For each recipient below the count.
-pub result_means : (c : Call) (m : Meets c) (n : ℕ) → n < count m.form → ResultMeans m.form n (result (call_for n c))
+pub result_means : (c : Call) (m : Meets c) (n : ℕ) → n < count m.form → ResultMeans m.form n (result_of (call_for n c))
 result_means c m n below =
     passed_means (call_for n c) ((accepted_exactly (call_for n c)).1 (each_recipient c m n below)) m.list.names m.form below

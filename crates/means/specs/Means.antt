@@ -1,6 +1,6 @@
 -- What is handed out means (document 01, 'What the reader hands out'; demand 3), by what the message meets: each number of
 -- the result, the header and each row of the list, over the forms, components and members of crate meets, the grammar's
--- trees and places, and the encoding. Nothing of the reader is named but `result`, `header_after` and `list_after`.
+-- trees and places, and the encoding. Nothing of the reader is named but `result_of`, `header_after` and `list_after`.
 use Rattle.std.specs.Prelude.{◌≡◌, ◌↔◌, ◌⊎◌, List, [], ◌∷◌, ◌++◌, ℕ, zero, suc, ◌+◌, ◌≤◌, length, get_or}
 use Rattle.std.proofs.Common.{inl, inr}
 use Rattle.prelude.specs.Ascii.{ascii}
@@ -19,7 +19,7 @@ use Rattle.algorithms.specs.Algorithms.{alg_name, mode}
 use Rattle.algorithms.specs.declared.Alg.{Alg}
 use Rattle.headers.specs.Components.{absent, Components}
 use Rattle.headers.specs.Components as components
-use Rattle.jwe.specs.Judge.{places_in, result, header_after, list_after}
+use Rattle.jwe.specs.Judge.{places_in, result_of, header_after, list_after}
 use Rattle.jwe_write.specs.Write.{Raw}
 use Rattle.round_trips.specs.Trips.{written_places}
 use Rattle.meets.specs.Members.{Member, Some, OneForOne}
@@ -210,8 +210,8 @@ pub record HandsOut (c : Call) (buffer list : List ℕ) {names : List (List ℕ)
   pub list_left : list_after c list ≡ written 0 (entries rows) list
   pub header_fits : length header ≤ c.header_lent
   pub list_fits : length (entries rows) ≤ c.list_lent
-  pub header_length : get_or (result c) 16 0 ≡ length header
-  pub parameter_count : get_or (result c) 17 0 ≡ handed.count rows
+  pub header_length : get_or (result_of c) 16 0 ≡ length header
+  pub parameter_count : get_or (result_of c) 17 0 ≡ handed.count rows
   -- They are those of what the message meets: the header's octets, and a row for each parameter.
   pub header_is : header ≡ header_of f
   pub shows : RowsShow header c.message (headers_of f c.recipient) rows

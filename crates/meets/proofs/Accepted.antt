@@ -9,7 +9,7 @@ use lib.ListN.{length}
 use lib.Dec.{ltb}
 use borrow.Author.Tests.{ltb-false, le-ltb}
 use Rattle.names.specs.Names.{names, sound}
-use Rattle.names.proofs.Laws.{sound_exactly, names_of}
+use Rattle.names.proofs.Laws.{sound_exactly, names_of_lem}
 use Rattle.grammar.specs.Reader.{opens_object}
 use Rattle.grammar.proofs.Parse.{true→T}
 use Rattle.grammar.proofs.Scan.{T→true}
@@ -38,7 +38,7 @@ list_decided known =
 
 -- Its names are those that are read of it.
 pub list_names : (known : List ℕ) (k : Known known) → names known ≡ k.names
-list_names known k = ap names (sym k.spelled) ∙ names_of k.names
+list_names known k = ap names (sym k.spelled) ∙ names_of_lem k.names
 
 -- 1 and 2: room and size.
 

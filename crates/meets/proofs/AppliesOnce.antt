@@ -21,7 +21,7 @@ use Rattle.headers.specs.Headers.{outermost}
 use Rattle.shape.specs.Shape.{member_entries}
 use Rattle.shape.specs.Recipients.{top_entries}
 use Rattle.jwe.specs.General.{json_order}
-use Rattle.jwe.specs.Judge.{Call, refusal, result, header_after, list_after}
+use Rattle.jwe.specs.Judge.{Call, refusal, result_of, header_after, list_after}
 use Rattle.meets.specs.Handed.{Rows, entries, count, MemberAt, NoMember, PartAt, RecipientAt, ProtectedRows}
 use Rattle.meets.specs.Handed.{within, RowsOf, Applies, compact, json}
 use Rattle.meets.specs.Meets.{Octets}
@@ -171,8 +171,8 @@ pub applies_handed : (c : Call) (buffer list : List ℕ) → refusal c ≡ 0 →
     (header : List ℕ) (x : Rows) → Applies c.message c.recipient header x →
     (header_after c buffer ≡ written 0 header buffer)
     × (list_after c list ≡ written 0 (entries x) list)
-    × (get_or (result c) 16 0 ≡ length header)
-    × (get_or (result c) 17 0 ≡ count x)
+    × (get_or (result_of c) 16 0 ≡ length header)
+    × (get_or (result_of c) 17 0 ≡ count x)
 applies_handed c buffer list accepted header x a =
     let h = handed_exactly c buffer list accepted in
     let e = applies_once c accepted h.header header h.rows x h.applies a in (

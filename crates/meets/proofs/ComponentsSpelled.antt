@@ -1,20 +1,19 @@
 -- The components of an accepted message are base64url: 5 is asked of all of them.
 use mathlib.Core.Path.{◌≡◌, refl}
-use mathlib.Core.Bool.{Bool, true, false, not, cond}
-use mathlib.Core.List.{List, [], ◌∷◌, ◌++◌}
+use mathlib.Core.Bool.{Bool, true, false, cond}
+use mathlib.Core.List.{List}
 use Prim.Native.Nat.{ℕ}
-use lib.ListN.{length}
 use Rattle.grammar.specs.Bounds.{Every}
 use Rattle.grammar.specs.Places.{Place}
 use Rattle.grammar.specs.Reader.{opens_object}
 use Rattle.names.specs.Names.{names}
 use Rattle.prelude.specs.Any.{any}
-use Rattle.prelude.specs.Refusals.{Test, ◌if◌, first}
+use Rattle.prelude.specs.Refusals.{first}
 use Rattle.headers.specs.Components.{misspelled, places}
 use Rattle.shape.specs.Shape.{Recipient}
 use Rattle.shape.specs.Recipients.{top_entries, recipients_in, components_in}
 use Rattle.jwe.proofs.Outcomes.{by_form}
-use Rattle.jwe.specs.Compact.{four_stops, compact_components, compact_order, compact_spelled, compact_later}
+use Rattle.jwe.specs.Compact.{compact_components, compact_order, compact_spelled, compact_later}
 use Rattle.jwe.specs.General.{json_order}
 use Rattle.jwe.specs.Judge.{Call, refusal, outcome, Outcome}
 use Rattle.jwe.specs.Inner.Outcomes.{compact_outcome, outcome_of, json_outcome}

@@ -19,7 +19,7 @@ use Rattle.grammar.specs.Bounds.{Every}
 use Rattle.rows.specs.Rows.{Entry, Texts, value_in, numbered, having}
 use Rattle.jose.specs.Registered.{registered, enc, string}
 use Rattle.jose.specs.ContentAlgorithm.{sole_string, content_algorithm, differ, differing}
-use Rattle.meets.specs.Members.{Member, names_of_lem, EveryTwo, Distinct, Named, Absent}
+use Rattle.meets.specs.Members.{Member, names_of, EveryTwo, Distinct, Named, Absent}
 use Rattle.meets.specs.Rules.{Headers, parameters, EveryNamed, Present, string_names, OfKind, SameString, SameContent}
 use Rattle.meets.specs.Meets.{OneContent}
 use Rattle.meets.proofs.OneForOne.{OneForOne, zip_into, zip_map_right}
@@ -35,7 +35,7 @@ use Rattle.meets.proofs.RulesDecided.{all_seen}
 
 -- Headers that name a content algorithm: what 9 and 12 to 14 leave.
 pub record HasContent (h : Headers) : Type 0 where
-  pub distinct : Distinct (names_of_lem (parameters h))
+  pub distinct : Distinct (names_of (parameters h))
   pub enc : Present (ascii "enc") (parameters h)
   pub strings : OfKind string_names 2 (parameters h)
 
@@ -108,7 +108,7 @@ module _ (ts : Texts) where
       ((refuted (numbered enc e) (enc_where p e z.0)).1 a.0)
       ∙ none_having ps es z.1 a.1
 
-  content_spelled : (ps : List Member) (es : List Entry) → OneForOne (Seen registered ts) ps es → Distinct (names_of_lem ps) →
+  content_spelled : (ps : List Member) (es : List Entry) → OneForOne (Seen registered ts) ps es → Distinct (names_of ps) →
       Present (ascii "enc") ps → OfKind string_names 2 ps → Spelled ps (content_algorithm ts es)
   unfolding content_algorithm having
   content_spelled [] es z d i s = absurd i

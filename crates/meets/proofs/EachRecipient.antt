@@ -20,7 +20,7 @@ use Rattle.shape.specs.Shape.{inner, Recipient, recipient_of}
 use Rattle.base64url.specs.Base64url.{decoded_length}
 use Rattle.shape.specs.Recipients.{top_of, components_in}
 use Rattle.jwe.specs.General.{shared_entries, own_entries, parameters, content_of}
-use Rattle.meets.specs.Members.{Member, names_of_lem, Distinct}
+use Rattle.meets.specs.Members.{Member, names_of, Distinct}
 use Rattle.meets.specs.Rules.{Headers, EveryNamed, Rules}
 use Rattle.meets.specs.Meets.{Octets, Object, Plain, Component, HeaderIn}
 use Rattle.meets.specs.Meets as meets
@@ -82,7 +82,7 @@ module _ (header message : List ℕ) where
 module _ (known : List (List ℕ)) (header message : List ℕ) (protected shared : List Member) (es : List Entry)
     (zp : OneForOne (MemberStands header) protected (outermost header))
     (zs : OneForOne (MemberStands message) shared (headers.members_of message (value_of 2 es).start))
-    (dp : Distinct (names_of_lem protected)) (ds : Distinct (names_of_lem shared)) where
+    (dp : Distinct (names_of protected)) (ds : Distinct (names_of shared)) where
   -- The tests of a recipient.
 
   abbrev pub Spelled : Recipient → Type 0
@@ -111,7 +111,7 @@ module _ (known : List (List ℕ)) (header message : List ℕ) (protected shared
     abbrev all : Headers
     all = record { protected = protected; shared = shared; own = own }
 
-    recipient_rules_lem : Distinct (names_of_lem own) → RulesPass r ↔ Rules known all key
+    recipient_rules_lem : Distinct (names_of own) → RulesPass r ↔ Rules known all key
     unfolding parameters components_in
     recipient_rules_lem d =
         rules_decided known (read_texts header message) all (protected_entries header) (shared_entries message (top_of es))

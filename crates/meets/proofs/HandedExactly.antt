@@ -23,7 +23,7 @@ use Rattle.jwe.specs.Compact.{compact_order}
 use Rattle.jwe.specs.General.{shared_entries, own_entries, parameters, json_order}
 use Rattle.jwe.specs.Judge.{Call, call_for, refusal, Outcome, outcome, accepted, refused}
 use Rattle.jwe.specs.Inner.Outcomes.{compact_outcome, outcome_of, json_outcome}
-use Rattle.jwe.specs.Judge.{result, header_after, list_after}
+use Rattle.jwe.specs.Judge.{result_of, header_after, list_after}
 use Rattle.meets.specs.Handed.{Rows, entries, count, Applies}
 use Rattle.meets.specs.Meets.{Meets}
 use Rattle.meets.specs.Meets as meets
@@ -108,11 +108,11 @@ module _ (c : Call) where
       pub list_is : list_after c list ≡ written 0 (entries rows) list
       pub header_fits : length header ≤ c.header_lent
       pub list_fits : length (entries rows) ≤ c.list_lent
-      pub header_length : get_or (result c) 16 0 ≡ length header
-      pub parameter_count : get_or (result c) 17 0 ≡ count rows
+      pub header_length : get_or (result_of c) 16 0 ≡ length header
+      pub parameter_count : get_or (result_of c) 17 0 ≡ count rows
 
     pub handed_exactly : refusal c ≡ 0 → HandedOut
-    unfolding header_after list_after result accepted
+    unfolding header_after list_after result_of accepted
     handed_exactly e =
         let n = refusal c in
         let o = outcome message recipient in

@@ -4,7 +4,7 @@ use mathlib.Core.Path.{◌≡◌, refl, ap, ap₂, sym, subst, ◌∙◌}
 use mathlib.Core.List.{List, [], ◌∷◌, ◌++◌, flat_map, append-nil}
 use Prim.Native.Nat.{ℕ, suc, ◌+◌}
 use lib.ListN.{length, length-append}
-use Rattle.grammar.specs.Places.{Member, Placed, item, placed_text, kind_of, start_of, parts_of, members}
+use Rattle.grammar.specs.Places.{Member, Placed, item, kind_of, start_of, parts_of}
 use Rattle.grammar.specs.Reader.{elements_at}
 use Rattle.grammar.specs.Places.{elements}
 use Rattle.grammar.specs.Readings.{Reading}

@@ -25,7 +25,7 @@ use Rattle.algorithms.specs.Algorithms.{algs, alg_name, mode, alg_names, nth, mo
 use Rattle.jose.specs.declared.Sizes.{Sizes}
 use Rattle.jose.specs.Registered.{registered, alg}
 use Rattle.jose.specs.HeaderRules.{mode_in, keyless, wrong_key}
-use Rattle.meets.specs.Members.{Member, names_of_lem, Some, Among, Distinct, Absent}
+use Rattle.meets.specs.Members.{Member, names_of, Some, Among, Distinct, Absent}
 use Rattle.meets.specs.Rules.{EveryNamed, Present, ValueAmong, KeyFits}
 use Rattle.meets.proofs.OneForOne.{OneForOne}
 use Rattle.meets.proofs.Standing.{is_string}
@@ -100,7 +100,7 @@ same_octets x y w s t p q = ap points (sym (says_octets x s) ∙ p ∙ sym q ∙
 module _ (ts : Texts) where
   -- So a name stands once where no name stands twice.
   pub once : (x : Str) (w : List ℕ) → T (sayable x) → HasOctets x w → (ps : List Member) (es : List Entry) →
-      OneForOne (Seen registered ts) ps es → Every (λ y. SayAlike x y → ⊥) (names_of_lem ps) → Absent w ps
+      OneForOne (Seen registered ts) ps es → Every (λ y. SayAlike x y → ⊥) (names_of ps) → Absent w ps
   once x w s p [] es z h = tt
   once x w s p (m ∷ ms) [] z h = absurd z
   once x w s p (m ∷ ms) (e ∷ es) z h = (
@@ -129,7 +129,7 @@ module _ (ts : Texts) where
     Asked a v = Names a v → Q (mode a)
 
     pub mode_where : (ps : List Member) (es : List Entry) → OneForOne (Seen registered ts) ps es →
-        Distinct (names_of_lem ps) → Present (ascii "alg") ps → EveryNamed (ascii "alg") (ValueAmong alg_names) ps →
+        Distinct (names_of ps) → Present (ascii "alg") ps → EveryNamed (ascii "alg") (ValueAmong alg_names) ps →
         Q (mode_in ts es) ↔ ((a : Alg) → EveryNamed (ascii "alg") (Asked a) ps)
     unfolding mode_in
     mode_where [] es z d i l = absurd i
@@ -164,7 +164,7 @@ module _ (ts : Texts) where
 
   -- 18, where 13 and 15 do not refuse and no name stands twice
   pub key_decided : (ps : List Member) (es : List Entry) (key : List ℕ) (sizes : Sizes) →
-      OneForOne (Seen registered ts) ps es → Distinct (names_of_lem ps) → Present (ascii "alg") ps →
+      OneForOne (Seen registered ts) ps es → Distinct (names_of ps) → Present (ascii "alg") ps →
       EveryNamed (ascii "alg") (ValueAmong alg_names) ps → (eqb sizes.key 0 ≡ true) ↔ (key ≡ []) →
       (wrong_key (mode_in ts es) sizes ≡ false)
       ↔ ((a : Alg) →

@@ -20,7 +20,7 @@ use Rattle.prelude.specs.Any.{any}
 use Rattle.rows.specs.Rows.{Entry, numbered, present, value_of}
 use Rattle.headers.specs.Components.{absent}
 use Rattle.headers.specs.Headers as headers
-use Rattle.meets.specs.Members.{Member, members_of, names_of_lem, Distinct, Named, Absent}
+use Rattle.meets.specs.Members.{Member, members_of, names_of, Distinct, Named, Absent}
 use Rattle.meets.specs.Rules.{EveryNamed}
 use Rattle.meets.specs.Meets.{Header, HeaderIn}
 use Rattle.meets.proofs.OneForOne.{OneForOne}
@@ -52,7 +52,7 @@ same_octets x y w s t p q = ap points (sym (says_octets x s) ∙ p ∙ sym q ∙
 
 module _ (message w : List ℕ) where
   no_other_lem : (x : Str) → T (sayable x) → HasOctets x w → (ps : List Member) (es : List Entry) →
-      OneForOne (Held message) ps es → Every (λ y. SayAlike x y → ⊥) (names_of_lem ps) → Absent w ps
+      OneForOne (Held message) ps es → Every (λ y. SayAlike x y → ⊥) (names_of ps) → Absent w ps
   no_other_lem x s p [] es z h = tt
   no_other_lem x s p (m ∷ ms) [] z h = absurd z
   no_other_lem x s p (m ∷ ms) (e ∷ es) z h = (
@@ -61,7 +61,7 @@ module _ (message w : List ℕ) where
   )
 
   pub lookup : (n : ℕ) → IsMember n w → (ps : List Member) (es : List Entry) → OneForOne (Held message) ps es →
-      Distinct (names_of_lem ps) → Lookup message w ps (value_of n es) (present n es)
+      Distinct (names_of ps) → Lookup message w ps (value_of n es) (present n es)
   unfolding value_of present any
   lookup n i [] [] z d = missing refl tt refl
   lookup n i [] (e ∷ es) z d = absurd z

@@ -15,7 +15,7 @@ use Rattle.prelude.specs.Any.{any, any_pair}
 use Rattle.rows.specs.Rows.{Entry, Texts, one_text, name_in, apart, same, repeated}
 use Rattle.prelude.specs.Refusals.{first}
 use Rattle.headers.specs.Headers.{object_order}
-use Rattle.meets.specs.Members.{Member, names_of_lem, Distinct, Apart}
+use Rattle.meets.specs.Members.{Member, names_of, Distinct, Apart}
 use Rattle.meets.specs.Rules.{Headers, NamesApart}
 use Rattle.meets.specs.Meets.{Object}
 use Rattle.meets.proofs.OneForOne.{OneForOne, zip_into, zip_map_left, zip_length}
@@ -32,7 +32,7 @@ record NameStands (ts : Texts) (o : ℕ) (x : Str) (e : Entry) : Type 0 where
 module _ (names : List (List ℕ)) (ts : Texts) where
   -- The names of members and their entries.
   names_stand : (o : ℕ) (ps : List Member) (es : List Entry) → OneForOne (EntryStands names ts o) ps es →
-      OneForOne (NameStands ts o) (names_of_lem ps) es
+      OneForOne (NameStands ts o) (names_of ps) es
   names_stand o ps es z =
       (zip_map_left (NameStands ts o) (λ (p : Member). p.name) ps es).0
       (zip_into (EntryStands names ts o) (λ p e. NameStands ts o p.name e)
@@ -62,10 +62,10 @@ one_origin ts o e f a b =
 
 -- 9: no name twice in an object of one text.
 pub distinct_decided : (names : List (List ℕ)) (s : List ℕ) (o : ℕ) (ps : List Member) (es : List Entry) →
-    OneForOne (EntryStands names (one_text s) o) ps es → (repeated false (one_text s) es ≡ false) ↔ Distinct (names_of_lem ps)
+    OneForOne (EntryStands names (one_text s) o) ps es → (repeated false (one_text s) es ≡ false) ↔ Distinct (names_of ps)
 unfolding repeated
 distinct_decided names s o ps es z =
-    distinct_where (NameStands (one_text s) o) (same false (one_text s)) (same_where false (one_text s) o o (eq-eqb o o refl)) (names_of_lem ps) es
+    distinct_where (NameStands (one_text s) o) (same false (one_text s)) (same_where false (one_text s) o o (eq-eqb o o refl)) (names_of ps) es
     (names_stand names (one_text s) o ps es z)
 
 -- 8: at most 32 members.
@@ -100,10 +100,10 @@ module _ (names : List (List ℕ)) (ts : Texts) (h : Headers) (ps ss os : List E
   -- Two lists of entries of two origins.
   across_where : (o q : ℕ) → apart true o q ≡ true → (xs ys : List Member) (es fs : List Entry) →
       OneForOne (EntryStands names ts o) xs es → OneForOne (EntryStands names ts q) ys fs →
-      FalseWhere (any_across test es fs) (Apart (names_of_lem xs) (names_of_lem ys))
+      FalseWhere (any_across test es fs) (Apart (names_of xs) (names_of ys))
   across_where o q a xs ys es fs z u =
       apart_where (NameStands ts o) (NameStands ts q) test
-      (same_where true ts o q a) (names_of_lem xs) (names_of_lem ys) es fs
+      (same_where true ts o q a) (names_of xs) (names_of ys) es fs
       (names_stand names ts o xs es z) (names_stand names ts q ys fs u)
 
   within : (o : ℕ) (xs : List Member) (es : List Entry) → OneForOne (EntryStands names ts o) xs es →

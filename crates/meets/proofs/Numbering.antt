@@ -8,14 +8,13 @@ use lib.Dec.{eqb}
 use borrow.Author.Tests.{eqb-true, eqb-false, ne_eqb}
 use Rattle.grammar.specs.Grammar.{Str}
 use Rattle.grammar.specs.Strings.{HasOctets}
-use Rattle.grammar.specs.Spellings.{undo, equal, sayable}
+use Rattle.grammar.specs.Spellings.{undo, equal}
 use Rattle.grammar.specs.Bounds.{Every}
 use Rattle.grammar.proofs.Theorems.{says_octets}
 use Rattle.grammar.proofs.Spellings.{undo_spelling, equal_sound, equal_same}
 use Rattle.grammar.proofs.Scan.{T→true}
 use Rattle.grammar.proofs.Parse.{true→T}
 use Rattle.names.specs.Names.{number_in}
-use Rattle.names.specs.Names as names
 use Rattle.names.proofs.Laws.{number_alike}
 use Rattle.prelude.specs.Any.{any}
 use Rattle.meets.specs.Members.{Some, Among}

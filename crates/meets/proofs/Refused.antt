@@ -7,15 +7,15 @@ use lib.Dec.{eqb}
 use borrow.Author.Tests.{ne_eqb}
 use Rattle.prelude.specs.Buffer.{written}
 use Rattle.rows.specs.Tables.{listed}
-use Rattle.jwe.specs.Judge.{Call, refusal, outcome, accepted, refused, result, header_after, list_after}
+use Rattle.jwe.specs.Judge.{Call, refusal, outcome, accepted, refused, result_of, header_after, list_after}
 
 -- The result of a refusal is its number and zeros ..
 module _ (c : Call) (n : refusal c ≡ 0 → ⊥) where
   fails : eqb (refusal c) 0 ≡ false
   fails = ne_eqb (refusal c) 0 n
 
-  pub refused_result : result c ≡ refused (refusal c)
-  unfolding result
+  pub refused_result : result_of c ≡ refused (refusal c)
+  unfolding result_of
   refused_result =
       ap (λ (b : Bool). cond b (accepted c.message (outcome c.message c.recipient)) (refused (refusal c))) fails
 
@@ -31,5 +31,5 @@ module _ (c : Call) (n : refusal c ≡ 0 → ⊥) where
       ap (λ (b : Bool). cond b (written 0 (listed (outcome c.message c.recipient).entries) before) before) fails
 
   pub refusal_changes_nothing : (buffer list : List ℕ) →
-      (result c ≡ refused (refusal c)) × (header_after c buffer ≡ buffer) × (list_after c list ≡ list)
+      (result_of c ≡ refused (refusal c)) × (header_after c buffer ≡ buffer) × (list_after c list ≡ list)
   refusal_changes_nothing buffer list = (refused_result, refused_header buffer, refused_list list)

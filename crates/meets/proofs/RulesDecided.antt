@@ -1,7 +1,7 @@
 -- The tests on a recipient's parameters decide the rules: none refuses exactly where the rules are met. Each test
 -- decides its own sentence, 15, 17 and 18 where those that they rest on do not refuse.
 use mathlib.Core.Path.{◌≡◌, refl}
-use mathlib.Core.Bool.{Bool, true}
+use mathlib.Core.Bool.{true}
 use mathlib.Core.Logic.{◌↔◌}
 use mathlib.Core.List.{List, [], ◌∷◌, ◌++◌}
 use Prim.Native.Nat.{ℕ}
@@ -15,7 +15,7 @@ use Rattle.jose.specs.Registered.{registered}
 use Rattle.prelude.specs.Refusals.{first}
 use Rattle.jose.specs.declared.Sizes.{Sizes}
 use Rattle.jose.specs.HeaderRules.{recipient_order}
-use Rattle.meets.specs.Members.{Member, names_of_lem, Distinct, Apart}
+use Rattle.meets.specs.Members.{Member, names_of, Distinct, Apart}
 use Rattle.meets.specs.Rules.{Headers, parameters, NamesApart, Rules}
 use Rattle.meets.proofs.OneForOne.{OneForOne, zip_into, zip_append}
 use Rattle.meets.proofs.Deciding.{first_none}
@@ -29,34 +29,34 @@ use Rattle.meets.proofs.KeyFits.{key_decided}
 
 -- Members that have no such name.
 abbrev Without : Str → List Member → Type 0
-Without x ms = Every (λ y. SayAlike x y → ⊥) (names_of_lem ms)
+Without x ms = Every (λ y. SayAlike x y → ⊥) (names_of ms)
 
 without_append : (x : Str) (ms ns : List Member) → Without x ms → Without x ns → Without x (ms ++ ns)
 without_append x [] ns h i = i
 without_append x (m ∷ ms) ns h i = (h.0, without_append x ms ns h.1 i)
 
-apart_append : (xs : List Str) (ms ns : List Member) → Apart xs (names_of_lem ms) → Apart xs (names_of_lem ns) →
-    Apart xs (names_of_lem (ms ++ ns))
+apart_append : (xs : List Str) (ms ns : List Member) → Apart xs (names_of ms) → Apart xs (names_of ns) →
+    Apart xs (names_of (ms ++ ns))
 apart_append [] ms ns h i = tt
 apart_append (x ∷ xs) ms ns h i = (without_append x ms ns h.0 i.0, apart_append xs ms ns h.1 i.1)
 
-distinct_append : (ms ns : List Member) → Distinct (names_of_lem ms) → Distinct (names_of_lem ns) →
-    Apart (names_of_lem ms) (names_of_lem ns) → Distinct (names_of_lem (ms ++ ns))
+distinct_append : (ms ns : List Member) → Distinct (names_of ms) → Distinct (names_of ns) →
+    Apart (names_of ms) (names_of ns) → Distinct (names_of (ms ++ ns))
 distinct_append [] ns h i a = i
 distinct_append (m ∷ ms) ns h i a =
     (without_append m.name ms ns h.0 a.0, distinct_append ms ns h.1 i a.1)
 
 -- No name stands twice in a header: what refusal 9 leaves.
 pub record NamesOnce (h : Headers) : Type 0 where
-  pub protected : Distinct (names_of_lem h.protected)
-  pub shared : Distinct (names_of_lem h.shared)
-  pub own : Distinct (names_of_lem h.own)
+  pub protected : Distinct (names_of h.protected)
+  pub shared : Distinct (names_of h.shared)
+  pub own : Distinct (names_of h.own)
 
-pub parameters_distinct : (h : Headers) → NamesOnce h → NamesApart h → Distinct (names_of_lem (parameters h))
+pub parameters_distinct : (h : Headers) → NamesOnce h → NamesApart h → Distinct (names_of (parameters h))
 parameters_distinct h o a =
     distinct_append h.protected (h.shared ++ h.own) o.protected
     (distinct_append h.shared h.own o.shared o.own a.2)
-    (apart_append (names_of_lem h.protected) h.shared h.own a.0 a.1)
+    (apart_append (names_of h.protected) h.shared h.own a.0 a.1)
 
 -- Entries that stand for three headers are seen to stand for all their parameters.
 module _ (ts : Texts) (h : Headers) (ps ss os : List Entry)

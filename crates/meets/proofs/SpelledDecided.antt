@@ -16,7 +16,7 @@ use Rattle.base64url.specs.Fault.{Fault, none, at, fault}
 use Rattle.base64url.specs.Answers.{of_fault}
 use Rattle.base64url.proofs.Alphabet.{value_of_character}
 use Rattle.base64url.proofs.Groups.{sextets_below}
-use Rattle.base64url.proofs.Laws.{accepted_exactly, decode_encode, encoded_length_lem, length_back}
+use Rattle.base64url.proofs.Laws.{accepted_exactly, decode_encode, length_back}
 use Rattle.parts.specs.Parts.{holds}
 use Rattle.parts.proofs.Laws.{part_fits}
 use Rattle.grammar.specs.Places.{Place}

@@ -2,12 +2,12 @@
 -- apply, where the grammar has it.
 use Rattle.std.specs.Prelude.{◌≡◌, ◌⊎◌, ℕ, zero, suc, ◌+◌, ◌-◌, length}
 use mathlib.Core.List.{List, [], ◌∷◌, ◌++◌, flat_map}
-use Rattle.std.proofs.Math.Option.{Option, none, some}
+use Rattle.std.proofs.Math.Option.{none, some}
 use Rattle.prelude.specs.Ascii.{ascii, full_stop}
 use Rattle.prelude.specs.Limits.{levels}
 use Rattle.base64url.specs.Base64url.{encoded}
 use Rattle.grammar.specs.Grammar.{Str, leaves_chars}
-use Rattle.grammar.specs.Places.{Place, Placed, item, Parts, done, part, placed_text, start_of, size_of, parts_of, Member, members}
+use Rattle.grammar.specs.Places.{Place, Placed, Parts, done, part, placed_text, start_of, size_of, parts_of, Member, members}
 use Rattle.grammar.specs.Strings.{HasOctets}
 use Rattle.grammar.specs.Readings.{Reading, octets_at}
 

@@ -12,7 +12,7 @@ use Rattle.grammar.specs.Grammar as grammar
 use Rattle.grammar.specs.Places.{kind}
 use Rattle.grammar.specs.Bounds.{Every}
 use Rattle.grammar.specs.Readings.{Reading}
-use Rattle.meets.specs.Members.{Member, members_of, elements_of, names_of_lem, IsString, Distinct, Named, Absent}
+use Rattle.meets.specs.Members.{Member, members_of, elements_of, names_of, IsString, Distinct, Named, Absent}
 use Rattle.meets.specs.Members.{EveryTwo}
 use Rattle.meets.specs.Rules.{EveryNamed, Present, Rules, SameContent}
 
@@ -23,7 +23,7 @@ Octets = AllBelow 256
 -- An object whose names are compared: at most 32 members, no name twice.
 pub record Object (ms : List Member) : Type 0 where
   pub few : length ms ≤ most_members
-  pub distinct : Distinct (names_of_lem ms)
+  pub distinct : Distinct (names_of ms)
 
 -- A decoded protected header: at most 4,096 octets, read as an object within 12 levels.
 pub record Protected (header : List ℕ) : Type 0 where

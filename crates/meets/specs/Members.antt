@@ -47,8 +47,8 @@ elements_of (number x) = []
 elements_of (literal x) = []
 
 -- The names of members.
-abbrev pub names_of_lem : List Member → List Str
-names_of_lem ms = map (λ m. m.name) ms
+abbrev pub names_of : List Member → List Str
+names_of ms = map (λ m. m.name) ms
 
 -- Something holds of one in a list.
 abbrev pub Some : {A : Type 0} → (A → Type 0) → List A → Type 0

@@ -8,7 +8,7 @@ use Rattle.grammar.specs.Bounds.{Every}
 use Rattle.algorithms.specs.Algorithms.{alg_name, mode, alg_names, enc_names, zip_names}
 use Rattle.names.specs.Registered.{registered}
 use Rattle.algorithms.specs.declared.Alg.{Alg}
-use Rattle.meets.specs.Members.{Member, elements_of, names_of_lem, Some, IsString, Among, Distinct, Apart}
+use Rattle.meets.specs.Members.{Member, elements_of, names_of, Some, IsString, Among, Distinct, Apart}
 
 -- The headers that apply to a recipient.
 pub record Headers : Type 0 where
@@ -27,9 +27,9 @@ EveryNamed w P ms = Every (λ m. HasOctets m.name w → P m.value) ms
 -- 12: no name stands in two headers.
 abbrev pub NamesApart : Headers → Type 0
 NamesApart h =
-    Apart (names_of_lem h.protected) (names_of_lem h.shared)
-    × Apart (names_of_lem h.protected) (names_of_lem h.own)
-    × Apart (names_of_lem h.shared) (names_of_lem h.own)
+    Apart (names_of h.protected) (names_of h.shared)
+    × Apart (names_of h.protected) (names_of h.own)
+    × Apart (names_of h.shared) (names_of h.own)
 
 -- 13: a parameter has the name.
 abbrev pub Present : List ℕ → List Member → Type 0

@@ -35,9 +35,9 @@ module _ (ns : List (List ℕ)) where
   behind_of : drop (length ns) (map length ns ++ flatten ns) ≡ flatten ns
   behind_of = drop_at (map length ns) (flatten ns) (length ns) (length-map ns length)
 
-  pub names_of : names (list_of ns) ≡ ns
+  pub names_of_lem : names (list_of ns) ≡ ns
   unfolding names list_of
-  names_of = ap₂ cut lengths_of behind_of ∙ cut_joined ns
+  names_of_lem = ap₂ cut lengths_of behind_of ∙ cut_joined ns
 
 -- From a list to its names and back
 

@@ -34,8 +34,8 @@ pub sound_filled : (list : List ℕ) → sound list ≡ true → filled list ≡
 sound_filled = Contents.sound_filled
 
 -- The names of the list of some names are those names ..
-pub names_of : (ns : List (List ℕ)) → names (list_of ns) ≡ ns
-names_of = Contents.names_of
+pub names_of_lem : (ns : List (List ℕ)) → names (list_of ns) ≡ ns
+names_of_lem = Contents.names_of_lem
 
 -- .. and every filled list is the list of its names.
 pub list_of_names : (list : List ℕ) → filled list ≡ true → list_of (names list) ≡ list

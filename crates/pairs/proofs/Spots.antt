@@ -1,23 +1,23 @@
 -- Positions in an object: from its first member on, from one to the next, and that a member can be read at each, since
 -- an object has fewer members than its text has octets.
-use mathlib.Core.Path.{◌≡◌, refl, ap, sym, subst, ◌∙◌}
-use mathlib.Core.Bool.{Bool, true, false}
+use mathlib.Core.Path.{◌≡◌, ap, sym, ◌∙◌}
+use mathlib.Core.Bool.{true}
 use mathlib.Core.List.{List, [], ◌∷◌, ◌++◌, append_assoc}
-use Prim.Native.Nat.{ℕ, ◌+◌, ◌-◌, ◌<◌}
+use Prim.Native.Nat.{ℕ, ◌-◌, ◌<◌}
 use native.Mathlib.Omega.{arith}
 use lib.ListN.{length, length-append}
 use Rattle.grammar.specs.Grammar.{curly}
 use Rattle.grammar.specs.Places.{Member}
 use Rattle.grammar.specs.Reader.{entry_at, value_at, members_at}
 use Rattle.json_read.specs.Members.{first_in, member_of}
-use Rattle.json_read.specs.Inner.Known.{KnownEntry, KnownFrom, KnownIn}
+use Rattle.json_read.specs.Inner.Known.{KnownEntry, KnownIn}
 use Rattle.json_read.specs.declared.Position.{Position}
 use Rattle.json_read.specs.declared.member.Row.{Row}
 use Rattle.json_read.specs.declared.member.Member.TheVariants.{Here}
 use Rattle.distinct.specs.Names.{depth, same_name}
 use Rattle.distinct.specs.Inner.Walking.{row_member, rows_from}
 use Rattle.distinct.proofs.Walks.{members_all, known_all, row_more, known_more, entry_known}
-use Rattle.pairs.specs.Inner.Walks.{SpotAt, Spot, Partner}
+use Rattle.pairs.specs.Inner.Walks.{SpotAt, Partner}
 
 pub spot_start : (t : List ℕ) (j q : ℕ) → q ≡ first_in t j → KnownIn curly depth t j → SpotAt t j (length t) q
 spot_start t j q e k = record {

@@ -1,16 +1,15 @@
 -- Values of two entries compared: where the code has read both values and compared them, it has the definition's answer; and what is
 -- kept for one entry after the other.
-use mathlib.Core.Path.{◌≡◌, refl, ap, sym, subst, ◌∙◌}
+use mathlib.Core.Path.{◌≡◌, ap, sym, subst, ◌∙◌}
 use mathlib.Core.Bool.{Bool, false, not, cond}
 use mathlib.Core.List.{List}
-use mathlib.Core.Option.{Option, none, some}
+use mathlib.Core.Option.{some}
 use Prim.Native.Nat.{ℕ, ◌*◌, ◌<◌, ◌≤◌}
 use native.Mathlib.Omega.{arith}
 use lib.ListN.{length, drop, get_or}
 use Rattle.grammar.specs.Places.{Element}
 use Rattle.rows.specs.Rows.{Entry, Texts, text_of}
 use Rattle.rows.specs.Tables.{first_of, entries_of, width}
-use Rattle.rows.proofs.Entries.{entries_length}
 use Rattle.same.specs.Same.{depth, same_at}
 use Rattle.same.specs.Inner.Walking.{Reads}
 use Rattle.matching.specs.Inner.Places.{nth}

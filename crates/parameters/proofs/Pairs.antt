@@ -1,8 +1,8 @@
 -- The lines of a pair: those that the code puts, by the sides that it has read, are the definition's.
-use mathlib.Core.Path.{◌≡◌, refl, ap, sym, ◌∙◌}
+use mathlib.Core.Path.{◌≡◌, ap, sym, ◌∙◌}
 use mathlib.Core.Bool.{Bool, not}
 use mathlib.Core.List.{List, [], ◌∷◌, ◌++◌}
-use mathlib.Core.Option.{Option, none, some}
+use mathlib.Core.Option.{Option}
 use Prim.Native.Nat.{ℕ, ◌*◌, ◌≤◌, ◌<◌}
 use lib.ListN.{drop}
 use lib.Dec.{eqb}
@@ -11,7 +11,7 @@ use Rattle.rows.specs.Tables.{first_of, entries_of, width}
 use Rattle.matching.specs.Matching.{partner}
 use Rattle.matching.specs.Inner.Places.{nth}
 use Rattle.matching.proofs.Partners.{nth_at, nth_none}
-use Rattle.parameters.specs.Lines.{Side, missing, Line, line, line_if}
+use Rattle.parameters.specs.Lines.{Side, missing, line, line_if}
 use Rattle.parameters.specs.Parameters.{side_of, other_value, pair_lines, left_lines}
 
 module _ (n : ℕ) (e : Entry) (other : Bool) (right j : ℕ) (table : List ℕ) {mine yours : Side} (m : mine ≡ side_of e) where

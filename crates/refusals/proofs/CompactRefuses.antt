@@ -8,7 +8,7 @@ use lib.ListN.{length}
 use lib.Dec.{eqb, leb}
 use borrow.Author.Tests.{eqb-false, ne_eqb, leb-false, lt-leb}
 use Rattle.jose.specs.declared.Sizes.{Sizes}
-use Rattle.base64url.specs.Base64url.{encoded, decoded}
+use Rattle.base64url.specs.Base64url.{decoded}
 use Rattle.base64url.proofs.Laws.{decode_encode}
 use Rattle.parts.specs.Parts.{holds}
 use Rattle.grammar.specs.Places.{Place}

@@ -21,7 +21,7 @@ use Rattle.headers.specs.Headers.{outermost, protected_entries, object_order}
 use Rattle.headers.specs.Headers as headers
 use Rattle.shape.specs.Shape.{Recipient}
 use Rattle.jwe.specs.General.{shared_entries, own_entries, parameters, headers_order, recipients_order, content_order}
-use Rattle.meets.specs.Members.{Member, names_of_lem, Distinct}
+use Rattle.meets.specs.Members.{Member, names_of, Distinct}
 use Rattle.meets.specs.Rules.{Headers}
 use Rattle.meets.specs.Meets.{OneContent}
 use Rattle.meets.proofs.OneForOne.{OneForOne, zip_length}
@@ -38,7 +38,7 @@ use Rattle.refusals.proofs.SpelledRefuses.{Kept, keyed, own_stands, owns_found}
 -- No name stands twice in an own header.
 abbrev OwnsOnce : (rs : List (List Member)) → Every Own rs → Type 0
 OwnsOnce [] o = Unit {0}
-OwnsOnce (ms ∷ rs) o = Distinct (names_of_lem o.0.0) × OwnsOnce rs o.1
+OwnsOnce (ms ∷ rs) o = Distinct (names_of o.0.0) × OwnsOnce rs o.1
 
 module _ (message : List ℕ) where
   stands : (ms : List Member) (r : Recipient) → Kept message ms r → (o : Own ms) →
@@ -74,7 +74,7 @@ module _ (message : List ℕ) where
 module _ (known : List (List ℕ)) (header message : List ℕ) (es : List Entry) (protected shared : List Member)
     (zp : OneForOne (MemberStands header) protected (outermost header))
     (zs : OneForOne (MemberStands message) shared (headers.members_of message (value_of 2 es).start))
-    (dp : Distinct (names_of_lem protected)) (ds : Distinct (names_of_lem shared)) where
+    (dp : Distinct (names_of protected)) (ds : Distinct (names_of shared)) where
   abbrev rules_tests : Recipient → List Test
   rules_tests r =
       recipient_order known (read_texts header message) (parameters header message (top_of es) r)

@@ -8,7 +8,7 @@ use Prim.Native.Nat.{ℕ}
 use lib.ListN.{length}
 use lib.Dec.{ltb}
 use borrow.Author.Tests.{ltb-false, le-ltb}
-use Rattle.names.specs.Names.{names, sound}
+use Rattle.names.specs.Names.{sound}
 use Rattle.grammar.specs.Reader.{opens_object}
 use Rattle.prelude.specs.Refusals.{first}
 use Rattle.jwe.specs.Compact.{compact_order}

@@ -1,6 +1,6 @@
 -- 6 to 9 on a header, and 12 to 18 on a recipient, refuse as the tables say.
 use mathlib.Core.Path.{◌≡◌}
-use mathlib.Core.Bool.{Bool, true}
+use mathlib.Core.Bool.{true}
 use mathlib.Core.Logic.{◌↔◌}
 use mathlib.Core.List.{List, [], ◌++◌}
 use Prim.Native.Nat.{ℕ, ◌≤◌}
@@ -14,7 +14,7 @@ use Rattle.jose.specs.Registered.{registered}
 use Rattle.prelude.specs.Refusals.{Test, first}
 use Rattle.jose.specs.HeaderRules.{recipient_order}
 use Rattle.headers.specs.Headers.{text_order, object_order}
-use Rattle.meets.specs.Members.{Member, members_of, names_of_lem, Distinct}
+use Rattle.meets.specs.Members.{Member, members_of, names_of, Distinct}
 use Rattle.meets.specs.Rules.{Headers, parameters}
 use Rattle.meets.proofs.OneForOne.{OneForOne}
 use Rattle.meets.proofs.Rows.{unread_decides}
@@ -32,7 +32,7 @@ use Rattle.refusals.proofs.Steps.{step}
 -- 8 and 9
 pub object_refuses : (names : List (List ℕ)) (s : List ℕ) (o : ℕ) (ps : List Member) (es : List Entry) →
     OneForOne (EntryStands names (one_text s) o) ps es → (t : Table) (ts : List Test) →
-    (length ps ≤ 32 → Distinct (names_of_lem ps) → Refuses t (first ts)) →
+    (length ps ≤ 32 → Distinct (names_of ps) → Refuses t (first ts)) →
     Refuses (object_table ps t) (first (object_order s es ++ ts))
 unfolding object_order
 object_refuses names s o ps es z t ts f =

@@ -9,7 +9,7 @@ use Rattle.grammar.specs.Bounds.{Every}
 use Rattle.grammar.specs.Readings.{Reading}
 use Rattle.algorithms.specs.Algorithms.{alg_name, mode, alg_names, enc_names, zip_names}
 use Rattle.algorithms.specs.declared.Alg.{Alg}
-use Rattle.meets.specs.Members.{Member, members_of, names_of_lem, Distinct}
+use Rattle.meets.specs.Members.{Member, members_of, names_of, Distinct}
 use Rattle.meets.specs.Rules.{Headers, parameters, EveryNamed, NamesApart, Present, string_names, object_names, array_names}
 use Rattle.meets.specs.Rules.{OfKind, ValueAmong, Critical, KeyFits}
 use Rattle.meets.specs.Meets.{Octets, RecipientShape, TopShape, Component, HeaderIn, RecipientsIn, OneContent, OpensCurly}
@@ -18,7 +18,7 @@ use Rattle.refusals.specs.Table.{Table, pass, rule, given, fork}
 
 -- On an object whose names are compared: 8, over 32 members; 9, a name twice.
 abbrev pub object_table : List Member → Table → Table
-object_table ms rest = rule 8 (length ms ≤ most_members) λ few. rule 9 (Distinct (names_of_lem ms)) λ once. rest
+object_table ms rest = rule 8 (length ms ≤ most_members) λ few. rule 9 (Distinct (names_of ms)) λ once. rest
 
 -- 12 to 18, on a recipient's headers and its key.
 unfoldable pub recipient_table : List (List ℕ) → Headers → List ℕ → Table → Table

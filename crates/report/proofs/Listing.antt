@@ -1,12 +1,12 @@
 -- The lines of a list of parameters, six numbers each: one after the other, and as those of the entries that it lists.
 use mathlib.Core.Path.{◌≡◌, refl, ap, ap₂, ◌∙◌}
 use mathlib.Core.List.{List, [], ◌∷◌, ◌++◌}
-use Prim.Native.Nat.{ℕ, zero, suc, ◌+◌, ◌-◌, ◌*◌, ◌≤◌, ◌<◌}
+use Prim.Native.Nat.{ℕ, suc, ◌+◌, ◌-◌, ◌*◌, ◌≤◌, ◌<◌}
 use native.Mathlib.Omega.{arith}
 use lib.ListN.{length, take, drop}
 use lib.Seq.{drop-drop}
 use Rattle.rows.specs.Rows.{Entry}
-use Rattle.rows.specs.Tables.{list_row, listed, first_of, list_width}
+use Rattle.rows.specs.Tables.{listed, first_of, list_width}
 use Rattle.report.specs.Report.{parameter_line, parameter_lines}
 use Rattle.report.specs.Answers.{list_lines}
 

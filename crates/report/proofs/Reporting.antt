@@ -1,8 +1,8 @@
 -- The report by what the reader answers: too long, accepted with the numbers of its result and its list, or refused.
-use mathlib.Core.Path.{◌≡◌, refl, ap, ap₂, sym, subst, ◌∙◌}
+use mathlib.Core.Path.{◌≡◌, refl, ap, ap₂, sym, ◌∙◌}
 use mathlib.Core.Bool.{Bool, true, false, cond}
 use mathlib.Core.List.{List, ◌++◌}
-use Prim.Native.Nat.{ℕ, ◌+◌, ◌*◌, ◌≤◌, ◌<◌}
+use Prim.Native.Nat.{ℕ, ◌+◌, ◌≤◌, ◌<◌}
 use native.Mathlib.Omega.{arith}
 use lib.ListN.{length, drop, get_or}
 use lib.Dec.{eqb, ltb}
@@ -15,7 +15,7 @@ use Rattle.grammar.proofs.Endings.{either}
 use Rattle.rows.specs.Tables.{listed}
 use Rattle.rows.proofs.Entries.{listed_length}
 use Rattle.jose.specs.HeaderRules.{mode_in}
-use Rattle.jwe.specs.Judge.{refusal, Outcome, outcome, accepted, refused, result, list_after}
+use Rattle.jwe.specs.Judge.{refusal, Outcome, outcome, accepted, refused, result_of, list_after}
 use Rattle.jwe.specs.Answers.{numbers}
 use Rattle.jwe.specs.declared.Result.{Result}
 use Rattle.meets.proofs.HandedFits.{handed_fits}
@@ -54,9 +54,9 @@ module _ (message : List ℕ) where
   abbrev pub number : ℕ
   number = refusal (reading message)
 
-  module _ (r : Result) (e : numbers r ≡ result (reading message)) where
+  module _ (r : Result) (e : numbers r ≡ result_of (reading message)) where
     pub number_is : r.number ≡ number
-    unfolding result accepted refused
+    unfolding result_of accepted refused
     number_is =
         ap (λ (l : List ℕ). get_or l 0 0) e
         ∙ either (λ (l : List ℕ). get_or l 0 0 ≡ number) (eqb number 0) (λ t. sym (eqb-true number 0 t)) (λ _. refl)
@@ -67,7 +67,7 @@ module _ (message : List ℕ) where
       passed = sym number_is ∙ z
 
       numbers_accepted : numbers r ≡ accepted message (outcome message 0)
-      unfolding result
+      unfolding result_of
       numbers_accepted =
           e ∙ ap (λ (b : Bool). cond b (accepted message (outcome message 0)) (refused number)) (eq-eqb number 0 passed)
 

@@ -8,9 +8,8 @@ use lib.Dec.{ltb}
 use borrow.Author.Tests.{eq-eqb, le-ltb}
 use Rattle.prelude.specs.Buffer.{AllBelow, written}
 use Rattle.prelude.specs.Refusals.{first}
-use Rattle.prelude.specs.Outputs.{output_after}
 use Rattle.base64url.specs.Base64url.{encoded, decoded}
-use Rattle.base64url.specs.Fault.{Fault, none, fault}
+use Rattle.base64url.specs.Fault.{Fault}
 use Rattle.base64url.specs.Answers.{of_fault, decode_order, decode_refusal, decode_buffer}
 use Rattle.base64url.proofs.Laws.{decode_encode, accepted_exactly}
 use Rattle.grammar.specs.Places.{Place}

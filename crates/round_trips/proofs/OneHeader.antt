@@ -1,12 +1,12 @@
 -- The rules on a recipient whose parameters all stand in its protected header: the message's text is not asked, and 12
 -- and 16 cannot fail. So the reader's rules are the writer's.
 use mathlib.Core.Path.{◌≡◌, refl, ap, ap₂, ◌∙◌}
-use mathlib.Core.Bool.{Bool, true, false, not, ◌&&◌, ◌||◌}
+use mathlib.Core.Bool.{Bool, true, false, ◌&&◌, ◌||◌}
 use mathlib.Core.List.{List, [], ◌∷◌, map}
 use Prim.Native.Nat.{ℕ}
 use Rattle.grammar.specs.Places.{Member}
 use Rattle.prelude.specs.Any.{any, any_pair}
-use Rattle.prelude.specs.Refusals.{Test, first}
+use Rattle.prelude.specs.Refusals.{first}
 use Rattle.rows.specs.Rows.{Entry, read_texts, one_text, entry_of, entries_in, numbered, repeated, same}
 use Rattle.jose.specs.declared.Sizes.{Sizes}
 use Rattle.jose.specs.Registered.{registered, zip, crit}

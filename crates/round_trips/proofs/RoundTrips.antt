@@ -15,11 +15,9 @@ use Rattle.prelude.proofs.Writing.{begins}
 use Rattle.grammar.specs.Reader.{opens_object}
 use Rattle.rows.specs.Tables.{listed}
 use Rattle.headers.specs.Components.{Components}
-use Rattle.headers.specs.Headers.{protected_entries}
 use Rattle.jwe.specs.Compact.{compact_components}
 use Rattle.jwe.specs.Judge.{Call, call, Outcome, refusal, refused, outcome, accepted, places_in}
-use Rattle.jwe.specs.Inner.Outcomes.{compact_outcome, json_outcome}
-use Rattle.jwe.specs.Judge.{result, header_after, list_after}
+use Rattle.jwe.specs.Judge.{result_of, header_after, list_after}
 use Rattle.jwe_write.specs.Write.{Raw, compact_text, write_refusal}
 use Rattle.meets.specs.Meets.{Meets}
 use Rattle.meets.proofs.Accepted.{accepted_exactly}
@@ -28,7 +26,7 @@ use Rattle.round_trips.specs.Trips.{RawOctets, written_places, written_outcome, 
 use Rattle.round_trips.specs.Trips.{taken_apart, WritesBack}
 use Rattle.round_trips.proofs.ComingBack.{all_come_back}
 use Rattle.round_trips.proofs.Passing.{write_decided}
-use Rattle.round_trips.proofs.Places.{spelled, places_are, written_stands}
+use Rattle.round_trips.proofs.Places.{spelled, written_stands}
 use Rattle.round_trips.proofs.WrittenReads as WrittenReads
 use Rattle.round_trips.proofs.ReadWrites.{compact_form_lem, places_read, raw, raw_octets, stands, taken, same_text_lem}
 use Rattle.round_trips.proofs.ReadWrites.{written_again}
@@ -56,8 +54,8 @@ module _ (c : Raw) (known out buffer list : List ℕ) (o : RawOctets c) (e : wri
   same : outcome message 0 ≡ written_outcome c
   same = WrittenReads.handed c o known (length out) e
 
-  result_is : result reading ≡ accepted message (written_outcome c)
-  unfolding result
+  result_is : result_of reading ≡ accepted message (written_outcome c)
+  unfolding result_of
   result_is =
       ap (λ (b : Bool). cond b (accepted message (outcome message 0)) (refused (refusal reading))) passes
       ∙ ap (accepted message) same
@@ -90,13 +88,13 @@ module _ (c : Call) where
   number = refusal c
 
   abbrev answer : List ℕ
-  answer = result c
+  answer = result_of c
 
   abbrev handed : Outcome
   handed = outcome c.message c.recipient
 
   pub number_first : get_or answer 0 0 ≡ number
-  unfolding result accepted refused
+  unfolding result_of accepted refused
   number_first = cases (eqb number 0) refl
     where
       cases : (b : Bool) → eqb number 0 ≡ b →
@@ -109,7 +107,7 @@ module _ (c : Call) where
     passed = sym number_first ∙ zero
 
     answer_is : answer ≡ accepted c.message handed
-    unfolding result
+    unfolding result_of
     answer_is =
         ap (λ (b : Bool). cond b (accepted c.message handed) (refused number)) (eq-eqb number 0 passed)
 

@@ -9,7 +9,7 @@ use Rattle.grammar.specs.Places.{Place}
 use Rattle.rows.specs.Tables.{listed}
 use Rattle.headers.specs.Components.{absent, Components}
 use Rattle.headers.specs.Headers.{protected_entries}
-use Rattle.jwe.specs.Judge.{Call, Outcome, places_in, result, header_after, list_after}
+use Rattle.jwe.specs.Judge.{Call, Outcome, places_in, result_of, header_after, list_after}
 use Rattle.shown.specs.Shown.{component_shown}
 use Rattle.jwe_write.specs.Write.{Raw, compact_text, write_refusal}
 use Rattle.jwe_write.specs.Answers.{write_buffer}
@@ -71,11 +71,11 @@ wrote c known out =
 -- and the list with its parameters, the rest of both unchanged, and the components come back at the places that the result
 -- has.
 pub record ReadsBack (c : Raw) (reading : Call) (buffer list : List ℕ) : Type 0 where
-  pub accepted : get_or (result reading) 0 0 ≡ 0
-  pub compact : get_or (result reading) 1 0 ≡ 0
+  pub accepted : get_or (result_of reading) 0 0 ≡ 0
+  pub compact : get_or (result_of reading) 1 0 ≡ 0
   pub header_left : header_after reading buffer ≡ written 0 c.header buffer
   pub list_left : list_after reading list ≡ written 0 (listed (protected_entries c.header)) list
-  pub components : AllComeBack reading.message (places_in (result reading)) c
+  pub components : AllComeBack reading.message (places_in (result_of reading)) c
 
 -- A compact message, taken apart by places: what is shown at each, decoded.
 unfoldable pub taken_apart : List ℕ → Components → Raw

@@ -2,13 +2,11 @@
 use mathlib.Core.Path.{◌≡◌, ap, sym, subst, ◌∙◌}
 use mathlib.Core.List.{List}
 use Prim.Native.Nat.{ℕ, ◌+◌, ◌-◌, ◌*◌, ◌≤◌, ◌<◌}
-use native.Mathlib.Nat.{add-zero}
 use native.Mathlib.Omega.{arith}
-use lib.ListN.{length, take, drop, get_or, set, length-drop, drop_of_length-le}
+use lib.ListN.{length, take, drop, length-drop}
 use lib.Seq.{take-take}
 use Rattle.prelude.specs.Buffer.{written}
-use Rattle.prelude.proofs.Lists.{drop_next}
-use Rattle.prelude.proofs.Writing.{Writing, begin, put, put_part, done}
+use Rattle.prelude.proofs.Writing.{Writing, begin, put_part, done}
 use Rattle.rows.specs.Rows.{Entry}
 use Rattle.rows.specs.Tables.{list_row, listed, first_of, entries_of, width, list_width}
 use Rattle.rows.proofs.Entries.{listed_length, entries_length, eight_first, entry_at, entries_done}

@@ -1,6 +1,6 @@
 -- Members of the objects whose names are compared, as entries: document 01's list entry (origin, the name's place, the
 -- value's place, the kind), and which of some names the member has.
-use Rattle.std.specs.Prelude.{List, [], ◌∷◌, map, Bool, true, not, ◌&&◌, cond, ℕ, zero, suc, ◌+◌, ◌-◌, eqb}
+use Rattle.std.specs.Prelude.{List, [], ◌∷◌, map, Bool, not, ◌&&◌, cond, ℕ, zero, suc, ◌+◌, ◌-◌, eqb}
 use Rattle.parts.specs.Parts.{part}
 use Rattle.names.specs.Names.{number_in}
 use Rattle.grammar.specs.Places.{Member, Place}

@@ -15,8 +15,8 @@ all f [] = true
 all f (x ∷ xs) = f x && all f xs
 
 -- The octets of a value, with its brackets or quotation marks and without the space around it.
-abbrev pub field_own : List ℕ → Element → List ℕ
-field_own s x = part s x.start x.size
+abbrev pub own_at : List ℕ → Element → List ℕ
+own_at s x = part s x.start x.size
 
 -- A string as it is spelled, without quotation marks.
 abbrev pub spelled_at : List ℕ → Element → List ℕ
@@ -55,7 +55,7 @@ same_kind inner s t x y =
 unfoldable pub same_with : (Element → Element → Bool) → List ℕ → List ℕ → Element → Element → Bool
 same_with inner s t x y =
     let k = same_kind inner s t x y in
-    equal (field_own s x) (field_own t y) || (eqb x.kind y.kind && k)
+    equal (own_at s x) (own_at t y) || (eqb x.kind y.kind && k)
 
 -- Two values of at most so many levels: strings, numbers and literals have none, and an object or an array one more
 -- than what stands in it.

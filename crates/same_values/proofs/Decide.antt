@@ -19,7 +19,7 @@ use Rattle.grammar.specs.Bounds.{Every}
 use Rattle.grammar.specs.Reader.{as_element, members_at, elements_at}
 use Rattle.grammar.proofs.Endings.{either}
 use Rattle.prelude.specs.Any.{any_pair}
-use Rattle.meets.specs.Members.{Member, members_of, elements_of, names_of_lem, Some, Distinct, OneForOne}
+use Rattle.meets.specs.Members.{Member, members_of, elements_of, names_of, Some, Distinct, OneForOne}
 use Rattle.meets.proofs.OneForOne.{zip_length, zip_into, zip_map_left, zip_any}
 use Rattle.meets.proofs.Deciding.{TrueWhere, FalseWhere, eqb_where}
 use Rattle.meets.proofs.Deciding as deciding
@@ -60,12 +60,12 @@ value_stands s m p h = record { kinds = h.kinds; stands = h.stands }
 
 -- Names that are distinct, by the test.
 names_decided : (s : List ℕ) (ms : List Member) (ps : List places.Member) → OneForOne (MemberStands s) ms ps →
-    TrueWhere (not (repeats s ps)) (Distinct (names_of_lem ms))
+    TrueWhere (not (repeats s ps)) (Distinct (names_of ms))
 unfolding repeats
 names_decided s ms ps z =
     not_where (any_pair (same_name s s) ps)
     (distinct_where (λ x p. Spells (name_at s p) x) (same_name s s)
-    (λ x y p q g h. alike_spells (name_at s p) x g (name_at s q) y h) (names_of_lem ms) ps
+    (λ x y p q g h. alike_spells (name_at s p) x g (name_at s q) y h) (names_of ms) ps
     ((zip_map_left (λ x p. Spells (name_at s p) x) (λ (m : Member). m.name) ms ps).0
     (zip_into (MemberStands s) (λ m p. Spells (name_at s p) m.name) (name_spells s) ms ps z)))
 
@@ -131,7 +131,7 @@ module _ (s t : List ℕ) (inner : Element → Element → Bool) (l : ℕ)
   members_decided : (ms ns : List Member) (ps qs : List places.Member) → Every (ShallowMember l) ms →
       OneForOne (MemberStands s) ms ps → OneForOne (MemberStands t) ns qs →
       TrueWhere (same_members inner s t ps qs)
-      ((length ms ≡ length ns) × (Distinct (names_of_lem ms) × (Distinct (names_of_lem ns) × ByName Same ms ns)))
+      ((length ms ≡ length ns) × (Distinct (names_of ms) × (Distinct (names_of ns) × ByName Same ms ns)))
   unfolding same_members
   members_decided ms ns ps qs k a b =
       both_where _ _ (lengths_decided ms ns ps qs a b) (both_where _ _ (names_decided s ms ps a)

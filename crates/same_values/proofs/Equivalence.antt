@@ -1,7 +1,7 @@
 -- The relation is symmetric and transitive, for all values, and an object that repeats a name is the same as the same
 -- octets only. By induction on the levels of the left value: what stands in it keeps what is to be shown
--- (`with-below`), and one level of the comparison is turned round, or put behind another, clause by clause. Where a
--- name repeats, the octets are the same, and `same-octets` gives what is wanted.
+-- (`with_below`), and one level of the comparison is turned round, or put behind another, clause by clause. Where a
+-- name repeats, the octets are the same, and `same_octets` gives what is wanted.
 use mathlib.Core.Path.{◌≡◌, sym, ap, ◌∙◌}
 use mathlib.Core.List.{List, [], ◌∷◌}
 use mathlib.Core.Logic.{inl, inr}

@@ -18,7 +18,7 @@ use Rattle.grammar.specs.Bounds.{Every}
 use Rattle.grammar.proofs.Theorems.{placed_alike}
 use Rattle.grammar.proofs.Spellings.{undo_spelling}
 use Rattle.prelude.specs.Any.{any_pair}
-use Rattle.meets.specs.Members.{Member, members_of, elements_of, names_of_lem, Some, Distinct, OneForOne}
+use Rattle.meets.specs.Members.{Member, members_of, elements_of, names_of, Some, Distinct, OneForOne}
 use Rattle.meets.proofs.OneForOne.{zip_length}
 use Rattle.meets.proofs.Deciding.{TrueWhere, every_map}
 use Rattle.meets.proofs.Numbering.{equal_where}
@@ -130,7 +130,7 @@ module _ (u : List ℕ) (R : Value → Value → Type 0) (l : ℕ)
         (sits_rows u v p a).1 (sits_rows u w p b).1)
 
     object_related : kind v ≡ 0 → SameWith R v w
-    object_related e = cases (distinct_or (names_of_lem (members_of v))) (distinct_or (names_of_lem (members_of w)))
+    object_related e = cases (distinct_or (names_of (members_of v))) (distinct_or (names_of (members_of w)))
       where
         z : OneForOne Pair (members_of v) (members_of w)
         z =
@@ -138,14 +138,14 @@ module _ (u : List ℕ) (R : Value → Value → Type 0) (l : ℕ)
             (sits_rows u v p a).0 (sits_rows u w p b).0
 
         -- Their names say the same, one for one.
-        transfer : (ms ns : List Member) → OneForOne Pair ms ns → Distinct (names_of_lem ms) → Distinct (names_of_lem ns)
+        transfer : (ms ns : List Member) → OneForOne Pair ms ns → Distinct (names_of ms) → Distinct (names_of ns)
         transfer [] [] q d = tt
         transfer [] (n ∷ ns) q d = absurd q
         transfer (m ∷ ms) [] q d = absurd q
         transfer (m ∷ ms) (n ∷ ns) q d = (apart ms ns q.1 d.0, transfer ms ns q.1 d.1)
           where
             apart : (xs ys : List Member) → OneForOne Pair xs ys →
-                Every (λ y. SayAlike m.name y → ⊥) (names_of_lem xs) → Every (λ y. SayAlike n.name y → ⊥) (names_of_lem ys)
+                Every (λ y. SayAlike m.name y → ⊥) (names_of xs) → Every (λ y. SayAlike n.name y → ⊥) (names_of ys)
             apart [] [] r f = tt
             apart [] (y ∷ ys) r f = absurd r
             apart (x ∷ xs) [] r f = absurd r

@@ -7,7 +7,7 @@ use Prim.Native.Nat.{ℕ, ◌≤◌}
 use lib.ListN.{length}
 use Rattle.grammar.specs.Grammar.{Value}
 use Rattle.grammar.specs.Places.{levels, kind, Element}
-use Rattle.meets.specs.Members.{Member, names_of_lem, Distinct}
+use Rattle.meets.specs.Members.{Member, names_of, Distinct}
 use Rattle.meets.proofs.Standing.{ElementStands}
 use Rattle.same.specs.Same.{same_at}
 use Rattle.same_values.specs.Same.{own, NamesDistinct, ByName, SameWith, Same}
@@ -49,7 +49,7 @@ repeated_right = Equivalence.repeated_right
 
 -- That the right names are distinct need not be asked: it follows.
 pub right_distinct : (R : Value → Value → Type 0) (ms ns : List Member) → length ms ≡ length ns →
-    Distinct (names_of_lem ms) → ByName R ms ns → Distinct (names_of_lem ns)
+    Distinct (names_of ms) → ByName R ms ns → Distinct (names_of ns)
 right_distinct = Pairing.right_distinct
 
 -- Comparing two values where they stand, within the levels that the left one has, decides it.

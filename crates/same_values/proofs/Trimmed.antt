@@ -7,7 +7,7 @@ use native.Mathlib.Omega.{arith}
 use lib.ListN.{length}
 use Rattle.grammar.specs.Grammar.{octets, Literal, Value, nested, empty, string, number, literal, leaves_value}
 use Rattle.grammar.specs.Places.{kind, leading, trailing}
-use Rattle.meets.specs.Members.{members_of, elements_of, names_of_lem, Distinct, OneForOne}
+use Rattle.meets.specs.Members.{members_of, elements_of, names_of, Distinct, OneForOne}
 use Rattle.same_values.specs.Same.{own, ByName, SameWith, strings, numbers, literals, arrays, objects, repeating}
 use Rattle.same_values.proofs.EachKind.{bracket_low, literal_high}
 use Rattle.same_values.proofs.Sitting.{leaves_own}
@@ -93,9 +93,9 @@ untrimmed R v w (arrays e f h) =
     (subst₂ (OneForOne R) (trim_elements v) (trim_elements w) h)
 untrimmed R v w (objects e f d g n h) =
     objects (sym (trim_kind v) ∙ e) (sym (trim_kind w) ∙ f)
-    (subst (λ ms. Distinct (names_of_lem ms)) (trim_members v) d) (subst (λ ms. Distinct (names_of_lem ms)) (trim_members w) g)
+    (subst (λ ms. Distinct (names_of ms)) (trim_members v) d) (subst (λ ms. Distinct (names_of ms)) (trim_members w) g)
     (sym (ap length (trim_members v)) ∙ n ∙ ap length (trim_members w))
     (subst₂ (ByName R) (trim_members v) (trim_members w) h)
 untrimmed R v w (repeating e f d h) =
     repeating (sym (trim_kind v) ∙ e) (sym (trim_kind w) ∙ f)
-    (λ g. d (subst (λ ms. Distinct (names_of_lem ms)) (sym (trim_members v)) g)) (sym (trim_own v) ∙ h ∙ trim_own w)
+    (λ g. d (subst (λ ms. Distinct (names_of ms)) (sym (trim_members v)) g)) (sym (trim_own v) ∙ h ∙ trim_own w)

@@ -8,7 +8,7 @@ use Rattle.grammar.specs.Grammar.{nested, empty, string, number, literal, leaves
 use Rattle.grammar.specs.Places.{levels, kind}
 use Rattle.grammar.specs.Strings.{SayAlike}
 use Rattle.grammar.specs.Bounds.{Every}
-use Rattle.meets.specs.Members.{Member, members_of, elements_of, names_of_lem, Some, Distinct, OneForOne}
+use Rattle.meets.specs.Members.{Member, members_of, elements_of, names_of, Some, Distinct, OneForOne}
 
 -- The octets of a value without the space around it.
 unfoldable pub own : Value → List ℕ
@@ -21,7 +21,7 @@ own (literal x) = letters x
 
 -- No two names of an object say the same.
 abbrev pub NamesDistinct : Value → Type 0
-NamesDistinct v = Distinct (names_of_lem (members_of v))
+NamesDistinct v = Distinct (names_of (members_of v))
 
 -- Each left member has a right one whose name says the same and whose value is related.
 abbrev pub ByName : (Value → Value → Type 0) → List Member → List Member → Type 0

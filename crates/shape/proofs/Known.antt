@@ -1,7 +1,7 @@
 -- Of a message whose top level has passed: what opens in the object that it is, in `recipients`, in the elements of
 -- that and in headers reads. Members are rows of what the reader found, and 10 has asked for their kinds.
 use mathlib.Core.Path.{◌≡◌, refl, ap, sym, subst, ◌∙◌}
-use mathlib.Core.Bool.{Bool, true, false, not, ◌||◌, cond, true≢false}
+use mathlib.Core.Bool.{Bool, true, false, ◌||◌, cond, true≢false}
 use mathlib.Core.List.{List, [], ◌∷◌, ◌++◌, map, flat_map}
 use Prim.Native.Nat.{ℕ, zero, suc, ◌<◌}
 use native.Mathlib.Nat.{not-suc-le-zero, le_of_suc-le-suc}
@@ -12,17 +12,17 @@ use borrow.Author.Tests.{eqb-true, eq-eqb, not-false}
 use Rattle.grammar.specs.Grammar.{curly, square}
 use Rattle.grammar.specs.Places.{Member, Element}
 use Rattle.grammar.specs.Bounds.{Every}
-use Rattle.grammar.specs.Reader.{skip_space, Answer, nothing, found, read_text, members_at, elements_at}
+use Rattle.grammar.specs.Reader.{skip_space, members_at, elements_at}
 use Rattle.json_read.specs.Inner.Known.{KnownIn}
 use Rattle.json_read.proofs.Knowing.{text_known}
 use Rattle.json_read.proofs.RowValues.{Reads, reads_known, members_read_lem, elements_read}
 use Rattle.prelude.specs.Any.{any}
-use Rattle.rows.specs.Rows.{Entry, one_text, entry_of, entries_in, numbered, present, value_of, repeated}
+use Rattle.rows.specs.Rows.{Entry, one_text, entries_in, numbered, present, value_of, repeated}
 use Rattle.prelude.specs.Refusals.{Test, ◌if◌, first}
 use Rattle.prelude.proofs.Refusals.{nonzero, first_append}
 use Rattle.jose.specs.HeaderRules.{is_empty}
 use Rattle.headers.specs.Headers.{is_nothing, unread, outermost, object_order}
-use Rattle.shape.specs.Shape.{member_names, member_entries, wrong_component, wrong_header, wrong_member, wrong_top}
+use Rattle.shape.specs.Shape.{member_names, member_entries, wrong_header, wrong_member, wrong_top}
 use Rattle.shape.specs.Shape.{no_object, wrong_elements, wrong_in_element, wrong_element, recipient_of}
 use Rattle.shape.specs.Recipients.{top_entries, top_order, elements_in, element_entries, element_order, elements_order}
 use Rattle.shape.specs.Recipients.{recipients_in}

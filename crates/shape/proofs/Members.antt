@@ -1,6 +1,6 @@
 -- 10 on one member and on the top level, by the answers to the questions that the definitions ask: each law takes the
 -- answers, those that a return of the code knows being written out and the others being what they are.
-use mathlib.Core.Path.{◌≡◌, refl, ap, ap₂, sym, ◌∙◌}
+use mathlib.Core.Path.{◌≡◌, ap, ap₂, sym, ◌∙◌}
 use mathlib.Core.Bool.{Bool, true, false, not, ◌&&◌, ◌||◌, cond}
 use mathlib.Core.List.{List}
 use Prim.Native.Nat.{ℕ}

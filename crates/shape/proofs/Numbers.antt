@@ -6,7 +6,7 @@ use Prim.Native.Nat.{ℕ, ◌+◌, ◌-◌}
 use borrow.Author.Tests.{eq-eqb, ne_eqb}
 use Rattle.grammar.specs.Places.{Place}
 use Rattle.rows.specs.Rows.{Entry, value_of}
-use Rattle.headers.specs.Components.{absent, Components}
+use Rattle.headers.specs.Components.{absent}
 use Rattle.shape.specs.Shape.{inner, component, recipient_of}
 use Rattle.shape.specs.Recipients.{Top}
 use Rattle.shape.specs.Inner.Answers.{three}

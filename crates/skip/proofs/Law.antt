@@ -2,7 +2,7 @@
 -- levels and turns. A value leaves the search as it was, with as many brackets open behind it as before it.
 use mathlib.Core.Path.{◌≡◌, refl, ap, sym, subst, ◌∙◌}
 use mathlib.Core.Bool.{true, false}
-use mathlib.Core.List.{List, [], ◌∷◌}
+use mathlib.Core.List.{List}
 use mathlib.Core.Option.{Option, none, some}
 use Prim.Native.Nat.{ℕ, zero, suc, ◌<◌}
 use native.Mathlib.Omega.{arith}
@@ -21,7 +21,7 @@ use Rattle.grammar.proofs.Here.{octet_here, step_inside, class_inside}
 use Rattle.skip.specs.Inner.Past.{is_opening, is_closing, outside, past_from, past_nested}
 use Rattle.skip.proofs.Steps.{past_opening, past_closing, past_closed}
 use Rattle.skip.proofs.Passing.{one_clear, space_clear, Through, Passed, through_same, through_then, step_over}
-use Rattle.skip.proofs.Passing.{skip_over, passed_from, string_over, number_over, word_over}
+use Rattle.skip.proofs.Passing.{skip_over, string_over, number_over, word_over}
 
 -- Brackets are marks of their kind, and octets.
 

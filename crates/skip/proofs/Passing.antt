@@ -1,17 +1,17 @@
 -- The search goes over what the reader passes: from the start of a run, a string, a number or a word it comes to the
 -- same end as from behind it, however many brackets are open.
 use mathlib.Core.Path.{◌≡◌, refl, ap, sym, subst, ◌∙◌}
-use mathlib.Core.Bool.{Bool, true, false, not, ◌&&◌, ◌||◌, cond}
+use mathlib.Core.Bool.{Bool, true, false, not, ◌&&◌, ◌||◌}
 use mathlib.Core.List.{List, [], ◌∷◌}
 use Prim.Native.Nat.{ℕ, zero, suc, ◌+◌, ◌-◌, ◌≤◌, ◌<◌}
 use native.Mathlib.Omega.{arith}
 use lib.ListN.{length, drop, get_or}
-use lib.Dec.{T, eqb, eqb→eq, ltb}
+use lib.Dec.{T, eqb, ltb}
 use borrow.Author.Tests.{ltb-true, ltb-false, eqb-true}
 use Rattle.grammar.specs.Grammar.{quote, backslash, digit_zero, among, is_space, is_digit, is_nonzero, is_minus, is_point}
 use Rattle.grammar.specs.Grammar.{is_e, is_plus_minus, is_unescaped, is_escape, is_hex, letter_u}
-use Rattle.grammar.specs.Strings.{hex_more, is_high, is_low}
-use Rattle.grammar.specs.Reader.{octet_at, step, skip, End, refused, ended, and_then_lem, Scan, between, escaping, digit}
+use Rattle.grammar.specs.Strings.{hex_more, is_low}
+use Rattle.grammar.specs.Reader.{octet_at, step, skip, End, refused, ended, and_then, Scan, between, escaping, digit}
 use Rattle.grammar.specs.Reader.{Turn, broken, closed, go_on, after_char, after_unit, turn, scan_string, string_at}
 use Rattle.grammar.specs.Reader.{digits_at, int_at, perhaps_at, fraction_at, exponent_at, number_at, word_at}
 use Rattle.grammar.proofs.Parse.{true→T}
@@ -146,9 +146,9 @@ module _ (s : List ℕ) where
   passed_from refused g h = tt
   passed_from (ended e) g h = through_then g h
 
-  and_then : (at : ℕ) (x : End) (f : ℕ → End) → Passed at x → ((e : ℕ) → Passed e (f e)) → Passed at (and_then_lem x f)
-  and_then at refused f h g = tt
-  and_then at (ended e) f h g = passed_from (f e) h (g e)
+  and_then_lem : (at : ℕ) (x : End) (f : ℕ → End) → Passed at x → ((e : ℕ) → Passed e (f e)) → Passed at (and_then x f)
+  and_then_lem at refused f h g = tt
+  and_then_lem at (ended e) f h g = passed_from (f e) h (g e)
 
   -- Octets and runs of a class without a mark.
   module _ (p : ℕ → Bool) (none : Clear p) where
@@ -269,10 +269,10 @@ module _ (s : List ℕ) where
   unfolding number_at
   number_over at =
       let q = perhaps_at is_minus s at in
-      passed_from (and_then_lem (int_at s q) (λ e. and_then_lem (fraction_at s e) (λ f. exponent_at s f)))
+      passed_from (and_then (int_at s q) (λ e. and_then (fraction_at s e) (λ f. exponent_at s f)))
       (perhaps_over is_minus minus_clear at)
-      (and_then q (int_at s q) (λ e. and_then_lem (fraction_at s e) (λ f. exponent_at s f)) (int_over q)
-      (λ e. and_then e (fraction_at s e) (λ f. exponent_at s f) (fraction_over e) exponent_over))
+      (and_then_lem q (int_at s q) (λ e. and_then (fraction_at s e) (λ f. exponent_at s f)) (int_over q)
+      (λ e. and_then_lem e (fraction_at s e) (λ f. exponent_at s f) (fraction_over e) exponent_over))
 
   -- Words
 

@@ -1,6 +1,6 @@
 -- Spellings as the code reads them: a whole character at a time, its octets taken from the code point that it says.
-use mathlib.Core.Path.{◌≡◌, refl, ap, ap₂, sym, subst, ◌∙◌}
-use mathlib.Core.Bool.{Bool, true, false, ◌&&◌, true≢false, cond}
+use mathlib.Core.Path.{◌≡◌, refl, ap, ap₂, sym, ◌∙◌}
+use mathlib.Core.Bool.{Bool, true, false, cond}
 use mathlib.Core.List.{List, [], ◌∷◌, ◌++◌}
 use mathlib.Core.Option.{Option, none, some}
 use Prim.Native.Nat.{ℕ, zero, suc, ◌+◌, ◌-◌, ◌*◌, ◌/◌, ◌≤◌, ◌<◌}
@@ -9,7 +9,7 @@ use lib.ListN.{length, drop, get_or, drop_of_length-le, length-drop}
 use lib.Dec.{leb}
 use borrow.Author.Tests.{ne_eqb}
 use Rattle.prelude.proofs.Lists.{drop_next}
-use Rattle.grammar.specs.Strings.{hex_digit, hex_more, unit, escape_point, is_high, combined}
+use Rattle.grammar.specs.Strings.{hex_more, unit, escape_point, is_high, combined}
 use Rattle.grammar.specs.Utf8.{six_bits, encode}
 use Rattle.grammar.specs.Spellings.{Spot, between, escaping, digit, unit_octets, adds, next, undo_from}
 use Rattle.spelling.specs.Inner.Cursors.{half_of, undo_at, rest, told, size, Falls, cursor, encoded, pending_octet, pending_of}

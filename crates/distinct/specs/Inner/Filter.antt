@@ -1,7 +1,7 @@
 -- A filter of fingerprints: places, of which each holds a fingerprint or 0. What has been entered is found from its
 -- start on before the first 0, or there is no 0. That something is found says nothing: it is then looked for exactly.
 -- `size` is that of a window: a filter has four places for each of its members.
-use Rattle.std.specs.Prelude.{◌≡◌, Bool, true, false, List, ◌++◌, ◌⊎◌, ℕ, zero, suc, ◌+◌, ◌-◌, ◌*◌, ◌%◌, ◌≤◌, ◌<◌, get_or}
+use Rattle.std.specs.Prelude.{◌≡◌, Bool, true, false, List, ◌++◌, ◌⊎◌, ℕ, zero, suc, ◌-◌, ◌*◌, ◌%◌, ◌≤◌, ◌<◌, get_or}
 use Rattle.grammar.specs.Places.{Member}
 use Rattle.grammar.specs.Grammar.{curly}
 use Rattle.grammar.specs.Spellings.{undo}

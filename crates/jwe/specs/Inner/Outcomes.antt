@@ -1,4 +1,4 @@
--- What is handed out, form by form, as the code comes to it: `outcome-is` (proofs/Outcomes) says that it is `outcome`.
+-- What is handed out, form by form, as the code comes to it: `outcome_is` (proofs/Outcomes) says that it is `outcome`.
 use Rattle.std.specs.Prelude.{List, ℕ, length}
 use Rattle.headers.specs.Components.{compact_form}
 use Rattle.headers.specs.Headers.{header_text, protected_entries}

@@ -45,8 +45,8 @@ abbrev pub own_table : ℕ
 own_table = most_recipients * header_table
 
 -- The own entries of the k-th.
-abbrev pub field_own : List ℕ → List ℕ → ℕ → List Entry
-field_own message of k = own_entries message (recipient_at (drop (k * recipient_width) of))
+abbrev pub own_at : List ℕ → List ℕ → ℕ → List Entry
+own_at message of k = own_entries message (recipient_at (drop (k * recipient_width) of))
 
 -- Entries of the message, collected into a table 32 entries apart as the k-th there, with how many they are.
 pub record LaidAt (message : List ℕ) (es : List Entry) (own counts : List ℕ) (k : ℕ) : Type 0 where
@@ -56,7 +56,7 @@ pub record LaidAt (message : List ℕ) (es : List Entry) (own counts : List ℕ)
 
 -- The own headers so collected; k is below the number of recipients.
 abbrev pub OwnAt : List ℕ → List ℕ → List ℕ → List ℕ → ℕ → Type 0
-OwnAt message of own counts k = LaidAt message (field_own message of k) own counts k
+OwnAt message of own counts k = LaidAt message (own_at message of k) own counts k
 
 abbrev pub Owned : ℕ → List ℕ → List ℕ → List ℕ → List ℕ → Type 0
 Owned number message of own counts = (k : ℕ) → k < number → OwnAt message of own counts k

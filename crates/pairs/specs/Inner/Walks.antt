@@ -1,11 +1,10 @@
 -- Members of two objects paired by name: places in the right object, where a walk stands, and what a step answers. The
 -- left object's text is s, the right one's t, and j is where the right one begins.
-use Rattle.std.specs.Prelude.{◌≡◌, Bool, true, false, List, [], ◌∷◌, ◌++◌, ◌⊎◌, ℕ, ◌+◌, ◌<◌, length, get_or}
+use Rattle.std.specs.Prelude.{◌≡◌, true, false, List, [], ◌∷◌, ◌++◌, ◌⊎◌, ℕ, ◌+◌, ◌<◌, length, get_or}
 use Rattle.grammar.specs.Grammar.{curly}
 use Rattle.grammar.specs.Places.{Member}
 use Rattle.grammar.specs.Reader.{members_at}
 use Rattle.json_read.specs.Inner.Known.{KnownFrom}
-use Rattle.json_read.specs.declared.Position.{Position}
 use Rattle.json_read.specs.declared.member.Row.{Row}
 use Rattle.prelude.specs.Any.{any}
 use Rattle.distinct.specs.Names.{depth, same_name}

@@ -1,6 +1,6 @@
 -- Lines put behind others into a list, and what is kept of values that have been compared.
-use Rattle.std.specs.Prelude.{◌≡◌, Bool, cond, List, [], ◌∷◌, ◌++◌, ℕ, ◌+◌, ◌*◌, ◌≤◌, ◌<◌, length, take, get_or}
-use Rattle.std.proofs.Math.Option.{Option, some}
+use Rattle.std.specs.Prelude.{◌≡◌, cond, List, ◌++◌, ℕ, ◌+◌, ◌*◌, ◌≤◌, ◌<◌, length, take, get_or}
+use Rattle.std.proofs.Math.Option.{some}
 use Rattle.rows.specs.Rows.{Entry, Texts, text_of}
 use Rattle.rows.specs.Tables.{entries_of, width}
 use Rattle.rows.specs.Inner.Prints.{Printed}

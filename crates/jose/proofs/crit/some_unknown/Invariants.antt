@@ -1,0 +1,17 @@
+-- `some_unknown` walks along the elements: what is asked of those from here on stays the answer.
+use mathlib.Core.Path.{◌≡◌}
+use Rattle.grammar.specs.Reader.{elements_at}
+use Rattle.names.specs.Names.{names}
+use Rattle.prelude.specs.Any.{any}
+use Rattle.jose.specs.HeaderRules.{unknown}
+use Rattle.prelude.specs.Limits.{levels}
+use Rattle.jose.specs.Inner.Elements.{elements_from}
+use Rattle.jose.proofs.crit.some_unknown.Given as goal
+
+abbrev pub invariant-loop-left : goal.invariant-loop-left
+invariant-loop-left l =
+    any (unknown (names l.known) l.s) (elements_from l.s l.left l.p.at)
+    ≡ any (unknown (names l.known) l.s) (elements_at levels l.s l.at)
+
+abbrev pub decreases-loop-left : goal.decreases-loop-left
+decreases-loop-left l = l.left

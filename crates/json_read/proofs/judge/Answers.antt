@@ -1,0 +1,42 @@
+-- The tests of a text in the order of the definition, then what stands behind its value.
+use mathlib.Core.Path.{ap, sym, ◌∙◌}
+use Rattle.grammar.specs.Reader.{value_at}
+use Rattle.json_read.specs.Inner.Ends.{found_of}
+use Rattle.json_read.proofs.ValueParts.{is_found, is_nothing_lem, text_no_brace, text_not_utf8, text_wholly, wholly_nothing, wholly_not, wholly_found}
+use Rattle.json_read.proofs.judge.Goals as goal
+
+pub returns-then-peek-ne123 : goal.returns-then-peek-ne123
+returns-then-peek-ne123 c =
+    let a = c.args in
+    let s = a.s.now in
+    ap found_of (text_no_brace s a.levels c.skip_space-first.result.at c.peek.result c.skip_space-first.ensures c.peek.ensures c.if-peek-ne123.true)
+
+pub returns-then-not-utf8 : goal.returns-then-not-utf8
+returns-then-not-utf8 c =
+    let a = c.args in
+    let s = a.s.now in
+    ap found_of (text_not_utf8 s a.levels c.skip_space-first.result.at c.peek.result c.skip_space-first.ensures c.peek.ensures c.if-peek-ne123.false (sym c.utf8-2.ensures ∙ c.if-not-utf8.true))
+
+pub returns-in_default : goal.returns-in_default
+returns-in_default c =
+    let a = c.args in
+    let s = a.s.now in
+    let whole = text_wholly s a.levels c.skip_space-first.result.at c.peek.result c.skip_space-first.ensures c.peek.ensures c.if-peek-ne123.false (sym c.utf8-2.ensures ∙ c.if-not-utf8.false) in
+    let told = c.in_default.is in
+    told ∙ ap found_of (wholly_nothing s (value_at a.levels s c.skip_space-first.result.at) (is_nothing_lem _ (sym told ∙ c.value-outer.ensures)) ∙ whole)
+
+pub returns-then-skip_space-s : goal.returns-then-skip_space-s
+returns-then-skip_space-s c =
+    let a = c.args in
+    let s = a.s.now in
+    let whole = text_wholly s a.levels c.skip_space-first.result.at c.peek.result c.skip_space-first.ensures c.peek.ensures c.if-peek-ne123.false (sym c.utf8-2.ensures ∙ c.if-not-utf8.false) in
+    let here = is_found _ c.in-Value.end c.in-Value.kind (sym c.in-Value.is ∙ c.value-outer.ensures) in
+    ap found_of (wholly_not s (value_at a.levels s c.skip_space-first.result.at) c.in-Value.end.at c.in-Value.kind here c.skip_space.result.at c.skip_space.ensures c.if-skip_space-s.true ∙ whole)
+
+pub returns : goal.returns
+returns c =
+    let a = c.args in
+    let s = a.s.now in
+    let whole = text_wholly s a.levels c.skip_space-first.result.at c.peek.result c.skip_space-first.ensures c.peek.ensures c.if-peek-ne123.false (sym c.utf8-2.ensures ∙ c.if-not-utf8.false) in
+    let here = is_found _ c.in-Value.end c.in-Value.kind (sym c.in-Value.is ∙ c.value-outer.ensures) in
+    ap found_of (wholly_found s (value_at a.levels s c.skip_space-first.result.at) c.in-Value.end.at c.in-Value.kind here c.skip_space.result.at c.skip_space.ensures c.if-skip_space-s.false ∙ whole)

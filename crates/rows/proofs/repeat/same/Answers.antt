@@ -1,0 +1,27 @@
+-- `same` compares one name with the other, a part of the text that its entry's origin says.
+use mathlib.Core.Path.{ap, ◌∙◌}
+use Rattle.grammar.specs.Spellings.{alike}
+use Rattle.rows.specs.Rows.{texts, name_in}
+use Rattle.rows.proofs.Values.{entry, text_protected, text_shared, text_own, name_by}
+use Rattle.rows.proofs.repeat.same.Goals as goal
+
+pub returns-then-origin-eq0 : goal.returns-then-origin-eq0
+returns-then-origin-eq0 c =
+    let text = text_protected ((texts c.args.header.now c.args.shared.now c.args.own.now)) c.field-origin.ensures.value c.if-origin-eq0.true in
+    c.says.ensures
+    ∙ ap (alike (name_in ((texts c.args.header.now c.args.shared.now c.args.own.now)) (entry c.args.table.now c.args.i)))
+    (name_by ((texts c.args.header.now c.args.shared.now c.args.own.now)) (entry c.args.table.now c.args.j) text c.name.ensures)
+
+pub returns-then-origin-eq1 : goal.returns-then-origin-eq1
+returns-then-origin-eq1 c =
+    let text = text_shared ((texts c.args.header.now c.args.shared.now c.args.own.now)) c.field-origin.ensures.value c.if-origin-eq1.true in
+    c.says-then-origin-eq1.ensures
+    ∙ ap (alike (name_in ((texts c.args.header.now c.args.shared.now c.args.own.now)) (entry c.args.table.now c.args.i)))
+    (name_by ((texts c.args.header.now c.args.shared.now c.args.own.now)) (entry c.args.table.now c.args.j) text c.name-then-origin-eq1.ensures)
+
+pub returns : goal.returns
+returns c =
+    let text = text_own ((texts c.args.header.now c.args.shared.now c.args.own.now)) c.field-origin.ensures.value c.if-origin-eq0.false c.if-origin-eq1.false in
+    c.says-2.ensures
+    ∙ ap (alike (name_in ((texts c.args.header.now c.args.shared.now c.args.own.now)) (entry c.args.table.now c.args.i)))
+    (name_by ((texts c.args.header.now c.args.shared.now c.args.own.now)) (entry c.args.table.now c.args.j) text c.name-2.ensures)
