@@ -22,8 +22,8 @@ $(BUILD)/jwe: $(sources) $(headers) $(archive)
 	mkdir -p $(BUILD)
 	$(CC) -std=c11 -Wall -Wextra -Wpedantic $(CPPFLAGS) $(CFLAGS) $(LDFLAGS) -Iinclude $(sources) $(archive) -o $@
 
-$(archive): crates.txt $(shell find crates -name '*.rt')
-	rt staticlib host
+$(archive): crates.txt $(shell find crates/*/src -name '*.rt')
+	tests/fresh host
 
 install: $(BUILD)/jwe
 	install -d $(addprefix $(root)/,$(sort $(dir $(installed))))
