@@ -64,7 +64,7 @@ class Copy:
     """A copy of the crates, with the libraries that are built here."""
 
     def __init__(self, folder):
-        self.folder = folder
+        self.folder, self.tried = folder, None
         os.makedirs(f"{folder}/crates")
         for name in ("crates.txt", "HANDLES"):
             if os.path.isfile(f"{ROOT}/{name}"):
@@ -86,7 +86,10 @@ class Copy:
                 shutil.copytree(f"{ROOT}/crates/{crate}/{part}", self.path(crate, part))
 
     def begin(self, crate):
-        """The same, and what its own checks kept."""
+        """The same, and what its own checks kept. The crate that was tried before, which others stand on, is put back first."""
+        if self.tried:
+            self.restore(self.tried)
+        self.tried = crate
         self.restore(crate)
         kept = f"{ROOT}/crates/{crate}/out/incremental"
         if os.path.isdir(kept) and not os.path.isdir(self.path(crate, "out/incremental")):
