@@ -1,20 +1,62 @@
 // One recipient's parameters judged, in document 01's order.
-ghost use Rattle.std.specs.Prelude.{◌≡◌, true, ◌*◌, ◌≤◌, length};
+ghost use Rattle.std.specs.Prelude.{◌≡◌, true, ◌*◌, ◌≤◌, length, map};
 ghost use Rattle.names.specs.Names.{names, filled};
 ghost use Rattle.rows.specs.Rows.{texts, one_text};
 ghost use Rattle.rows.specs.Tables.{entries_of, width};
 ghost use Rattle.rows.specs.Inner.Prints.{Printed};
-ghost use Rattle.prelude.specs.Refusals.{first, stage_of};
+ghost use Rattle.prelude.specs.Refusals.{first, stage_of, as_stage};
+ghost use Rattle.jose.specs.Inner.Rules.{refusal_of, rule_number};
 ghost use Rattle.jose.specs.HeaderRules.{wrong_key, mode_in, breaks, rules_order, protected_rules, recipient_order};
 
 use crate::Sizes;
-use prelude::Stage;
+use prelude::refusal::Refusal;
 
-// The rules on a recipient by their numbers, in document 01's order; and those that can be broken where only a protected header
-// is there.
-const RECIPIENT: [u32; 7] = [12, 13, 14, 15, 16, 17, 18];
+// What a recipient's parameters are asked for, in document 01's order.
+#[derive(Clone, Copy, Debug, PartialEq, Eq)]
+pub enum Rule {
+    NameInTwoHeaders,
+    Incomplete,
+    WrongKind,
+    Unlisted,
+    Unprotected,
+    Critical,
+    WrongKey,
+}
 
-const PROTECTED: [u32; 5] = [13, 14, 15, 17, 18];
+impl From<Rule> for Refusal {
+    ghost from_gives = { λ rule refusal. refusal ≡ refusal_of rule };
+
+    fn from(rule: Rule) -> Refusal {
+        match rule {
+            Rule::NameInTwoHeaders => Refusal::NameInTwoHeaders,
+            Rule::Incomplete => Refusal::Incomplete,
+            Rule::WrongKind => Refusal::WrongKind,
+            Rule::Unlisted => Refusal::Unlisted,
+            Rule::Unprotected => Refusal::Unprotected,
+            Rule::Critical => Refusal::Critical,
+            Rule::WrongKey => Refusal::WrongKey,
+        }
+    }
+}
+
+// All of them; and those that can be broken where only a protected header is there.
+const RECIPIENT: [Rule; 7] = [
+    Rule::NameInTwoHeaders,
+    Rule::Incomplete,
+    Rule::WrongKind,
+    Rule::Unlisted,
+    Rule::Unprotected,
+    Rule::Critical,
+    Rule::WrongKey,
+];
+
+const PROTECTED: [Rule; 5] = [
+    Rule::Incomplete,
+    Rule::WrongKind,
+    Rule::Unlisted,
+    Rule::Critical,
+    Rule::WrongKey,
+];
 
 // Modes 3 and 5 have no key of their own, the others do.
 fn wrong_key(mode: u32, sizes: Sizes) -> bool
@@ -29,9 +71,9 @@ fn wrong_key(mode: u32, sizes: Sizes) -> bool
     sizes.key == 0
 }
 
-// Whether one recipient, whose key is wrong or not, breaks the rule of a number.
+// Whether one recipient, whose key is wrong or not, breaks a rule.
 fn breaks(
-    rule: u32,
+    rule: Rule,
     header: &[u8],
     shared: &[u8],
     own: &[u8],
@@ -45,24 +87,22 @@ fn breaks(
     requires printed { Printed (texts header.now shared.now own.now) count table.now }
     ensures { result
         ≡ breaks (names known.now) (texts header.now shared.now own.now)
-        (entries_of count table.now) bad_key rule }
+        (entries_of count table.now) bad_key (rule_number rule) }
 {
     match rule {
-        12 => rows::repeat::clashes(header, shared, own, table, count, true),
-        13 => crate::rules::incomplete(table, count),
-        14 => crate::rules::wrong_kind(table, count),
-        15 => crate::rules::unlisted(header, shared, own, table, count),
-        16 => crate::rules::unprotected(table, count),
-        17 => crate::crit::wrong_crit(header, shared, own, known, table, count),
-        18 => bad_key,
-        _ => false,
+        Rule::NameInTwoHeaders => rows::repeat::clashes(header, shared, own, table, count, true),
+        Rule::Incomplete => crate::rules::incomplete(table, count),
+        Rule::WrongKind => crate::rules::wrong_kind(table, count),
+        Rule::Unlisted => crate::rules::unlisted(header, shared, own, table, count),
+        Rule::Unprotected => crate::rules::unprotected(table, count),
+        Rule::Critical => crate::crit::wrong_crit(header, shared, own, known, table, count),
+        Rule::WrongKey => bad_key,
     }
 }
 
-// One recipient judged by some rules in order: the mode of its algorithm, or the number of the first
-// that it breaks.
+// One recipient judged by some rules in order: the mode of its algorithm, or the first that it breaks.
 fn judge_by(
-    rules: &[u32],
+    rules: &[Rule],
     header: &[u8],
     shared: &[u8],
     own: &[u8],
@@ -70,27 +110,24 @@ fn judge_by(
     table: &[u32],
     count: usize,
     sizes: Sizes,
-) -> Stage
+) -> Result<usize, Refusal>
     requires known_value { filled known.now ≡ true }
     requires width_in_bounds { count * width ≤ length table.now }
     requires printed { Printed (texts header.now shared.now own.now) count table.now }
-    ensures { result
+    ensures { as_stage result
         ≡ stage_of
         (first (rules_order (names known.now) (texts header.now shared.now own.now)
-        (entries_of count table.now) sizes rules.now))
+        (entries_of count table.now) sizes (map rule_number rules.now)))
         (mode_in (texts header.now shared.now own.now) (entries_of count table.now)) }
 {
     let mode = crate::rules::mode(header, shared, own, table, count);
     let bad_key = wrong_key(mode, sizes);
-    let mut i: usize = 0;
-    while i < rules.len() {
-        let rule = rules[i];
+    for &rule in rules {
         if breaks(rule, header, shared, own, known, table, count, bad_key) {
-            return Stage::Refused(rule);
+            return Err(Refusal::from(rule));
         }
-        i += 1;
     }
-    Stage::Passed(mode as usize)
+    Ok(mode as usize)
 }
 
 // 12 to 18 on one recipient.
@@ -102,11 +139,11 @@ pub fn judge(
     table: &[u32],
     count: usize,
     sizes: Sizes,
-) -> Stage
+) -> Result<usize, Refusal>
     requires known_value { filled known.now ≡ true }
     requires width_in_bounds { count * width ≤ length table.now }
     requires printed { Printed (texts header.now shared.now own.now) count table.now }
-    ensures { result
+    ensures { as_stage result
         ≡ stage_of
         (first (recipient_order (names known.now) (texts header.now shared.now own.now)
         (entries_of count table.now) sizes))
@@ -123,11 +160,11 @@ pub fn judge_protected(
     table: &[u32],
     count: usize,
     sizes: Sizes,
-) -> Stage
+) -> Result<usize, Refusal>
     requires known_value { filled known.now ≡ true }
     requires width_in_bounds { count * width ≤ length table.now }
     requires printed { Printed (one_text header.now) count table.now }
-    ensures { result
+    ensures { as_stage result
         ≡ stage_of
         (first (rules_order (names known.now) (one_text header.now)
         (entries_of count table.now) sizes protected_rules))
