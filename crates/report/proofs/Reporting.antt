@@ -17,7 +17,7 @@ use Rattle.rows.proofs.Entries.{listed_length}
 use Rattle.jose.specs.HeaderRules.{mode_in}
 use Rattle.jwe.specs.Judge.{refusal, Outcome, outcome, accepted, refused, result_of, list_after}
 use Rattle.jwe.specs.Answers.{numbers}
-use Rattle.jwe.specs.declared.Result.{Result}
+use Rattle.jwe.specs.Answers.{Result}
 use Rattle.meets.proofs.HandedFits.{handed_fits}
 use Rattle.report.specs.Report.{most_read, first_line, component_lines, too_long, refused_report, accepted_report, reading, report}
 use Rattle.report.specs.Answers.{report_room, report_order, report_refusal, Reports, list_lines, result_report}

@@ -4,7 +4,7 @@ use Rattle.prelude.specs.Refusals.{Test, ◌if◌, first}
 use Rattle.prelude.specs.Outputs.{Writes}
 use Rattle.rows.specs.Tables.{first_of}
 use Rattle.headers.specs.Answers.{components_of}
-use Rattle.jwe.specs.declared.Result.{Result}
+use Rattle.jwe.specs.Answers.{Result}
 use Rattle.report.specs.Report.{first_line, component_lines, parameter_line, report}
 use Rattle.report.specs.declared.Reported.{Reported}
 use Rattle.report.specs.declared.Reported.TheVariants.{Octets, Short}

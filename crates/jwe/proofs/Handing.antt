@@ -21,7 +21,7 @@ use Rattle.jwe.specs.Inner.Outcomes.{compact_outcome, json_outcome}
 use Rattle.jwe.specs.Judge.{result_of, header_after, list_after}
 use Rattle.jwe.specs.Answers.{numbers}
 use Rattle.jwe.specs.Inner.Stages.{table_room, Judges}
-use Rattle.jwe.specs.declared.Result.{Result}
+use Rattle.jwe.specs.Answers.{Result}
 use Rattle.jwe.proofs.Outcomes.{by_form}
 
 -- The refusals from 4 on
