@@ -16,17 +16,17 @@ use Rattle.headers.proofs.Collected.{Kept, kept_passed, kept_printed}
 use Rattle.jwe_write.specs.Write.{writer_rules}
 use Rattle.jwe_write.proofs.parameters.Goals as goal
 
-pub returns-in_default : goal.returns-in_default
-returns-in_default c =
-    let r = refused_is c.in_default.field-0 _ _ (sym c.in_default.is ∙ c.protected_entries-collected.ensures.value) in
-    let all = stopped (object_order (c.args.header.now) ((protected_entries (c.args.header.now)))) _ (object_nonzero (c.args.header.now) ((protected_entries (c.args.header.now)))) c.in_default.field-0
+pub returns-in_err-count : goal.returns-in_err-count
+returns-in_err-count c =
+    let r = refused_is (number_of c.in_err-count.field-0.0) _ _ (sym (ap as_stage c.in_err-count.was) ∙ c.protected_entries.ensures.value) in
+    let all = stopped (object_order (c.args.header.now) ((protected_entries (c.args.header.now)))) _ (object_nonzero (c.args.header.now) ((protected_entries (c.args.header.now)))) (number_of c.in_err-count.field-0.0)
     r.0 r.1 in
-    c.in_default.is ∙ refuses _ r.1 ∙ ap (λ (n : ℕ). stage_of n (mode_in (one_text (c.args.header.now)) ((protected_entries (c.args.header.now))))) (sym all)
+    (ap as_stage c.in_err-count.was) ∙ refuses _ r.1 ∙ ap (λ (n : ℕ). stage_of n (mode_in (one_text (c.args.header.now)) ((protected_entries (c.args.header.now))))) (sym all)
 
 pub judge_protected-requires : goal.judge_protected-requires
 judge_protected-requires c =
-    let kept : Kept (c.args.header.now) ((protected_entries (c.args.header.now))) (replicate 256 0) c.protected_entries-collected.new.table c.in-Passed.count = kept_passed (c.args.header.now) ((protected_entries (c.args.header.now))) (replicate 256 0) _ _ (omega arith)
-    (sym c.in-Passed.is ∙ c.protected_entries-collected.ensures.value) c.protected_entries-collected.ensures.table_after in
+    let kept : Kept (c.args.header.now) ((protected_entries (c.args.header.now))) (replicate 256 0) c.protected_entries.new.table c.in_ok-count.count = kept_passed (c.args.header.now) ((protected_entries (c.args.header.now))) (replicate 256 0) _ _ (omega arith)
+    (sym (ap as_stage c.in_ok-count.was) ∙ c.protected_entries.ensures.value) c.protected_entries.ensures.table_after in
     let table = kept in
     record {
       known_value = c.requires.known_value;
@@ -36,8 +36,8 @@ judge_protected-requires c =
 
 pub returns : goal.returns
 returns c =
-    let kept : Kept (c.args.header.now) ((protected_entries (c.args.header.now))) (replicate 256 0) c.protected_entries-collected.new.table c.in-Passed.count = kept_passed (c.args.header.now) ((protected_entries (c.args.header.now))) (replicate 256 0) _ _ (omega arith)
-    (sym c.in-Passed.is ∙ c.protected_entries-collected.ensures.value) c.protected_entries-collected.ensures.table_after in
+    let kept : Kept (c.args.header.now) ((protected_entries (c.args.header.now))) (replicate 256 0) c.protected_entries.new.table c.in_ok-count.count = kept_passed (c.args.header.now) ((protected_entries (c.args.header.now))) (replicate 256 0) _ _ (omega arith)
+    (sym (ap as_stage c.in_ok-count.was) ∙ c.protected_entries.ensures.value) c.protected_entries.ensures.table_after in
     let known = names c.args.known.now in
     let table = kept in
     let ts = one_text (c.args.header.now) in
