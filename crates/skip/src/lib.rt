@@ -13,14 +13,14 @@ use blocks::Kind;
 fn is_opening(c: u8) -> bool
     ensures { result ≡ is_opening c }
 {
-    (c == 91) | ((c == 123) | false)
+    (c == b'[') | (c == b'{')
 }
 
 // ] }
 fn is_closing(c: u8) -> bool
     ensures { result ≡ is_closing c }
 {
-    (c == 93) | ((c == 125) | false)
+    (c == b']') | (c == b'}')
 }
 
 // " \ [ ] { }
@@ -31,7 +31,7 @@ impl Kind for Mark {
     ghost has = { λ kind. is_mark };
 
     fn has(self, c: u8) -> bool {
-        (c == 34) | ((c == 92) | ((c == 91) | ((c == 93) | ((c == 123) | ((c == 125) | false)))))
+        (c == b'"') | (c == b'\\') | (c == b'[') | (c == b']') | (c == b'{') | (c == b'}')
     }
 }
 
@@ -51,7 +51,7 @@ fn skip_char(s: &[u8], at: usize) -> usize
     ensures lower_bound { at < result }
 {
     let next = at + 1;
-    if s[at] == 92 {
+    if s[at] == b'\\' {
         if next < s.len() {
             return next + 1;
         }
@@ -67,7 +67,7 @@ fn skip_string(s: &[u8], from: usize) -> usize
 {
     let mut at = from;
     while at < s.len() {
-        if s[at] == 34 {
+        if s[at] == b'"' {
             return at + 1;
         }
         at = skip_char(s, at);
@@ -92,7 +92,7 @@ fn turn(s: &[u8], at: usize, depth: usize) -> Next
 {
     let c = s[at];
     let next = at + 1;
-    if c == 34 {
+    if c == b'"' {
         return Next {
             at: skip_string(s, next),
             depth,
