@@ -1,17 +1,17 @@
 -- UTF-8 as the code reads it: the first octet of a character gives the ranges of the others, by a table that is computed;
 -- each octet in its range moves the test on; and a block of octets below 128 is passed over.
 use mathlib.Core.Path.{◌≡◌, refl, ap, ap₂, sym, subst, ◌∙◌}
-use mathlib.Core.Bool.{Bool, true, false, not, ◌&&◌, ◌||◌, cond}
+use mathlib.Core.Bool.{Bool, true, false, not, ◌&&◌, ◌||◌}
 use mathlib.Core.List.{List, [], ◌∷◌}
 use mathlib.Core.Option.{none, some}
 use mathlib.Core.Option as maybe
 use Rattle.std.specs.Prelude.{Option, None, Some, is_some}
-use Prim.Native.Nat.{ℕ, zero, suc, ◌+◌, ◌-◌, ◌≤◌, ◌<◌}
+use Prim.Native.Nat.{ℕ, suc, ◌+◌, ◌-◌, ◌≤◌, ◌<◌}
 use native.Mathlib.Omega.{arith}
 use lib.ListN.{length, take, drop, get_or, replicate, drop_of_length-le, length-take, length-drop}
 use lib.Seq.{get_or-take, get_or-drop}
 use lib.Dec.{T, eqb, leb}
-use borrow.Author.Tests.{le-leb, eqb-true, ne_eqb}
+use borrow.Author.Tests.{le-leb, eqb-true}
 use Rattle.std.specs.Bool.{then_some}
 use Rattle.prelude.proofs.Lists.{drop_next}
 use Rattle.prelude.proofs.Numbers.{every, below}

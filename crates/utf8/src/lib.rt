@@ -22,8 +22,7 @@ fn is_within(c: u8, low: u8, high: u8) -> bool
     (low..=high).contains(&c)
 }
 
-// Past a character of N octets, of which the first is right: the second has its own range, the others have that of UTF8-tail.
-// They are tested together, which is quicker than one by one.
+// Past a character of N octets, of which the first is right: the second has a range of its own, the others that of UTF8-tail.
 fn past<const N: usize>(s: &[u8], at: usize, low: u8, high: u8) -> Option<usize>
     requires here { at < length s.now }
     requires more { 2 ≤ N }
@@ -40,16 +39,22 @@ fn past<const N: usize>(s: &[u8], at: usize, low: u8, high: u8) -> Option<usize>
     right.then_some(at + N)
 }
 
-// Past the character at a position: the rows of the grammar in their order.
+// Past the character at a position: the rows of the grammar in their order. The first two are tested before the others, since the
+// compiler makes a table of a match, which is slower for them.
 #[tactic(auto, using(crate::proofs::Utf8Parts::character_rows))]
 fn character(s: &[u8], at: usize) -> Option<usize>
     requires { at < length s.now }
     ensures result_value { onward s.now result ≡ utf8 (drop at s.now) }
     ensures reaches { Reaches (at + 1) s.now result }
 {
-    match s[at] {
-        0x00..=0x7F => Some(at + 1),
-        0xC2..=0xDF => past::<2>(s, at, 0x80, 0xBF),
+    let c = s[at];
+    if c < 0x80 {
+        return Some(at + 1);
+    }
+    if matches!(c, 0xC2..=0xDF) {
+        return past::<2>(s, at, 0x80, 0xBF);
+    }
+    match c {
         0xE0 => past::<3>(s, at, 0xA0, 0xBF),
         0xE1..=0xEC => past::<3>(s, at, 0x80, 0xBF),
         0xED => past::<3>(s, at, 0x80, 0x9F),
