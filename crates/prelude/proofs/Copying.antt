@@ -1,21 +1,14 @@
--- A list copied into a buffer: at once, or element by element, whatever its elements' width, and then what is still to come is the
--- list from the next element on.
+-- A list copied into a buffer element by element, whatever its elements' width: what is still to come is the list from the
+-- next element on.
 use mathlib.Core.Path.{◌≡◌, refl, subst}
-use mathlib.Core.List.{List, ◌++◌}
+use mathlib.Core.List.{List}
 use Prim.Native.Nat.{ℕ, ◌+◌, ◌≤◌, ◌<◌}
 use native.Mathlib.Nat.{add-zero}
 use native.Mathlib.Omega.{arith}
-use lib.ListN.{length, take, drop, get_or, set, drop_of_length-le}
-use lib.Seq.{drop-drop}
+use lib.ListN.{length, drop, get_or, set, drop_of_length-le}
 use Rattle.prelude.specs.Buffer.{written}
 use Rattle.prelude.proofs.Lists.{drop_next}
 use Rattle.prelude.proofs.Writing.{Writing, begin, put, done}
-
--- a part of a buffer has become the list
-pub put_back : (at n : ℕ) (xs ys before : List ℕ) → n ≡ length xs → ys ≡ xs →
-    written at xs before ≡ take at before ++ (ys ++ drop n (drop at before))
-unfolding written
-put_back at n xs ys before m e = rw (e, m, drop-drop (length xs) at before)
 
 pub copy_begins : (at : ℕ) (s before : List ℕ) → at + length s ≤ length before → Writing at s before (drop 0 s) (at + 0) before
 copy_begins at s before h = rw (add-zero at) (begin at s before h)
