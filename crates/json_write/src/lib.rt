@@ -10,7 +10,6 @@ ghost use Rattle.json_write.specs.Answers.{WritesJson};
 use jose::Sizes;
 use prelude::Stage;
 use prelude::limits::{LONGEST, MOST_RECIPIENTS};
-use recipients::Counted;
 
 // How many recipients a message may have, general or flattened.
 fn most_for(general: bool) -> usize
@@ -42,8 +41,7 @@ pub fn write(
     if !names::sound(known) {
         return Stage::Refused(3);
     }
-    let counted = recipients::count(recipients);
-    let Counted::Recipients(n) = counted else {
+    let Some(n) = recipients::count(recipients) else {
         return Stage::Refused(20);
     };
     if most_for(general) < n {
