@@ -14,7 +14,6 @@ ghost use Rattle.json_message.specs.JsonWrite.{raw_json};
 ghost use Rattle.json_write.specs.Answers.{WritesJson};
 ghost use Rattle.differences.specs.Answers.{Compares};
 
-use aad::Joined;
 use base64url::Decoded;
 use differences::Answer;
 use jwe::Result;
@@ -84,7 +83,7 @@ pub fn decode(text: &[u8], out: &mut [u8]) -> Decoded
 
 // Writes the additional authenticated data of an encoded protected header and an encoded aad, either of which may be empty, at
 // the output's start; the rest of it is unchanged, and all of it where there is too little room.
-pub fn aad(header: &[u8], aad: &[u8], out: &mut [u8]) -> Joined
+pub fn aad(header: &[u8], aad: &[u8], out: &mut [u8]) -> Option<usize>
     ensures { Joins header.now aad.now out.old result out.new }
 {
     aad::join(header, aad, out)

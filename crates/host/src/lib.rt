@@ -11,7 +11,6 @@ ghost use Rattle.aad.specs.Aad.{aad_text, aad_refusal};
 ghost use Rattle.jwe_write.specs.Write.{raw, compact_text, write_refusal};
 ghost use Rattle.json_message.specs.JsonWrite.{raw_json, written_text, json_write_refusal};
 
-use aad::Joined;
 use base64url::Decoded;
 use prelude::refusal::Refusal;
 
@@ -50,13 +49,12 @@ pub fn jwe_aad(encoded_header: &[u8], encoded_aad: &[u8], out: &mut [u8], octets
         (aad_text encoded_header.now encoded_aad.now)
         out.old result octets.new out.new }
 {
-    let answer = gateway::aad(encoded_header, encoded_aad, out);
-    match answer {
-        Joined::Octets(joined) => {
+    match gateway::aad(encoded_header, encoded_aad, out) {
+        Some(joined) => {
             *octets = joined;
             0
         }
-        Joined::Short => {
+        None => {
             *octets = 0;
             1
         }

@@ -9,7 +9,7 @@ ghost use Rattle.jose.specs.Registered.{kind_asked};
 ghost use Rattle.jose.specs.HeaderRules.{incomplete, wrong_kind, unlisted, unprotected, mode_in};
 
 use crate::lists::{ALG, CRIT, ENC, JWK, X5C, ZIP};
-use algorithms::{Alg, NamedAlg};
+use algorithms::Alg;
 use rows::ask::field;
 use rows::layout;
 
@@ -169,10 +169,10 @@ fn mode_at(header: &[u8], shared: &[u8], own: &[u8], table: &[u32], i: usize) ->
     ensures { result ≡ mode_of (nth algs (number_in alg_names (value_in (texts header.now shared.now own.now) (first_of (drop (i * width) table.now))))) }
 {
     let list = algorithms::ALGS;
-    let NamedAlg::Alg(alg) = Alg::numbered(number_in(&list, header, shared, own, table, i)) else {
-        return 0;
-    };
-    alg.mode()
+    match Alg::numbered(number_in(&list, header, shared, own, table, i)) {
+        Some(alg) => alg.mode(),
+        None => 0,
+    }
 }
 
 // The mode of the algorithm that the first `alg` names; 0 where none is named or listed.

@@ -11,7 +11,6 @@ ghost use Rattle.json_write.specs.Answers.{WritesJson};
 use jose::Sizes;
 use prelude::refusal::Refusal;
 use prelude::limits::{LONGEST, MOST_RECIPIENTS};
-use recipients::Counted;
 
 // How many recipients a message may have, general or flattened.
 fn most_for(general: bool) -> usize
@@ -43,8 +42,7 @@ pub fn write(
     if !names::sound(known) {
         return Err(Refusal::KnownNames);
     }
-    let counted = recipients::count(recipients);
-    let Counted::Recipients(n) = counted else {
+    let Some(n) = recipients::count(recipients) else {
         return Err(Refusal::RecipientTable);
     };
     if most_for(general) < n {

@@ -34,7 +34,7 @@ pub returns-in_default : goal.returns-in_default
 returns-in_default c =
     let sounds : sound (c.args.known.now) ≡ true = sym c.sound.ensures ∙ c.if-not-sound.false in
     let wrong = wrong_sound (c.args.general) ((raw_json c.args.protected.now c.args.shared.now c.args.aad.now c.args.iv.now c.args.ciphertext.now
-    c.args.tag.now c.args.recipients.now)).recipients (uncounted _ (sym c.count-counted.ensures ∙ c.in_default.is)) in
+    c.args.tag.now c.args.recipients.now)).recipients (uncounted _ (sym c.count.ensures ∙ c.in_default.is)) in
     refuses (c.args.general) ((raw_json c.args.protected.now c.args.shared.now c.args.aad.now c.args.iv.now c.args.ciphertext.now
     c.args.tag.now c.args.recipients.now)) (c.args.known.now) (c.args.out.now) 20
     (refusal_table (c.args.general) ((raw_json c.args.protected.now c.args.shared.now c.args.aad.now c.args.iv.now c.args.ciphertext.now
@@ -43,10 +43,10 @@ returns-in_default c =
 pub returns-then-most_for-n : goal.returns-then-most_for-n
 returns-then-most_for-n c =
     let said : (sound_table ((raw_json c.args.protected.now c.args.shared.now c.args.aad.now c.args.iv.now c.args.ciphertext.now
-    c.args.tag.now c.args.recipients.now)).recipients ≡ true) × (c.in-Recipients.n ≡ said_count ((raw_json c.args.protected.now c.args.shared.now c.args.aad.now c.args.iv.now c.args.ciphertext.now
+    c.args.tag.now c.args.recipients.now)).recipients ≡ true) × (c.in-Some.n ≡ said_count ((raw_json c.args.protected.now c.args.shared.now c.args.aad.now c.args.iv.now c.args.ciphertext.now
     c.args.tag.now c.args.recipients.now)).recipients) = (let t = ((raw_json c.args.protected.now c.args.shared.now c.args.aad.now c.args.iv.now c.args.ciphertext.now
     c.args.tag.now c.args.recipients.now)).recipients in
-    let e = sym c.count-counted.ensures ∙ c.in-Recipients.is in
+    let e = sym c.count.ensures ∙ c.in-Some.is in
     (counted_sound t _ e, counted t _ e)) in
     let sounds : sound (c.args.known.now) ≡ true = sym c.sound.ensures ∙ c.if-not-sound.false in
     let wrong = wrong_count (c.args.general) ((raw_json c.args.protected.now c.args.shared.now c.args.aad.now c.args.iv.now c.args.ciphertext.now
@@ -59,20 +59,20 @@ returns-then-most_for-n c =
 pub text_length-size-requires : goal.text_length-size-requires
 text_length-size-requires c =
     let said : (sound_table ((raw_json c.args.protected.now c.args.shared.now c.args.aad.now c.args.iv.now c.args.ciphertext.now
-    c.args.tag.now c.args.recipients.now)).recipients ≡ true) × (c.in-Recipients.n ≡ said_count ((raw_json c.args.protected.now c.args.shared.now c.args.aad.now c.args.iv.now c.args.ciphertext.now
+    c.args.tag.now c.args.recipients.now)).recipients ≡ true) × (c.in-Some.n ≡ said_count ((raw_json c.args.protected.now c.args.shared.now c.args.aad.now c.args.iv.now c.args.ciphertext.now
     c.args.tag.now c.args.recipients.now)).recipients) = (let t = ((raw_json c.args.protected.now c.args.shared.now c.args.aad.now c.args.iv.now c.args.ciphertext.now
     c.args.tag.now c.args.recipients.now)).recipients in
-    let e = sym c.count-counted.ensures ∙ c.in-Recipients.is in
+    let e = sym c.count.ensures ∙ c.in-Some.is in
     (counted_sound t _ e, counted t _ e)) in
     (said).0
 
 pub judge_over-requires : goal.judge_over-requires
 judge_over-requires c =
     let said : (sound_table ((raw_json c.args.protected.now c.args.shared.now c.args.aad.now c.args.iv.now c.args.ciphertext.now
-    c.args.tag.now c.args.recipients.now)).recipients ≡ true) × (c.in-Recipients.n ≡ said_count ((raw_json c.args.protected.now c.args.shared.now c.args.aad.now c.args.iv.now c.args.ciphertext.now
+    c.args.tag.now c.args.recipients.now)).recipients ≡ true) × (c.in-Some.n ≡ said_count ((raw_json c.args.protected.now c.args.shared.now c.args.aad.now c.args.iv.now c.args.ciphertext.now
     c.args.tag.now c.args.recipients.now)).recipients) = (let t = ((raw_json c.args.protected.now c.args.shared.now c.args.aad.now c.args.iv.now c.args.ciphertext.now
     c.args.tag.now c.args.recipients.now)).recipients in
-    let e = sym c.count-counted.ensures ∙ c.in-Recipients.is in
+    let e = sym c.count.ensures ∙ c.in-Some.is in
     (counted_sound t _ e, counted t _ e)) in
     let both = said in
     record { recipients_value = both.0; n_value = both.1 }
@@ -81,10 +81,10 @@ pub returns-then-size-gt-LONGEST : goal.returns-then-size-gt-LONGEST
 returns-then-size-gt-LONGEST c =
     let sounds : sound (c.args.known.now) ≡ true = sym c.sound.ensures ∙ c.if-not-sound.false in
     let said : (sound_table ((raw_json c.args.protected.now c.args.shared.now c.args.aad.now c.args.iv.now c.args.ciphertext.now
-    c.args.tag.now c.args.recipients.now)).recipients ≡ true) × (c.in-Recipients.n ≡ said_count ((raw_json c.args.protected.now c.args.shared.now c.args.aad.now c.args.iv.now c.args.ciphertext.now
+    c.args.tag.now c.args.recipients.now)).recipients ≡ true) × (c.in-Some.n ≡ said_count ((raw_json c.args.protected.now c.args.shared.now c.args.aad.now c.args.iv.now c.args.ciphertext.now
     c.args.tag.now c.args.recipients.now)).recipients) = (let t = ((raw_json c.args.protected.now c.args.shared.now c.args.aad.now c.args.iv.now c.args.ciphertext.now
     c.args.tag.now c.args.recipients.now)).recipients in
-    let e = sym c.count-counted.ensures ∙ c.in-Recipients.is in
+    let e = sym c.count.ensures ∙ c.in-Some.is in
     (counted_sound t _ e, counted t _ e)) in
     let few : said_count ((raw_json c.args.protected.now c.args.shared.now c.args.aad.now c.args.iv.now c.args.ciphertext.now
     c.args.tag.now c.args.recipients.now)).recipients ≤ most_for (c.args.general) = omega (arith, c.if-most_for-n.false, c.most_for.ensures, (said).1) in
@@ -114,10 +114,10 @@ pub judge_within-requires : goal.judge_within-requires
 judge_within-requires c =
     let sounds : sound (c.args.known.now) ≡ true = sym c.sound.ensures ∙ c.if-not-sound.false in
     let said : (sound_table ((raw_json c.args.protected.now c.args.shared.now c.args.aad.now c.args.iv.now c.args.ciphertext.now
-    c.args.tag.now c.args.recipients.now)).recipients ≡ true) × (c.in-Recipients.n ≡ said_count ((raw_json c.args.protected.now c.args.shared.now c.args.aad.now c.args.iv.now c.args.ciphertext.now
+    c.args.tag.now c.args.recipients.now)).recipients ≡ true) × (c.in-Some.n ≡ said_count ((raw_json c.args.protected.now c.args.shared.now c.args.aad.now c.args.iv.now c.args.ciphertext.now
     c.args.tag.now c.args.recipients.now)).recipients) = (let t = ((raw_json c.args.protected.now c.args.shared.now c.args.aad.now c.args.iv.now c.args.ciphertext.now
     c.args.tag.now c.args.recipients.now)).recipients in
-    let e = sym c.count-counted.ensures ∙ c.in-Recipients.is in
+    let e = sym c.count.ensures ∙ c.in-Some.is in
     (counted_sound t _ e, counted t _ e)) in
     let short : length ((written_text (c.args.general) ((raw_json c.args.protected.now c.args.shared.now c.args.aad.now c.args.iv.now c.args.ciphertext.now
     c.args.tag.now c.args.recipients.now)))) ≤ 16777216 = omega (arith, c.text_length-size.ensures, c.if-size-gt-LONGEST.false) in
@@ -152,10 +152,10 @@ pub returns-in_err-judge_within : goal.returns-in_err-judge_within
 returns-in_err-judge_within c =
     let sounds : sound (c.args.known.now) ≡ true = sym c.sound.ensures ∙ c.if-not-sound.false in
     let said : (sound_table ((raw_json c.args.protected.now c.args.shared.now c.args.aad.now c.args.iv.now c.args.ciphertext.now
-    c.args.tag.now c.args.recipients.now)).recipients ≡ true) × (c.in-Recipients.n ≡ said_count ((raw_json c.args.protected.now c.args.shared.now c.args.aad.now c.args.iv.now c.args.ciphertext.now
+    c.args.tag.now c.args.recipients.now)).recipients ≡ true) × (c.in-Some.n ≡ said_count ((raw_json c.args.protected.now c.args.shared.now c.args.aad.now c.args.iv.now c.args.ciphertext.now
     c.args.tag.now c.args.recipients.now)).recipients) = (let t = ((raw_json c.args.protected.now c.args.shared.now c.args.aad.now c.args.iv.now c.args.ciphertext.now
     c.args.tag.now c.args.recipients.now)).recipients in
-    let e = sym c.count-counted.ensures ∙ c.in-Recipients.is in
+    let e = sym c.count.ensures ∙ c.in-Some.is in
     (counted_sound t _ e, counted t _ e)) in
     let few : said_count ((raw_json c.args.protected.now c.args.shared.now c.args.aad.now c.args.iv.now c.args.ciphertext.now
     c.args.tag.now c.args.recipients.now)).recipients ≤ most_for (c.args.general) = omega (arith, c.if-most_for-n.false, c.most_for.ensures, (said).1) in
@@ -187,10 +187,10 @@ returns-then-out-size c =
     c.args.tag.now c.args.recipients.now)))) ≤ 16777216 = omega (arith, c.text_length-size.ensures, c.if-size-gt-LONGEST.false) in
     let sounds : sound (c.args.known.now) ≡ true = sym c.sound.ensures ∙ c.if-not-sound.false in
     let said : (sound_table ((raw_json c.args.protected.now c.args.shared.now c.args.aad.now c.args.iv.now c.args.ciphertext.now
-    c.args.tag.now c.args.recipients.now)).recipients ≡ true) × (c.in-Recipients.n ≡ said_count ((raw_json c.args.protected.now c.args.shared.now c.args.aad.now c.args.iv.now c.args.ciphertext.now
+    c.args.tag.now c.args.recipients.now)).recipients ≡ true) × (c.in-Some.n ≡ said_count ((raw_json c.args.protected.now c.args.shared.now c.args.aad.now c.args.iv.now c.args.ciphertext.now
     c.args.tag.now c.args.recipients.now)).recipients) = (let t = ((raw_json c.args.protected.now c.args.shared.now c.args.aad.now c.args.iv.now c.args.ciphertext.now
     c.args.tag.now c.args.recipients.now)).recipients in
-    let e = sym c.count-counted.ensures ∙ c.in-Recipients.is in
+    let e = sym c.count.ensures ∙ c.in-Some.is in
     (counted_sound t _ e, counted t _ e)) in
     let few : said_count ((raw_json c.args.protected.now c.args.shared.now c.args.aad.now c.args.iv.now c.args.ciphertext.now
     c.args.tag.now c.args.recipients.now)).recipients ≤ most_for (c.args.general) = omega (arith, c.if-most_for-n.false, c.most_for.ensures, (said).1) in
@@ -218,10 +218,10 @@ returns-then-out-size c =
 pub put_text-requires : goal.put_text-requires
 put_text-requires c =
     let said : (sound_table ((raw_json c.args.protected.now c.args.shared.now c.args.aad.now c.args.iv.now c.args.ciphertext.now
-    c.args.tag.now c.args.recipients.now)).recipients ≡ true) × (c.in-Recipients.n ≡ said_count ((raw_json c.args.protected.now c.args.shared.now c.args.aad.now c.args.iv.now c.args.ciphertext.now
+    c.args.tag.now c.args.recipients.now)).recipients ≡ true) × (c.in-Some.n ≡ said_count ((raw_json c.args.protected.now c.args.shared.now c.args.aad.now c.args.iv.now c.args.ciphertext.now
     c.args.tag.now c.args.recipients.now)).recipients) = (let t = ((raw_json c.args.protected.now c.args.shared.now c.args.aad.now c.args.iv.now c.args.ciphertext.now
     c.args.tag.now c.args.recipients.now)).recipients in
-    let e = sym c.count-counted.ensures ∙ c.in-Recipients.is in
+    let e = sym c.count.ensures ∙ c.in-Some.is in
     (counted_sound t _ e, counted t _ e)) in
     let short : length ((written_text (c.args.general) ((raw_json c.args.protected.now c.args.shared.now c.args.aad.now c.args.iv.now c.args.ciphertext.now
     c.args.tag.now c.args.recipients.now)))) ≤ 16777216 = omega (arith, c.text_length-size.ensures, c.if-size-gt-LONGEST.false) in
@@ -236,10 +236,10 @@ returns c =
     c.args.tag.now c.args.recipients.now)))) ≤ 16777216 = omega (arith, c.text_length-size.ensures, c.if-size-gt-LONGEST.false) in
     let sounds : sound (c.args.known.now) ≡ true = sym c.sound.ensures ∙ c.if-not-sound.false in
     let said : (sound_table ((raw_json c.args.protected.now c.args.shared.now c.args.aad.now c.args.iv.now c.args.ciphertext.now
-    c.args.tag.now c.args.recipients.now)).recipients ≡ true) × (c.in-Recipients.n ≡ said_count ((raw_json c.args.protected.now c.args.shared.now c.args.aad.now c.args.iv.now c.args.ciphertext.now
+    c.args.tag.now c.args.recipients.now)).recipients ≡ true) × (c.in-Some.n ≡ said_count ((raw_json c.args.protected.now c.args.shared.now c.args.aad.now c.args.iv.now c.args.ciphertext.now
     c.args.tag.now c.args.recipients.now)).recipients) = (let t = ((raw_json c.args.protected.now c.args.shared.now c.args.aad.now c.args.iv.now c.args.ciphertext.now
     c.args.tag.now c.args.recipients.now)).recipients in
-    let e = sym c.count-counted.ensures ∙ c.in-Recipients.is in
+    let e = sym c.count.ensures ∙ c.in-Some.is in
     (counted_sound t _ e, counted t _ e)) in
     let few : said_count ((raw_json c.args.protected.now c.args.shared.now c.args.aad.now c.args.iv.now c.args.ciphertext.now
     c.args.tag.now c.args.recipients.now)).recipients ≤ most_for (c.args.general) = omega (arith, c.if-most_for-n.false, c.most_for.ensures, (said).1) in
