@@ -12,7 +12,7 @@ ghost use Rattle.jwe_write.specs.Write.{raw, compact_text, write_refusal};
 ghost use Rattle.json_message.specs.JsonWrite.{raw_json, written_text, json_write_refusal};
 
 use aad::Joined;
-use base64url::Decoded;
+use base64url::DecodeError;
 use prelude::Stage;
 
 pub mod component;
@@ -28,15 +28,15 @@ pub fn jwe_decode(text: &[u8], out: &mut [u8], octets: &mut usize) -> u32
 {
     let answer = gateway::decode(text, out);
     match answer {
-        Decoded::Octets(decoded) => {
+        Ok(decoded) => {
             *octets = decoded;
             0
         }
-        Decoded::Misspelled => {
+        Err(DecodeError::Misspelled) => {
             *octets = 0;
             5
         }
-        Decoded::Short => {
+        Err(DecodeError::Short) => {
             *octets = 0;
             1
         }
