@@ -32,13 +32,12 @@ pub fn jwe_decode(text: &[u8], out: &mut [u8], octets: &mut usize) -> u32
             *octets = decoded;
             0
         }
-        Err(DecodeError::Misspelled) => {
+        Err(error) => {
             *octets = 0;
-            5
-        }
-        Err(DecodeError::Short) => {
-            *octets = 0;
-            1
+            match error {
+                DecodeError::Misspelled => 5,
+                DecodeError::Short => 1,
+            }
         }
     }
 }
