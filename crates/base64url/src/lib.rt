@@ -15,7 +15,6 @@ mod decoding;
 mod encoding;
 mod faults;
 mod step;
-mod words;
 
 // Why a text is not decoded.
 #[derive(Clone, Copy, Debug, PartialEq, Eq)]
@@ -83,15 +82,12 @@ pub fn encode_at(octets: &[u8], out: &mut [u8], at: usize) -> usize
     ensures value { result ≡ at + length (encoded octets.now) }
     ensures out_after { out.new ≡ written at (encoded octets.now) out.old }
 {
-    let n = octets.len();
-    let mut i: usize = 0;
     let mut j = at;
-    while 48 <= n - i {
-        let e = i + 48;
-        j = encoding::encode_block(&octets[i..e], out, j);
-        i = e;
+    let (blocks, rest) = octets.as_chunks::<48>();
+    for block in blocks {
+        j = encoding::encode_block(block, out, j);
     }
-    encoding::encode_few(&octets[i..n], out, j)
+    encoding::encode_few(rest, out, j)
 }
 
 // Encodes octets into out from a position on, and answers the position after the text. None is document 01's 1: the text
