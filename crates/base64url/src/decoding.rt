@@ -59,21 +59,19 @@ fn put_over(out: &mut [u8], at: usize, w: u64) -> usize
     at + 6
 }
 
-// The octets of sixteen words, written from a position on: each word's store goes over the end of the one before, and the
-// last is exact, so that nothing past them changes. Answers the position after them.
-fn put_words(words: &[u64; 16], out: &mut [u8], at: usize) -> usize
-    requires { at + 96 ≤ length out.old }
-    ensures value { result ≡ at + 96 }
-    ensures out_after { out.new ≡ written at (octets_of words.now) out.old }
+// The octets of sixteen words: each word's store goes over the end of the one before, and the last is exact.
+fn put_words(words: &[u64; 16], out: &mut [u8])
+    requires { length out.old ≡ 96 }
+    ensures { out.new ≡ octets_of words.now }
 {
-    let mut j = at;
+    let mut j = 0;
     for &w in &words[..15] {
         j = put_over(out, j, w);
     }
-    put_six(out, j, words[15])
+    put_six(out, j, words[15]);
 }
 
-// The octets of a block, likewise.
+// The octets of a block, written from a position on. Answers the position after them.
 fn decode_block(text: &[u8; 128], out: &mut [u8], at: usize) -> usize
     requires all_below { AllBelow 64 (map six_bits text.now) }
     requires text_in_bounds { at + length (decoded text.now) ≤ length out.old }
@@ -84,7 +82,8 @@ fn decode_block(text: &[u8; 128], out: &mut [u8], at: usize) -> usize
     let mut words = [0u64; 16];
     block_values(text, &mut six);
     block_words(&six, &mut words);
-    put_words(&words, out, at)
+    put_words(&words, &mut out[at..at + 96]);
+    at + 96
 }
 
 // The octets of a text, likewise: whole blocks, then what is left. The table is built after the blocks, which want none:

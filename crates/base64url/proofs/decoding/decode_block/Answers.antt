@@ -1,17 +1,17 @@
 -- `decode_block` writes a block's octets: values, words, octets, and the laws that these are what the text decodes to.
-use Prim.Native.Nat.{ℕ}
+use Prim.Native.Nat.{◌+◌, ◌-◌}
 use mathlib.Core.Path.{ap, ◌∙◌}
-use mathlib.Core.List.{List}
 use native.Mathlib.Omega.{arith}
-use Rattle.prelude.specs.Buffer.{written}
 use Rattle.prelude.proofs.Lists.{all_below}
 use Rattle.base64url.specs.Inner.Words.{words_of, octets_of}
+use Rattle.base64url.specs.Base64url.{decoded}
+use Rattle.base64url.proofs.Covering.{copied}
 use Rattle.base64url.proofs.Laws.{decoded_length_lem}
 use Rattle.base64url.proofs.Joining.{block_octets}
 use Rattle.base64url.proofs.decoding.decode_block.Goals as goal
 
-pub put_words-requires : goal.put_words-requires
-put_words-requires c = omega (arith, decoded_length_lem c.args.text.now)
+pub slice_bounds-put_words-end : goal.slice_bounds-put_words-end
+slice_bounds-put_words-end c = omega (arith, decoded_length_lem c.args.text.now)
 
 pub returns : goal.returns
 returns c =
@@ -21,5 +21,6 @@ returns c =
     let whole = block_octets text octet c.requires.all_below (omega arith) in
     record {
       value = omega (arith, decoded_length_lem text);
-      out_after = c.put_words.ensures.out_after ∙ ap (λ (l : List ℕ). written c.args.at l c.args.out.now) (ap octets_of words ∙ whole);
+      out_after = copied c.args.at (c.args.at + 96 - c.args.at) c.args.out.now _ (decoded text)
+          (c.put_words.ensures ∙ ap octets_of words ∙ whole) (omega (arith, decoded_length_lem text));
     }

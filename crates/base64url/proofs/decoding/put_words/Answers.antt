@@ -7,7 +7,7 @@ use native.Mathlib.Omega.{arith}
 use lib.ListN.{length, take, drop, get_or, length-drop, length-take, drop_of_length-le}
 use Rattle.std.proofs.lemmas.List.{get_or-take}
 use Rattle.base64url.specs.Inner.Words.{six_octets, spill_of, octets_of}
-use Rattle.base64url.proofs.Covering.{cover, cover_room, cover_part, covered}
+use Rattle.base64url.proofs.Covering.{cover, cover_room, cover_part, covered, written_whole}
 use Rattle.base64url.proofs.Joining.{octets_of_length, octets_of_next}
 use Rattle.base64url.proofs.decoding.put_words.Goals as goal
 
@@ -28,7 +28,7 @@ last words g e l =
 pub loop-w-init : goal.loop-w-init
 loop-w-init c =
     let words = c.args.words.now in
-    cover c.args.at (octets_of words) c.args.out.now (omega (arith, octets_of_length words))
+    cover 0 (octets_of words) c.args.out.now (omega (arith, octets_of_length words))
 
 pub put_over-j-requires : goal.put_over-j-requires
 unfolding six_octets
@@ -67,4 +67,4 @@ returns c =
     let end = covered (cover_part (six_octets (get_or words 15 0)) [] []
     (last words c.loop-w.w-index (omega (arith, length-take 15 words)) (omega arith)) (omega arith) c.loop-w.invariant
     c.put_six.ensures.value c.put_six.ensures.out_after) in
-    record { value = omega (arith, end.0, octets_of_length words); out_after = end.1 }
+    end.1 ∙ written_whole (octets_of words) c.args.out.now (omega (arith, octets_of_length words))

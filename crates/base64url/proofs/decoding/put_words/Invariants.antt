@@ -6,4 +6,4 @@ use Rattle.base64url.proofs.Covering.{Covering}
 use Rattle.base64url.proofs.decoding.put_words.Given as goal
 
 abbrev pub invariant-loop-w : goal.invariant-loop-w
-invariant-loop-w l = Covering l.at (octets_of l.words) l.initial.out (octets_of (drop l.w-index l.words)) l.j l.out
+invariant-loop-w l = Covering 0 (octets_of l.words) l.initial.out (octets_of (drop l.w-index l.words)) l.j l.out
