@@ -14,9 +14,9 @@ ghost use Rattle.json_message.specs.JsonWrite.{raw_json};
 ghost use Rattle.json_write.specs.Answers.{WritesJson};
 ghost use Rattle.differences.specs.Answers.{Compares};
 
-use base64url::Decoded;
+use base64url::DecodeError;
 use differences::Answer;
-use jwe::Result;
+use jwe::Reading;
 use prelude::Place;
 use prelude::refusal::Refusal;
 
@@ -36,7 +36,7 @@ pub fn read(
     recipient: u32,
     header: &mut [u8],
     list: &mut [u32],
-) -> Result
+) -> jwe::Result
     ensures answered { numbers result
         ≡ result_of (call message.now known.now recipient
         (length header.old) (length list.old)) }
@@ -75,7 +75,7 @@ pub fn value<'a>(
 
 // Decodes one component: 5 where it is not base64url, then 1 where the output is shorter than the octets. They are at the
 // output's start, and the rest of it is unchanged; refused, all of it is.
-pub fn decode(text: &[u8], out: &mut [u8]) -> Decoded
+pub fn decode(text: &[u8], out: &mut [u8]) -> Result<usize, DecodeError>
     ensures { Decodes text.now out.old result out.new }
 {
     base64url::decode(text, out)
