@@ -11,8 +11,8 @@ use Rattle.same.proofs.none_left.Goals as goal
 pub returns-then-left-eq0 : goal.returns-then-left-eq0
 returns-then-left-eq0 c = sym (ap is_none (none_spent square _ _ _ c.if-left-eq0.true))
 
-pub element-found-requires : goal.element-found-requires
-element-found-requires c =
+pub element-requires : goal.element-requires
+element-requires c =
     known_element depth c.args.s.now c.args.left c.args.p.at (omega (arith, c.if-left-eq0.false))
     c.requires
 
@@ -21,11 +21,11 @@ returns-in_default c =
     let given = c.args in
     sym (ap is_none (none_here square given.s.now given.left given.p.at
     (omega (arith, c.if-left-eq0.false))
-    (sym c.in_default.is ∙ c.element-found.ensures)))
+    c.in_default.ensures))
 
 pub returns : goal.returns
 returns c =
     let given = c.args in
     sym (ap is_none (row_more square given.s.now given.left given.p.at
-    (omega (arith, c.if-left-eq0.false)) c.in-Here.field-0 c.in-Here.field-1
-    (sym c.in-Here.is ∙ c.element-found.ensures)))
+    (omega (arith, c.if-left-eq0.false)) c.in-Some.found.row c.in-Here.field-1
+    c.in-Some.ensures))
