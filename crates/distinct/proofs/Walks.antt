@@ -8,7 +8,7 @@ use lib.ListN.{length, get_or}
 use Rattle.grammar.specs.Grammar.{Bracket, curly}
 use Rattle.grammar.specs.Places.{Member}
 use Rattle.grammar.specs.Reader.{step, entry_at, value_at, members_at}
-use Rattle.json_read.specs.Members.{first_in, here, member_of, five_of, numbers}
+use Rattle.json_read.specs.Members.{first_in, row_here, member_of, five_of, numbers}
 use Rattle.json_read.specs.Inner.Known.{KnownEntry, KnownFrom, KnownIn}
 use Rattle.json_read.specs.declared.Position.{Position}
 use Rattle.json_read.specs.declared.member.Row.{Row}
@@ -57,7 +57,7 @@ module _ (b : Bracket) (s : List ℕ) (left at : ℕ) where
     entry_known k = known_entry b depth s left at h k
 
     -- One row more.
-    module _ (row : Row) (next : Position) (e : here row next ≡ member_of s (entry_at (value_at depth s) b s at)) where
+    module _ (row : Row) (next : Position) (e : row_here row next ≡ member_of s (entry_at (value_at depth s) b s at)) where
       pub row_more : rows_from b s left at ≡ row_member row ∷ rows_from b s (left - 1) next.at
       row_more =
           let read = the_read b s depth left at h row next e in
@@ -103,7 +103,7 @@ module _ {question : List Member → Bool} {test : Member → List Member → Bo
     walk_end e = over (none_here b s left at h e)
 
     module _ (row : Row) (next : Position)
-        (e : here row next ≡ member_of s (entry_at (value_at depth s) b s at)) where
+        (e : row_here row next ≡ member_of s (entry_at (value_at depth s) b s at)) where
       here : cond (test (row_member row) (rows_from b s (left - 1) next.at)) hit
           (question (rows_from b s (left - 1) next.at)) ≡ answer
       here =

@@ -20,7 +20,7 @@ use Rattle.grammar.specs.Spellings.{undo}
 use Rattle.spelling.specs.Inner.Fingerprints.{fingerprint}
 use Rattle.grammar.specs.Reader.{octet_at, step, skip_space, Answer, Entry, entry_at, rows_after, rows_at, value_at}
 use Rattle.json_read.specs.Inner.Known.{KnownNext, KnownFrom}
-use Rattle.json_read.specs.Members.{next_from, here, member_of}
+use Rattle.json_read.specs.Members.{next_from, row_here, member_of}
 use Rattle.spelling.proofs.Fingerprints.{alike_fingerprint}
 use Rattle.prelude.specs.Any.{any, any_pair}
 use Rattle.distinct.specs.Names.{depth, name_at, same_name}
@@ -371,7 +371,7 @@ module _ (size : ℕ) (s w : List ℕ) (left at : ℕ) where
 
     -- One more.
     module _ (row : Row) (next : Position) (h : 0 < left - done)
-        (e : here row next ≡ member_of s (entry_at (value_at depth s) curly s q)) where
+        (e : row_here row next ≡ member_of s (entry_at (value_at depth s) curly s q)) where
       abbrev m : Member
       m = row_member row
 

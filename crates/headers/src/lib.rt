@@ -17,8 +17,7 @@ ghost use Rattle.headers.specs.Answers.{place_of, components_of, header_buffer};
 
 use base64url::{Checked, Decoded};
 use jose::Sizes;
-use json_read::member::Collected;
-use json_read::{Found, Position};
+use json_read::Position;
 use prelude::limits::LEVELS;
 use prelude::{Place, Stage};
 
@@ -96,8 +95,7 @@ pub fn object(
     ensures value { result ≡ stage_of (first (object_order s.now (entries_in (names list.now) s.now origin (members_at levels s.now at)))) (length (members_at levels s.now at)) }
     ensures table_after { table.new ≡ collected_table from s.now (entries_in (names list.now) s.now origin (members_at levels s.now at)) table.old }
 {
-    let collected = rows::collect::collect(s, at, origin, list, table, from, judged);
-    let Collected::Rows(count) = collected else {
+    let Some(count) = rows::collect::collect(s, at, origin, list, table, from, judged) else {
         return Stage::Refused(8);
     };
     let first = from * rows::layout::WIDTH;
@@ -131,8 +129,7 @@ pub fn header(message: &[u8], place: Place, buffer: &mut [u8]) -> Stage
     let Decoded::Octets(n) = decoded else {
         return Stage::Refused(6);
     };
-    let judged = json_read::judge(&buffer[..n], LEVELS);
-    let Found::Value(_, _) = judged else {
+    let Some(_) = json_read::judge(&buffer[..n], LEVELS) else {
         return Stage::Refused(7);
     };
     Stage::Passed(n)

@@ -7,7 +7,7 @@ use Prim.Native.Nat.{ℕ, ◌-◌, ◌<◌}
 use Rattle.grammar.specs.Grammar.{square}
 use Rattle.grammar.specs.Places.{Element}
 use Rattle.grammar.specs.Reader.{entry_at, value_at}
-use Rattle.json_read.specs.Members.{here, member_of}
+use Rattle.json_read.specs.Members.{row_here, member_of}
 use Rattle.json_read.specs.declared.Position.{Position}
 use Rattle.json_read.specs.declared.member.Row.{Row}
 use Rattle.std.specs.Prelude.{None}
@@ -47,7 +47,7 @@ module _ {question : List Element → Bool} {test : Element → List Element →
     walk_end e = none_here (elements_none s left at h e)
 
     module _ (row : Row) (next : Position)
-        (e : here row next ≡ member_of s (entry_at (value_at levels s) square s at)) where
+        (e : row_here row next ≡ member_of s (entry_at (value_at levels s) square s at)) where
       abbrev rest : List Element
       rest = elements_from s (left - 1) next.at
 

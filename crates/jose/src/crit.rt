@@ -32,11 +32,10 @@ fn spelled(s: &[u8], row: Row) -> &[u8]
 fn empty(s: &[u8], at: usize) -> bool
     ensures { result ≡ is_empty (elements_at levels s.now at) }
 {
-    let first = Position { at }.inside(s).element(s, LEVELS, false);
-    let Member::Here(_, _) = first else {
-        return true;
-    };
-    false
+    Position { at }
+        .inside(s)
+        .element(s, LEVELS, false)
+        .is_none()
 }
 
 // Whether an element is no string, or none of the known names.

@@ -13,7 +13,7 @@ use Rattle.grammar.specs.Places as places
 use Rattle.grammar.specs.Reader.{Answer, octet_at, step, skip_space, Entry, entry_of}
 use Rattle.grammar.specs.Reader.{entry_at, before_at, rows_after, rows_at, rows_in, value_with, value_at, nested_within}
 use Rattle.grammar.specs.Reader.{members_at, elements_of, elements_at}
-use Rattle.json_read.specs.Members.{next_from, row_of, here, member_of, numbers, five_of}
+use Rattle.json_read.specs.Members.{next_from, row_here, member_of, numbers, five_of}
 use Rattle.json_read.specs.declared.Position.{Position}
 use Rattle.json_read.specs.declared.member.Row.{Row}
 use Rattle.json_read.specs.declared.member.Member.{Member}
@@ -35,7 +35,7 @@ pub record Read (s : List ℕ) (o : Option Entry) (row : Row) (next : Position) 
   pub five : five_of row ≡ numbers entry.row
   pub on : next.at ≡ next_from s entry.after
 
-is_read : (s : List ℕ) (o : Option Entry) (row : Row) (next : Position) → here row next ≡ member_of s o → Read s o row next
+is_read : (s : List ℕ) (o : Option Entry) (row : Row) (next : Position) → row_here row next ≡ member_of s o → Read s o row next
 is_read s none row next e = let z : ◌≡◌ {A = ℕ} 0 1 = cc in absurd (omega arith)
 is_read s (some x) row next e =
     let m = same_found e in
@@ -112,7 +112,7 @@ module _ (b : Bracket) (s : List ℕ) (l : ℕ) where
     rows_none e = rows_stop left at (is_none s (entry_at (value_at l s) b s at) e)
 
     -- one row more, and the rows from the next entry on
-    module _ (row : Row) (next : Position) (e : here row next ≡ member_of s (entry_at (value_at l s) b s at)) where
+    module _ (row : Row) (next : Position) (e : row_here row next ≡ member_of s (entry_at (value_at l s) b s at)) where
       pub the_read : Read s (entry_at (value_at l s) b s at) row next
       the_read = is_read s (entry_at (value_at l s) b s at) row next e
 

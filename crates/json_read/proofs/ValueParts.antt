@@ -16,7 +16,7 @@ use Rattle.grammar.specs.Reader.{End, refused, ended, octet_at, step, skip_space
 use Rattle.grammar.specs.Reader.{Answer, nothing, found, of_kind, Before, colon_at, before_at, value_after, entry_at}
 use Rattle.grammar.specs.Reader.{close_or, after_entry, entries_at, is_number_start, value_with, value_at}
 use Rattle.grammar.specs.Reader.{nested_within, wholly, read_text}
-use Rattle.json_read.specs.Inner.Ends.{ends_at, value_to, ends_of, found_of, ends_of_kind, value_in}
+use Rattle.json_read.specs.Inner.Ends.{value_to, ends_of, found_of, ends_of_kind, value_in}
 use Rattle.json_read.specs.declared.Position.{Position}
 use Rattle.json_read.specs.declared.Found.{Found}
 use Rattle.json_read.proofs.NumberParts.{same_found}

@@ -16,7 +16,7 @@ use Rattle.grammar.specs.Reader.{octet_at, step, skip_space, End, refused, ended
 use Rattle.grammar.specs.Reader.{nothing, found, of_kind, Before, colon_at, before_at, Entry, entry_of, value_after}
 use Rattle.grammar.specs.Reader.{entry_at, close_or, after_entry, entries_at, rows_after, rows_at, nested_at, rows_in}
 use Rattle.grammar.specs.Reader.{is_number_start, value_with, value_at, members_at, elements_of, elements_at}
-use Rattle.json_read.specs.Members.{next_from, row_of, here, member_of, flat}
+use Rattle.json_read.specs.Members.{next_from, row_of, row_here, member_of, flat}
 use Rattle.json_read.specs.declared.Position.{Position}
 use Rattle.json_read.specs.declared.member.Row.{Row}
 use Rattle.json_read.specs.declared.member.Member.{Member as Here}
@@ -234,12 +234,12 @@ module _ (l : ℕ) (s : List ℕ) (b : Bracket) where
   rows_within = rows_in_in s (value_at l s) (value_answered s l) b
 
   -- One row, as the code answers it, and where the next one begins.
-  pub row_within : (at : ℕ) (row : Row) (next : Position) → here row next ≡ member_of s (entry_at (value_at l s) b s at) →
+  pub row_within : (at : ℕ) (row : Row) (next : Position) → row_here row next ≡ member_of s (entry_at (value_at l s) b s at) →
       (m : Member) × (row ≡ row_of m) × Inside b (length s) m × (next.at ≤ length s)
   unfolding next_from
   row_within at row next h = cases (entry_at (value_at l s) b s at) (entry_in s (value_at l s) (value_answered s l) b at) h
     where
-      cases : (x : Option Entry) → Entered s b at x → here row next ≡ member_of s x →
+      cases : (x : Option Entry) → Entered s b at x → row_here row next ≡ member_of s x →
           (m : Member) × (row ≡ row_of m) × Inside b (length s) m × (next.at ≤ length s)
       cases none i h = let z : ◌≡◌ {A = ℕ} 0 1 = cc in absurd (omega arith)
       cases (some x) i h =

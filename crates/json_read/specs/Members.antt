@@ -28,12 +28,12 @@ row_of m = record {
 }
 
 -- The answer that a member stands here, and where the next one begins.
-abbrev pub here : Row → Position → std.Option Member
-here row next = Some (record { row = row; next = next })
+abbrev pub row_here : Row → Position → std.Option Member
+row_here row next = Some (record { row = row; next = next })
 
 abbrev pub member_of : List ℕ → Option Entry → std.Option Member
 member_of s none = None
-member_of s (some x) = here (row_of x.row) (record { at = next_from s x.after })
+member_of s (some x) = row_here (row_of x.row) (record { at = next_from s x.after })
 
 -- A table of members, laid flat
 

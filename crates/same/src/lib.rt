@@ -68,10 +68,7 @@ fn none_left(s: &[u8], p: Position, left: usize) -> bool
     if left == 0 {
         return true;
     }
-    let Some(_) = p.element(s, 12, true) else {
-        return true;
-    };
-    false
+    p.element(s, 12, true).is_none()
 }
 
 // Whether two objects can be compared by name: they have as many members, and neither has a name twice.
@@ -168,7 +165,14 @@ fn arrays(s: &[u8], t: &[u8], i: usize, j: usize, levels: u32, work: &mut [u32])
         if levels == 0 {
             return false;
         }
-        if !compare(s, t, value_of(found.row), value_of(beside.row), levels - 1, work) {
+        if !compare(
+            s,
+            t,
+            value_of(found.row),
+            value_of(beside.row),
+            levels - 1,
+            work,
+        ) {
             return false;
         }
         p = found.next;

@@ -1,5 +1,4 @@
 -- `step` hands out what the reader of members finds.
-use mathlib.Core.Path.{sym, ◌∙◌}
 use Rattle.walk.proofs.Opens.{steps_end, steps_here}
 use Rattle.walk.proofs.step.Goals as goal
 

@@ -21,7 +21,7 @@ returns-in_err-second c =
     let half = c.args.half in
     record {
       result_value = ap (resumed s) c.from_residual-in_err-second.ensures ∙ digit_wrong s half c.in_ok-first.first.value c.in_ok-first.first.next.at 2 c.in_err-second.ensures.value
-      ∙ digit_more s half 0 c.args.self.at c.in_ok-first.first.next c.in_ok-first.first.value c.in_ok-first.ensures.value 2;
+          ∙ digit_more s half 0 c.args.self.at c.in_ok-first.first.next c.in_ok-first.first.value c.in_ok-first.ensures.value 2;
       beyond = subst (Beyond c.args.self.at) (sym c.from_residual-in_err-second.ensures) tt;
     }
 
@@ -31,8 +31,8 @@ returns-in_err-third c =
     let half = c.args.half in
     record {
       result_value = ap (resumed s) c.from_residual-in_err-third.ensures ∙ digit_wrong s half c.in_ok-second.second.value c.in_ok-second.second.next.at 1 c.in_err-third.ensures.value
-      ∙ digit_more s half c.in_ok-first.first.value c.in_ok-first.first.next.at c.in_ok-second.second.next c.in_ok-second.second.value c.in_ok-second.ensures.value 1
-      ∙ digit_more s half 0 c.args.self.at c.in_ok-first.first.next c.in_ok-first.first.value c.in_ok-first.ensures.value 2;
+          ∙ digit_more s half c.in_ok-first.first.value c.in_ok-first.first.next.at c.in_ok-second.second.next c.in_ok-second.second.value c.in_ok-second.ensures.value 1
+          ∙ digit_more s half 0 c.args.self.at c.in_ok-first.first.next c.in_ok-first.first.value c.in_ok-first.ensures.value 2;
       beyond = subst (Beyond c.args.self.at) (sym c.from_residual-in_err-third.ensures) tt;
     }
 
@@ -42,9 +42,9 @@ returns-in_err-last c =
     let half = c.args.half in
     record {
       result_value = ap (resumed s) c.from_residual-in_err-last.ensures ∙ digit_wrong s half c.in_ok-third.third.value c.in_ok-third.third.next.at 0 c.in_err-last.ensures.value
-      ∙ digit_more s half c.in_ok-second.second.value c.in_ok-second.second.next.at c.in_ok-third.third.next c.in_ok-third.third.value c.in_ok-third.ensures.value 0
-      ∙ digit_more s half c.in_ok-first.first.value c.in_ok-first.first.next.at c.in_ok-second.second.next c.in_ok-second.second.value c.in_ok-second.ensures.value 1
-      ∙ digit_more s half 0 c.args.self.at c.in_ok-first.first.next c.in_ok-first.first.value c.in_ok-first.ensures.value 2;
+          ∙ digit_more s half c.in_ok-second.second.value c.in_ok-second.second.next.at c.in_ok-third.third.next c.in_ok-third.third.value c.in_ok-third.ensures.value 0
+          ∙ digit_more s half c.in_ok-first.first.value c.in_ok-first.first.next.at c.in_ok-second.second.next c.in_ok-second.second.value c.in_ok-second.ensures.value 1
+          ∙ digit_more s half 0 c.args.self.at c.in_ok-first.first.next c.in_ok-first.first.value c.in_ok-first.ensures.value 2;
       beyond = subst (Beyond c.args.self.at) (sym c.from_residual-in_err-last.ensures) tt;
     }
 
@@ -60,8 +60,8 @@ returns c =
     let far : c.args.self.at < c.in_ok-last.last.next.at = omega arith in
     record {
       result_value = ap (resumed s) end ∙ digit_last s half c.in_ok-third.third.value c.in_ok-third.third.next.at c.in_ok-last.last.next c.in_ok-last.last.value c.in_ok-last.ensures.value
-      ∙ digit_more s half c.in_ok-second.second.value c.in_ok-second.second.next.at c.in_ok-third.third.next c.in_ok-third.third.value c.in_ok-third.ensures.value 0
-      ∙ digit_more s half c.in_ok-first.first.value c.in_ok-first.first.next.at c.in_ok-second.second.next c.in_ok-second.second.value c.in_ok-second.ensures.value 1
-      ∙ digit_more s half 0 c.args.self.at c.in_ok-first.first.next c.in_ok-first.first.value c.in_ok-first.ensures.value 2;
+          ∙ digit_more s half c.in_ok-second.second.value c.in_ok-second.second.next.at c.in_ok-third.third.next c.in_ok-third.third.value c.in_ok-third.ensures.value 0
+          ∙ digit_more s half c.in_ok-first.first.value c.in_ok-first.first.next.at c.in_ok-second.second.next c.in_ok-second.second.value c.in_ok-second.ensures.value 1
+          ∙ digit_more s half 0 c.args.self.at c.in_ok-first.first.next c.in_ok-first.first.value c.in_ok-first.ensures.value 2;
       beyond = subst (Beyond c.args.self.at) (sym end) (unit_beyond c.args.self.at c.in_ok-last.last.next half c.in_ok-last.last.value far);
     }

@@ -1,5 +1,5 @@
 -- Each left member's fingerprint goes behind the positions, which stay 0.
-use mathlib.Core.Path.{refl, sym, ◌∙◌}
+use mathlib.Core.Path.{refl, ◌∙◌}
 use native.Mathlib.Omega.{arith}
 use Rattle.grammar.specs.Grammar.{curly}
 use Rattle.distinct.proofs.Walks.{entry_known, known_more}

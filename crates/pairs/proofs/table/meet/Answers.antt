@@ -1,5 +1,5 @@
 -- Each right member's position is left for a number, or not.
-use mathlib.Core.Path.{refl, sym, ◌∙◌}
+use mathlib.Core.Path.{refl, ◌∙◌}
 use native.Mathlib.Omega.{arith}
 use Rattle.pairs.proofs.Spots.{spot_start, spot_known, spot_next}
 use Rattle.pairs.proofs.Tables.{table_left}

@@ -42,18 +42,18 @@ returns-in_default c =
     (walk_end (of_any no_object) _ s c.loop-left.left c.loop-left.p.at c.loop-left.invariant.0.some left told) in
     record { value = both.0; leaves = both.1 }
 
-pub shape_of-starts-then-row-ne0 : goal.shape_of-starts-then-row-ne0
-shape_of-starts-then-row-ne0 c = c.loop-left.invariant.0.same
+pub shape_of-starts-then-found-ne0 : goal.shape_of-starts-then-found-ne0
+shape_of-starts-then-found-ne0 c = c.loop-left.invariant.0.same
 
-pub returns-then-row-ne0 : goal.returns-then-row-ne0
-returns-then-row-ne0 c =
+pub returns-then-found-ne0 : goal.returns-then-found-ne0
+returns-then-found-ne0 c =
     let args = c.args in
     let s = args.message.now in
     let left = c.loop-left-test.true in
     let told = c.in-Some.ensures in
     let one = walk_found (of_any no_object) _ s c.loop-left.left c.loop-left.p.at c.loop-left.invariant.0.some left c.in-Some.found.row
     c.in-Some.found.next told
-    (ap not (ne_eqb _ _ c.if-row-ne0.true)) in
+    (ap not (ne_eqb _ _ c.if-found-ne0.true)) in
     record {
       value = refused_10 (elements_at 12 s args.at) one;
       leaves = c.loop-left.invariant.0.same;
@@ -78,7 +78,7 @@ returns-then-some_no_object c =
     let told = c.in-Some.ensures in
     let rest = walk_on (of_any no_object) _ s c.loop-left.left c.loop-left.p.at c.loop-left.invariant.0.some left c.in-Some.found.row
     c.in-Some.found.next told
-    (ap not (eq-eqb _ _ c.if-row-ne0.false)) in
+    (ap not (eq-eqb _ _ c.if-found-ne0.false)) in
     record {
       value = refused_10 (elements_at 12 s args.at) (sym c.if-some_no_object.true ∙ c.some_no_object.ensures ∙ rest);
       leaves = c.loop-left.invariant.0.same;
@@ -95,7 +95,7 @@ returns-then-count-eq-MOST_RECIPIENTS c =
     let told = c.in-Some.ensures in
     let rest = walk_on (of_any no_object) _ s c.loop-left.left c.loop-left.p.at c.loop-left.invariant.0.some left c.in-Some.found.row
     c.in-Some.found.next told
-    (ap not (eq-eqb _ _ c.if-row-ne0.false)) in
+    (ap not (eq-eqb _ _ c.if-found-ne0.false)) in
     let more = elements_more s c.loop-left.left c.loop-left.p.at left c.in-Some.found.row c.in-Some.found.next told in
     record {
       value = refused_11 (elements_at 12 s args.at) (sym c.if-some_no_object.false ∙ c.some_no_object.ensures ∙ rest)
@@ -123,7 +123,7 @@ loop-left-preserved c =
       walked_on c.loop-left.invariant.0 (element_of c.in-Some.found.row) (elements_from s (c.loop-left.left - 1) c.in-Some.found.next.at) more
           c.if-count-eq-MOST_RECIPIENTS.false
           (walk_on (of_any no_object) _ s c.loop-left.left c.loop-left.p.at c.loop-left.invariant.0.some left c.in-Some.found.row
-          c.in-Some.found.next told (ap not (eq-eqb _ _ c.if-row-ne0.false))),
+          c.in-Some.found.next told (ap not (eq-eqb _ _ c.if-found-ne0.false))),
       known_next square 12 s c.loop-left.left c.loop-left.p.at left read c.loop-left.invariant.1,
     )
 
