@@ -25,7 +25,7 @@ ghost use Rattle.json_judge.specs.Inner.Asked.{over_tests, within_tests};
 use jose::Sizes;
 use jose::content::Named;
 use jose::lists::ENC;
-use json_read::{Found, Position};
+use json_read::Position;
 use prelude::refusal::Refusal;
 use prelude::limits::{HEADER_ROOM, LEVELS};
 
@@ -36,11 +36,7 @@ fn unread_within(levels: u32, text: &[u8]) -> bool
     if text.len() == 0 {
         return false;
     }
-    let judged = json_read::judge(text, levels);
-    let Found::Value(_, _) = judged else {
-        return true;
-    };
-    false
+    json_read::judge(text, levels).is_none()
 }
 
 // 7 on the own headers.
