@@ -3,10 +3,10 @@ ghost use Rattle.std.specs.Prelude.{◌≡◌, ◌+◌, ◌*◌, ◌<◌, drop};
 ghost use Rattle.prelude.specs.Any.{any};
 ghost use Rattle.rows.specs.Rows.{apart, same, repeated};
 ghost use Rattle.rows.specs.Tables.{first_of, width};
-ghost use Rattle.rows.specs.Inner.Prints.{HasPrint, Printed};
+ghost use Rattle.rows.specs.Inner.Prints.{HasPrint};
 ghost use Rattle.rows.specs.Inner.Views.{the_entry, the_entries, the_texts};
 
-use crate::table::{Entries, Entry, Texts};
+use crate::table::{Entry, Headers, Texts};
 
 // Whether two origins differ, or are the same.
 fn apart(across: bool, o: u32, p: u32) -> bool
@@ -32,30 +32,29 @@ impl<'a> Texts<'a> {
     }
 }
 
-impl<'a> Entries<'a> {
-    // Whether one of them says the same as one behind it.
-    fn clashes_with(self, texts: Texts, across: bool, i: usize) -> bool
-        requires i_lt_count { i < self.count }
-        requires printed { Printed (the_texts texts) self.count self.table.now }
-        ensures { result ≡ any (same across (the_texts texts.entry) (first_of (drop (i * width) self.entry.table.now))) (drop (i + 1) (the_entries self.entry)) }
+impl<'a> Headers<'a> {
+    // Whether a parameter says the same as one behind it.
+    fn clashes_with(self, across: bool, i: usize) -> bool
+        requires { i < self.entries.count }
+        ensures { result ≡ any (same across (the_texts self.entry.texts) (first_of (drop (i * width) self.entry.entries.table.now))) (drop (i + 1) (the_entries self.entry.entries)) }
     {
-        let e = self.at(i);
-        for j in i + 1..self.count {
-            if texts.clash(e, self.at(j), across) {
+        let Headers { texts, entries } = self;
+        let e = entries.at(i);
+        for j in i + 1..entries.count {
+            if texts.clash(e, entries.at(j), across) {
                 return true;
             }
         }
         false
     }
 
-    // Whether two of them say the same, both of one origin, or, across, of two. Names with different fingerprints are not
+    // Whether two parameters say the same, both of one header, or, across, of two. Names with different fingerprints are not
     // compared, so that long names are read once.
-    pub fn clashes(self, texts: Texts, across: bool) -> bool
-        requires { Printed (the_texts texts) self.count self.table.now }
-        ensures { result ≡ repeated across (the_texts texts.entry) (the_entries self.entry) }
+    pub fn clashes(self, across: bool) -> bool
+        ensures { result ≡ repeated across (the_texts self.entry.texts) (the_entries self.entry.entries) }
     {
-        for i in 0..self.count {
-            if self.clashes_with(texts, across, i) {
+        for i in 0..self.entries.count {
+            if self.clashes_with(across, i) {
                 return true;
             }
         }

@@ -1,6 +1,7 @@
 // Entries of a table, one of them, and the texts in which they stand.
-ghost use Rattle.std.specs.Prelude.{◌*◌, ◌≤◌, length};
+ghost use Rattle.std.specs.Prelude.{ℕ, ◌*◌, ◌≤◌, ◌<◌, length, drop};
 ghost use Rattle.rows.specs.Tables.{width};
+ghost use Rattle.rows.specs.Inner.Prints.{HasPrint};
 
 // The first entries of a table.
 #[derive(Clone, Copy)]
@@ -23,4 +24,14 @@ pub struct Texts<'a> {
     pub header: &'a [u8],
     pub shared: &'a [u8],
     pub own: &'a [u8],
+}
+
+// A recipient's headers: their parameters, and the texts in which these stand. The entries have the fingerprints of their names.
+#[derive(Clone, Copy)]
+pub struct Headers<'a> {
+    pub texts: Texts<'a>,
+    pub entries: Entries<'a>,
+    pub ghost printed: { (i : ℕ) → i < entries.count →
+        HasPrint (record { protected = texts.header.now; shared = texts.shared.now; own = texts.own.now })
+        (drop (i * width) entries.table.now) },
 }
