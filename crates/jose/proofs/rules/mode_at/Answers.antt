@@ -1,31 +1,24 @@
 -- `mode_at` takes what the value names, and its mode.
 use mathlib.Core.Path.{sym, ap, ◌∙◌}
 use mathlib.Core.List.{List, flatten}
-use Prim.Native.Nat.{ℕ, ◌*◌}
-use lib.ListN.{drop}
+use Prim.Native.Nat.{ℕ}
 use Rattle.prelude.specs.Ascii.{ascii}
 use Rattle.names.specs.Names.{list_of, number_in}
 use Rattle.names.proofs.Contents.{names_of_lem, filled_list}
-use Rattle.rows.specs.Rows.{texts, value_in}
-use Rattle.rows.specs.Tables.{first_of, width}
+use Rattle.rows.specs.Rows.{value_in}
+use Rattle.rows.specs.Inner.Views.{the_entry, the_texts}
 use Rattle.algorithms.specs.Algorithms.{algs, alg_name, alg_names, nth, named_alg}
 use Rattle.algorithms.proofs.Numbered.{unlisted_mode, listed_mode}
-use borrow.Author.Rules.{rules}
 use Rattle.jose.proofs.rules.mode_at.Goals as goal
 
 pub number_in-requires : goal.number_in-requires
 unfolding list_of flatten ascii algs alg_name alg_names
-number_in-requires c =
-    record {
-      list_value = filled_list alg_names;
-      width_in_bounds = search rules;
-    }
+number_in-requires c = filled_list alg_names
 
 pub returns-in_default : goal.returns-in_default
 unfolding list_of flatten ascii algs alg_name alg_names
 returns-in_default c =
-    let args = c.args in
-    let value = value_in (texts args.header.now args.shared.now args.own.now) (first_of (drop (args.i * width) args.table.now)) in
+    let value = value_in (the_texts c.args.texts) (the_entry c.args.e) in
     unlisted_mode (nth algs (number_in alg_names value))
     (sym c.in_default.is ∙ c.numbered.ensures
     ∙ ap (λ (n : ℕ). named_alg (nth algs n))
@@ -35,8 +28,7 @@ returns-in_default c =
 pub returns : goal.returns
 unfolding list_of flatten ascii algs alg_name alg_names
 returns c =
-    let args = c.args in
-    let value = value_in (texts args.header.now args.shared.now args.own.now) (first_of (drop (args.i * width) args.table.now)) in
+    let value = value_in (the_texts c.args.texts) (the_entry c.args.e) in
     c.mode.ensures
     ∙ listed_mode (nth algs (number_in alg_names value)) _
     (sym c.in-Alg.is ∙ c.numbered.ensures
