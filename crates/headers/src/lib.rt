@@ -21,6 +21,7 @@ use json_read::member::Collected;
 use json_read::{Found, Position};
 use prelude::limits::LEVELS;
 use prelude::{Place, Stage};
+use rows::table::{Entries, Headers, Texts};
 
 // The encoded components by their places in the message; 0, 0 where one is absent.
 #[derive(Clone, Copy)]
@@ -101,7 +102,17 @@ pub fn object(
         return Stage::Refused(8);
     };
     let first = from * rows::layout::WIDTH;
-    if rows::repeat::clashes(s, s, s, &table[first..], count, false) {
+    let texts = Texts {
+        header: s,
+        shared: s,
+        own: s,
+    };
+    let entries = Entries {
+        table: &table[first..],
+        count,
+    };
+    let members = Headers { texts, entries };
+    if members.clashes(false) {
         return Stage::Refused(9);
     }
     Stage::Passed(count)

@@ -19,6 +19,7 @@ use jose::Sizes;
 use json_read::Found;
 use prelude::Stage;
 use prelude::limits::{HEADER_ROOM, LEVELS, LONGEST};
+use rows::table::{Entries, Headers, Texts};
 
 // The header
 
@@ -47,7 +48,17 @@ fn parameters(header: &[u8], known: &[u8], sizes: Sizes) -> Stage
     let Stage::Passed(count) = collected else {
         return collected;
     };
-    jose::judge::judge_protected(header, known, &table, count, sizes)
+    let texts = Texts {
+        header,
+        shared: header,
+        own: header,
+    };
+    let entries = Entries {
+        table: &table,
+        count,
+    };
+    let only = Headers { texts, entries };
+    jose::judge::judge_protected(only, known, sizes)
 }
 
 // The message

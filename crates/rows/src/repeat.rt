@@ -32,7 +32,7 @@ impl<'a> Texts<'a> {
     }
 }
 
-impl<'a> Headers<'a> {
+impl<'a, 'b> Headers<'a, 'b> {
     // Whether a parameter says the same as one behind it.
     fn clashes_with(self, across: bool, i: usize) -> bool
         requires { i < self.entries.count }

@@ -28,9 +28,9 @@ pub struct Texts<'a> {
 
 // A recipient's headers: their parameters, and the texts in which these stand. The entries have the fingerprints of their names.
 #[derive(Clone, Copy)]
-pub struct Headers<'a> {
+pub struct Headers<'a, 'b> {
     pub texts: Texts<'a>,
-    pub entries: Entries<'a>,
+    pub entries: Entries<'b>,
     pub ghost printed: { (i : ℕ) → i < entries.count →
         HasPrint (record { protected = texts.header.now; shared = texts.shared.now; own = texts.own.now })
         (drop (i * width) entries.table.now) },
