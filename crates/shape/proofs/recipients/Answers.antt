@@ -9,7 +9,7 @@ use lib.ListN.{length, take, length-take}
 use Rattle.prelude.specs.Buffer.{written}
 use Rattle.grammar.specs.Reader.{elements_at}
 use Rattle.rows.specs.Rows.{Entry, present, value_of}
-use Rattle.rows.specs.Tables.{entries_of}
+use Rattle.rows.specs.Inner.Views.{the_entries}
 use Rattle.grammar.specs.Grammar.{curly, square}
 use Rattle.grammar.specs.Bounds.{Every}
 use Rattle.json_read.specs.Inner.Known.{KnownIn}
@@ -28,16 +28,16 @@ returns-then-not-present c =
     let absent = sym c.present.ensures
     ∙ c.if-not-present.true in
     record {
-      value = flattened (c.args.message.now) ((entries_of c.args.count c.args.table.now)) absent;
+      value = flattened (c.args.message.now) (the_entries c.args.members) absent;
       into_after = c.put.ensures
           ∙ ap (λ (l : List ℕ). written 0 l c.args.into.now)
-          (flattened_numbers (c.args.message.now) ((entries_of c.args.count c.args.table.now)) absent);
+          (flattened_numbers (c.args.message.now) (the_entries c.args.members) absent);
     }
 
 pub walk-walked-requires : goal.walk-walked-requires
 walk-walked-requires c =
     let m = c.args.message.now in
-    let same = c.requires.table_value in
+    let same = c.requires.members_value in
     let there = sym (ap (present 5) same) ∙ sym c.present.ensures
     ∙ c.if-not-present.false in
     let at = c.value_of-at.ensures.start_value ∙ ap (λ (es : List Entry). (value_of 5 es).start) same in
@@ -48,50 +48,50 @@ walk-walked-requires c =
 
 pub returns-in_default : goal.returns-in_default
 returns-in_default c =
-    let is-general : present 5 ((entries_of c.args.count c.args.table.now)) ≡ true = sym c.present.ensures ∙ c.if-not-present.false in
+    let is-general : present 5 (the_entries c.args.members) ≡ true = sym c.present.ensures ∙ c.if-not-present.false in
     record {
-      value = general_refused (c.args.message.now) ((entries_of c.args.count c.args.table.now)) (is-general) c.value_of-at.result.start
+      value = general_refused (c.args.message.now) (the_entries c.args.members) (is-general) c.value_of-at.result.start
           c.value_of-at.ensures.start_value c.walk-walked.result c.walk-walked.ensures.value c.in_default.field-0 c.in_default.is;
-      into_after = general_none (c.args.message.now) ((entries_of c.args.count c.args.table.now)) (is-general) c.value_of-at.result.start
+      into_after = general_none (c.args.message.now) (the_entries c.args.members) (is-general) c.value_of-at.result.start
           c.value_of-at.ensures.start_value c.walk-walked.result c.walk-walked.ensures.value c.in_default.field-0 c.in_default.is
           c.args.into.now;
     }
 
 pub slice_bounds-starts-end : goal.slice_bounds-starts-end
 slice_bounds-starts-end c =
-    let is-general : present 5 ((entries_of c.args.count c.args.table.now)) ≡ true = sym c.present.ensures ∙ c.if-not-present.false in
+    let is-general : present 5 (the_entries c.args.members) ≡ true = sym c.present.ensures ∙ c.if-not-present.false in
     let starts : take c.in-Passed.n c.walk-walked.new.starts
-    ≡ starts_of (elements_at 12 (c.args.message.now) c.value_of-at.result.start) = starts_are (c.args.message.now) ((entries_of c.args.count c.args.table.now)) (is-general) c.value_of-at.result.start c.value_of-at.ensures.start_value
+    ≡ starts_of (elements_at 12 (c.args.message.now) c.value_of-at.result.start) = starts_are (c.args.message.now) (the_entries c.args.members) (is-general) c.value_of-at.result.start c.value_of-at.ensures.start_value
     c.walk-walked.result c.walk-walked.ensures.value c.in-Passed.n c.in-Passed.is _ _
     c.walk-walked.ensures.leaves in
-    let count : c.in-Passed.n ≡ length (take c.in-Passed.n c.walk-walked.new.starts) = starts_count (c.args.message.now) ((entries_of c.args.count c.args.table.now)) (is-general) c.value_of-at.result.start c.value_of-at.ensures.start_value
+    let count : c.in-Passed.n ≡ length (take c.in-Passed.n c.walk-walked.new.starts) = starts_count (c.args.message.now) (the_entries c.args.members) (is-general) c.value_of-at.result.start c.value_of-at.ensures.start_value
     c.walk-walked.result c.walk-walked.ensures.value c.in-Passed.n c.in-Passed.is
     ∙ sym (ap length (starts)) in
     omega (arith, count, length-take c.in-Passed.n c.walk-walked.new.starts)
 
 pub slice_bounds-elements-end : goal.slice_bounds-elements-end
 slice_bounds-elements-end c =
-    let is-general : present 5 ((entries_of c.args.count c.args.table.now)) ≡ true = sym c.present.ensures ∙ c.if-not-present.false in
+    let is-general : present 5 (the_entries c.args.members) ≡ true = sym c.present.ensures ∙ c.if-not-present.false in
     let starts : take c.in-Passed.n c.walk-walked.new.starts
-    ≡ starts_of (elements_at 12 (c.args.message.now) c.value_of-at.result.start) = starts_are (c.args.message.now) ((entries_of c.args.count c.args.table.now)) (is-general) c.value_of-at.result.start c.value_of-at.ensures.start_value
+    ≡ starts_of (elements_at 12 (c.args.message.now) c.value_of-at.result.start) = starts_are (c.args.message.now) (the_entries c.args.members) (is-general) c.value_of-at.result.start c.value_of-at.ensures.start_value
     c.walk-walked.result c.walk-walked.ensures.value c.in-Passed.n c.in-Passed.is _ _
     c.walk-walked.ensures.leaves in
-    let count : c.in-Passed.n ≡ length (take c.in-Passed.n c.walk-walked.new.starts) = starts_count (c.args.message.now) ((entries_of c.args.count c.args.table.now)) (is-general) c.value_of-at.result.start c.value_of-at.ensures.start_value
+    let count : c.in-Passed.n ≡ length (take c.in-Passed.n c.walk-walked.new.starts) = starts_count (c.args.message.now) (the_entries c.args.members) (is-general) c.value_of-at.result.start c.value_of-at.ensures.start_value
     c.walk-walked.result c.walk-walked.ensures.value c.in-Passed.n c.in-Passed.is
     ∙ sym (ap length (starts)) in
     count
 
 pub elements-requires : goal.elements-requires
 elements-requires c =
-    let is-general : present 5 ((entries_of c.args.count c.args.table.now)) ≡ true = sym c.present.ensures ∙ c.if-not-present.false in
-    let few : c.in-Passed.n ≤ 8 = eight (c.args.message.now) ((entries_of c.args.count c.args.table.now)) (is-general) c.value_of-at.result.start c.value_of-at.ensures.start_value
+    let is-general : present 5 (the_entries c.args.members) ≡ true = sym c.present.ensures ∙ c.if-not-present.false in
+    let few : c.in-Passed.n ≤ 8 = eight (c.args.message.now) (the_entries c.args.members) (is-general) c.value_of-at.result.start c.value_of-at.ensures.start_value
     c.walk-walked.result
     c.walk-walked.ensures.value c.in-Passed.n c.in-Passed.is in
     let starts : take c.in-Passed.n c.walk-walked.new.starts
-    ≡ starts_of (elements_at 12 (c.args.message.now) c.value_of-at.result.start) = starts_are (c.args.message.now) ((entries_of c.args.count c.args.table.now)) (is-general) c.value_of-at.result.start c.value_of-at.ensures.start_value
+    ≡ starts_of (elements_at 12 (c.args.message.now) c.value_of-at.result.start) = starts_are (c.args.message.now) (the_entries c.args.members) (is-general) c.value_of-at.result.start c.value_of-at.ensures.start_value
     c.walk-walked.result c.walk-walked.ensures.value c.in-Passed.n c.in-Passed.is _ _
     c.walk-walked.ensures.leaves in
-    let count : c.in-Passed.n ≡ length (take c.in-Passed.n c.walk-walked.new.starts) = starts_count (c.args.message.now) ((entries_of c.args.count c.args.table.now)) (is-general) c.value_of-at.result.start c.value_of-at.ensures.start_value
+    let count : c.in-Passed.n ≡ length (take c.in-Passed.n c.walk-walked.new.starts) = starts_count (c.args.message.now) (the_entries c.args.members) (is-general) c.value_of-at.result.start c.value_of-at.ensures.start_value
     c.walk-walked.result c.walk-walked.ensures.value c.in-Passed.n c.in-Passed.is
     ∙ sym (ap length (starts)) in
     let walk-passed : first (array_order (elements_at 12 (c.args.message.now) c.value_of-at.result.start)) ≡ 0 = (passed_is c.in-Passed.n _ _ (sym c.in-Passed.is ∙ c.walk-walked.ensures.value)).0 in
@@ -103,17 +103,17 @@ elements-requires c =
 
 pub returns : goal.returns
 returns c =
-    let is-general : present 5 ((entries_of c.args.count c.args.table.now)) ≡ true = sym c.present.ensures ∙ c.if-not-present.false in
+    let is-general : present 5 (the_entries c.args.members) ≡ true = sym c.present.ensures ∙ c.if-not-present.false in
     let starts : take c.in-Passed.n c.walk-walked.new.starts
-    ≡ starts_of (elements_at 12 (c.args.message.now) c.value_of-at.result.start) = starts_are (c.args.message.now) ((entries_of c.args.count c.args.table.now)) (is-general) c.value_of-at.result.start c.value_of-at.ensures.start_value
+    ≡ starts_of (elements_at 12 (c.args.message.now) c.value_of-at.result.start) = starts_are (c.args.message.now) (the_entries c.args.members) (is-general) c.value_of-at.result.start c.value_of-at.ensures.start_value
     c.walk-walked.result c.walk-walked.ensures.value c.in-Passed.n c.in-Passed.is _ _
     c.walk-walked.ensures.leaves in
     record {
-      value = general (c.args.message.now) ((entries_of c.args.count c.args.table.now)) (is-general) c.value_of-at.result.start
+      value = general (c.args.message.now) (the_entries c.args.members) (is-general) c.value_of-at.result.start
           c.value_of-at.ensures.start_value
           c.walk-walked.result c.walk-walked.ensures.value c.in-Passed.n c.in-Passed.is _ (starts) _ c.elements.ensures.value;
       into_after = c.elements.ensures.into_after
           ∙ ap (λ (rs : List Recipient). written 0 (flat_recipients rs) c.args.into.now)
-          (general_writes (c.args.message.now) ((entries_of c.args.count c.args.table.now)) (is-general) c.value_of-at.result.start
+          (general_writes (c.args.message.now) (the_entries c.args.members) (is-general) c.value_of-at.result.start
           c.value_of-at.ensures.start_value c.walk-walked.result c.walk-walked.ensures.value c.in-Passed.n c.in-Passed.is _ (starts));
     }

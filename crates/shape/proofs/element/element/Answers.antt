@@ -34,9 +34,9 @@ returns-in_default c =
       leaves_at = leaves_refused args.to _ args.into.now _ c.in_default.field-0 c.in_default.is;
     }
 
-pub wrong_element-requires : goal.wrong_element-requires
+pub invariant_of-members : goal.invariant_of-members
 unfolding list_of member_names ascii flatten
-wrong_element-requires c =
+invariant_of-members c =
     let answer : c.object-object.result ≡ stage_of (first (object_order c.args.message.now ((element_entries c.args.message.now c.args.at))))
     (length ((element_entries c.args.message.now c.args.at))) = (let args = c.args in
     let message = args.message.now in
@@ -47,7 +47,7 @@ wrong_element-requires c =
     let same = element_entries_lem message args.at _ (names_of_lem member_names) in
     entered message _ _ _ (object_table_lem message _ _ _ _ same c.object-object.ensures.table_after) (search rules) _
     (answer) c.in-Passed.count c.in-Passed.is) in
-    (holds).fits
+    record { fits = (holds).fits }
 
 pub returns-then-wrong_element : goal.returns-then-wrong_element
 unfolding list_of member_names ascii flatten
@@ -70,24 +70,6 @@ returns-then-wrong_element c =
       value = object_wrong _ _ _ (answer) _ c.in-Passed.count
           c.in-Passed.is wrong ∙ element_order_lem args.message.now args.at _;
       leaves_at = refl;
-    }
-
-pub put-requires : goal.put-requires
-unfolding list_of member_names ascii flatten
-put-requires c =
-    let answer : c.object-object.result ≡ stage_of (first (object_order c.args.message.now ((element_entries c.args.message.now c.args.at))))
-    (length ((element_entries c.args.message.now c.args.at))) = (let args = c.args in
-    let message = args.message.now in
-    object_answer message _ _ _ (element_entries_lem message args.at _ (names_of_lem member_names)) _ c.object-object.ensures.value) in
-    let holds : Entered ((element_entries c.args.message.now c.args.at)) c.object-object.new.table
-    c.in-Passed.count = (let args = c.args in
-    let message = args.message.now in
-    let same = element_entries_lem message args.at _ (names_of_lem member_names) in
-    entered message _ _ _ (object_table_lem message _ _ _ _ same c.object-object.ensures.table_after) (search rules) _
-    (answer) c.in-Passed.count c.in-Passed.is) in
-    record {
-      width_in_bounds = (holds).fits;
-      recipient_width_in_bounds = c.requires.recipient_width_in_bounds;
     }
 
 pub returns : goal.returns
