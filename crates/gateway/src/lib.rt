@@ -18,7 +18,8 @@ use aad::Joined;
 use base64url::Decoded;
 use differences::Answer;
 use jwe::Result;
-use prelude::{Place, Stage};
+use prelude::Place;
+use prelude::refusal::Refusal;
 
 // The header walk (document 01, 'Further requests'): `open_walk` opens it on a text, and each `next_member` hands out one
 // member, then the end. For callers that want no struct, `walk_start` and `walk_step` take the text and an offset.
@@ -99,7 +100,7 @@ pub fn write(
     tag: &[u8],
     known: &[u8],
     out: &mut [u8],
-) -> Stage
+) -> Result<usize, Refusal>
     ensures { WritesCompact
         (raw header.now key.now iv.now ciphertext.now tag.now)
         known.now out.old result out.new }
@@ -121,7 +122,7 @@ pub fn write_json(
     known: &[u8],
     recipients: &[u8],
     out: &mut [u8],
-) -> Stage
+) -> Result<usize, Refusal>
     ensures { WritesJson general
         (raw_json protected.now shared.now aad.now iv.now ciphertext.now
         tag.now recipients.now)

@@ -25,7 +25,7 @@ use Rattle.prelude.specs.Outputs.{octets_written, output_after}
 use Rattle.headers.specs.Components.{octets_at, misspelled}
 use Rattle.headers.specs.Headers.{header_text, too_long, is_nothing, unread, text_order}
 use Rattle.headers.specs.Answers.{header_buffer}
-use Rattle.prelude.specs.declared.Stage.TheVariants.{Passed, Refused}
+use Rattle.prelude.specs.Refusals.{Passed, Refused}
 
 -- What decoding a text without fault answers, by how long it decoded is.
 abbrev pub decoded_as : List ℕ → Decoded

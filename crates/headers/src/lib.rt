@@ -10,7 +10,7 @@ ghost use Rattle.rows.specs.Rows.{entries_in};
 ghost use Rattle.rows.specs.Tables.{header_table, width};
 ghost use Rattle.rows.specs.Inner.Prints.{collected_table};
 ghost use Rattle.prelude.specs.Limits.{header_room, levels, longest};
-ghost use Rattle.prelude.specs.Refusals.{first, stage_of};
+ghost use Rattle.prelude.specs.Refusals.{first, stage_of, as_stage};
 ghost use Rattle.headers.specs.Components.{misspelled, with_key, sizes_of};
 ghost use Rattle.headers.specs.Headers.{header_text, text_order, protected_entries, object_order};
 ghost use Rattle.headers.specs.Answers.{place_of, components_of, header_buffer};
@@ -20,7 +20,8 @@ use jose::Sizes;
 use json_read::member::Collected;
 use json_read::{Found, Position};
 use prelude::limits::LEVELS;
-use prelude::{Place, Stage};
+use prelude::Place;
+use prelude::refusal::Refusal;
 use rows::table::{Entries, Headers, Texts};
 
 // The encoded components by their places in the message; 0, 0 where one is absent.
@@ -89,17 +90,17 @@ pub fn object(
     table: &mut [u32],
     from: usize,
     judged: bool,
-) -> Stage
+) -> Result<usize, Refusal>
     requires s_len_bound { length s.now ≤ longest }
     requires list_value { filled list.now ≡ true }
     requires header_table_in_bounds { from * width + header_table ≤ length table.old }
     requires given { Given judged (KnownIn curly levels s.now at) }
-    ensures value { result ≡ stage_of (first (object_order s.now (entries_in (names list.now) s.now origin (members_at levels s.now at)))) (length (members_at levels s.now at)) }
+    ensures value { as_stage result ≡ stage_of (first (object_order s.now (entries_in (names list.now) s.now origin (members_at levels s.now at)))) (length (members_at levels s.now at)) }
     ensures table_after { table.new ≡ collected_table from s.now (entries_in (names list.now) s.now origin (members_at levels s.now at)) table.old }
 {
     let collected = rows::collect::collect(s, at, origin, list, table, from, judged);
     let Collected::Rows(count) = collected else {
-        return Stage::Refused(8);
+        return Err(Refusal::ManyMembers);
     };
     let first = from * rows::layout::WIDTH;
     let texts = Texts {
@@ -113,16 +114,16 @@ pub fn object(
     };
     let members = Headers { texts, entries };
     if members.clashes(false) {
-        return Stage::Refused(9);
+        return Err(Refusal::NameTwice);
     }
-    Stage::Passed(count)
+    Ok(count)
 }
 
 // 8 and 9 on the decoded protected header: its parameters as entries at the start of the table, and how many they are.
-pub fn protected_entries(header: &[u8], table: &mut [u32]) -> Stage
+pub fn protected_entries(header: &[u8], table: &mut [u32]) -> Result<usize, Refusal>
     requires header_len_bound { length header.now ≤ longest }
     requires header_table_in_bounds { header_table ≤ length table.old }
-    ensures value { result ≡ stage_of (first (object_order header.now (protected_entries header.now))) (length (protected_entries header.now)) }
+    ensures value { as_stage result ≡ stage_of (first (object_order header.now (protected_entries header.now))) (length (protected_entries header.now)) }
     ensures table_after { table.new ≡ collected_table 0 header.now (protected_entries header.now) table.old }
 {
     let list = jose::lists::REGISTERED;
@@ -132,19 +133,19 @@ pub fn protected_entries(header: &[u8], table: &mut [u32]) -> Stage
 
 // 6 and 7 on the protected header, whose encoded text at a place of the message has no fault: it is decoded into the
 // buffer, and how long it is.
-pub fn header(message: &[u8], place: Place, buffer: &mut [u8]) -> Stage
+pub fn header(message: &[u8], place: Place, buffer: &mut [u8]) -> Result<usize, Refusal>
     requires place_value { misspelled message.now (place_of place) ≡ false }
     requires buffer_len { length buffer.old ≡ header_room }
-    ensures value { result ≡ stage_of (first (text_order (header_text message.now (place_of place)))) (length (header_text message.now (place_of place))) }
+    ensures value { as_stage result ≡ stage_of (first (text_order (header_text message.now (place_of place)))) (length (header_text message.now (place_of place))) }
     ensures buffer_after { buffer.new ≡ header_buffer (header_text message.now (place_of place)) buffer.old }
 {
     let decoded = base64url::decode(parts::part(message, place.start, place.len), buffer);
     let Decoded::Octets(n) = decoded else {
-        return Stage::Refused(6);
+        return Err(Refusal::LongHeader);
     };
     let judged = json_read::judge(&buffer[..n], LEVELS);
     let Found::Value(_, _) = judged else {
-        return Stage::Refused(7);
+        return Err(Refusal::Unread);
     };
-    Stage::Passed(n)
+    Ok(n)
 }

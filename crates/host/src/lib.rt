@@ -13,7 +13,7 @@ ghost use Rattle.json_message.specs.JsonWrite.{raw_json, written_text, json_writ
 
 use aad::Joined;
 use base64url::Decoded;
-use prelude::Stage;
+use prelude::refusal::Refusal;
 
 pub mod component;
 pub mod differing;
@@ -84,11 +84,11 @@ pub fn jwe_write_compact(
 {
     let answer = gateway::write(header, key, iv, ciphertext, tag, known, out);
     match answer {
-        Stage::Passed(written) => {
+        Ok(written) => {
             *octets = written;
             0
         }
-        Stage::Refused(n) => {
+        Err(n) => {
             *octets = 0;
             n
         }
@@ -122,11 +122,11 @@ pub fn jwe_write_flattened(
         false, protected, shared, aad, iv, ciphertext, tag, known, recipients, out,
     );
     match answer {
-        Stage::Passed(count) => {
+        Ok(count) => {
             *octets = count;
             0
         }
-        Stage::Refused(n) => {
+        Err(n) => {
             *octets = 0;
             n
         }
@@ -160,11 +160,11 @@ pub fn jwe_write_general(
         true, protected, shared, aad, iv, ciphertext, tag, known, recipients, out,
     );
     match answer {
-        Stage::Passed(size) => {
+        Ok(size) => {
             *octets = size;
             0
         }
-        Stage::Refused(n) => {
+        Err(n) => {
             *octets = 0;
             n
         }

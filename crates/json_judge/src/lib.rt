@@ -5,7 +5,7 @@
 ghost use Rattle.std.specs.Prelude.{◌≡◌, true, cond, ◌+◌, ◌*◌, ◌≤◌, length, eqb};
 ghost use Rattle.prelude.specs.Any.{any};
 ghost use Rattle.prelude.specs.Limits.{levels, longest};
-ghost use Rattle.prelude.specs.Refusals.{first, stage_of};
+ghost use Rattle.prelude.specs.Refusals.{first, stage_of, as_stage};
 ghost use Rattle.names.specs.Names.{names, filled};
 ghost use Rattle.rows.specs.Tables.{header_table, width};
 ghost use Rattle.rows.specs.Inner.Prints.{collected_table};
@@ -26,7 +26,7 @@ use jose::Sizes;
 use jose::content::Named;
 use jose::lists::ENC;
 use json_read::{Found, Position};
-use prelude::Stage;
+use prelude::refusal::Refusal;
 use prelude::limits::{HEADER_ROOM, LEVELS};
 
 // 7 on a text within so many levels; an absent one is not judged.
@@ -101,16 +101,16 @@ fn own_hollow(recipients: &[u8], n: usize) -> bool
 }
 
 // 8 and 9 on a text that reads: its parameters as entries of the table from the entry `from` on, and how many they are.
-fn text_entries(text: &[u8], origin: u32, table: &mut [u32], from: usize) -> Stage
+fn text_entries(text: &[u8], origin: u32, table: &mut [u32], from: usize) -> Result<usize, Refusal>
     requires readable { Readable text.now }
     requires header_table_in_bounds { from * width + header_table ≤ length table.old }
-    ensures value { result ≡ stage_of (first (object_order text.now (text_entries origin text.now)))
+    ensures value { as_stage result ≡ stage_of (first (object_order text.now (text_entries origin text.now)))
         (length (text_entries origin text.now)) }
     ensures table_after { table.new ≡ collected_table from text.now (text_entries origin text.now)
         table.old }
 {
     if text.len() == 0 {
-        return Stage::Passed(0);
+        return Ok(0);
     }
     let list = jose::lists::REGISTERED;
     let at = Position { at: 0 }.skip_space(text).at;
@@ -121,7 +121,7 @@ fn text_entries(text: &[u8], origin: u32, table: &mut [u32], from: usize) -> Sta
 fn number(stage: Stage) -> u32
     ensures { result ≡ refused_by stage }
 {
-    let Stage::Refused(n) = stage else {
+    let Err(n) = stage else {
         return 0;
     };
     n
@@ -159,7 +159,7 @@ fn judge_recipient(
         × Front header.now shared.now front table.new }
 {
     let collected = text_entries(own, 2, table, front);
-    let Stage::Passed(count) = collected else {
+    let Ok(count) = collected else {
         return Faults {
             object: number(collected),
             rules: 0,
@@ -221,14 +221,14 @@ fn judge_recipients(
     sizes: Sizes,
     table: &mut [u32],
     front: usize,
-) -> Stage
+) -> Result<usize, Refusal>
     requires known_value { filled known.now ≡ true }
     requires recipients_value { sound_table recipients.now ≡ true }
     requires n_value { n ≡ said_count recipients.now }
     requires own_readable { OwnReadable (recipients_in recipients.now) }
     requires header_table_in_bounds { front * width + header_table ≤ length table.old }
     requires front { Front header.now shared.now front table.old }
-    ensures value { result ≡ stage_of (first (recipients_tests (names known.now) header.now shared.now
+    ensures value { as_stage result ≡ stage_of (first (recipients_tests (names known.now) header.now shared.now
         sizes (recipients_in recipients.now))) n }
     ensures table_len_unchanged { length table.new ≡ length table.old }
 {
@@ -251,7 +251,7 @@ fn judge_recipients(
         };
         let faults = judge_recipient(header, shared, own, known, its, table, front);
         if faults.object != 0 {
-            return Stage::Refused(faults.object);
+            return Err(faults.object);
         }
         broken = earlier(broken, faults.rules);
         let at = faults.content;
@@ -262,9 +262,9 @@ fn judge_recipients(
     }
     let refusal = fault_of_all(broken, has_enc, content);
     if refusal != 0 {
-        return Stage::Refused(refusal);
+        return Err(refusal);
     }
-    Stage::Passed(n)
+    Ok(n)
 }
 
 // 8 and 9 on all texts, 12 to 18 on each recipient, and 21 on all.
@@ -275,23 +275,23 @@ fn judge_parameters(
     recipients: &[u8],
     n: usize,
     sizes: Sizes,
-) -> Stage
+) -> Result<usize, Refusal>
     requires known_value { filled known.now ≡ true }
     requires recipients_value { sound_table recipients.now ≡ true }
     requires n_value { n ≡ said_count recipients.now }
     requires header_len_bound { length header.now ≤ longest }
     requires readable { Readable shared.now }
     requires own_readable { OwnReadable (recipients_in recipients.now) }
-    ensures { result ≡ stage_of (first (parameters_tests (names known.now) header.now shared.now
+    ensures { as_stage result ≡ stage_of (first (parameters_tests (names known.now) header.now shared.now
         sizes (recipients_in recipients.now))) n }
 {
     let mut table = [0u32; rows::layout::RECIPIENT_TABLE];
     let protected = headers::protected_entries(header, &mut table);
-    let Stage::Passed(p) = protected else {
+    let Ok(p) = protected else {
         return protected;
     };
     let common = text_entries(shared, 1, &mut table, p);
-    let Stage::Passed(s) = common else {
+    let Ok(s) = common else {
         return common;
     };
     judge_recipients(
@@ -355,19 +355,19 @@ fn own_levels(general: bool) -> u32
 }
 
 // The pieces of a message that would be too long.
-pub fn judge_over(header: &[u8], shared: &[u8], recipients: &[u8], n: usize) -> Stage
+pub fn judge_over(header: &[u8], shared: &[u8], recipients: &[u8], n: usize) -> Result<usize, Refusal>
     requires recipients_value { sound_table recipients.now ≡ true }
     requires n_value { n ≡ said_count recipients.now }
-    ensures { result ≡ stage_of (first (over_tests header.now shared.now
+    ensures { as_stage result ≡ stage_of (first (over_tests header.now shared.now
         (recipients_in recipients.now))) n }
 {
     if HEADER_ROOM < header.len() {
-        return Stage::Refused(6);
+        return Err(Refusal::LongHeader);
     }
     if unread_texts(LEVELS, LEVELS, header, shared, recipients, n) {
-        return Stage::Refused(7);
+        return Err(Refusal::Unread);
     }
-    Stage::Refused(2)
+    Err(Refusal::LongMessage)
 }
 
 // The pieces of one that would not.
@@ -379,17 +379,17 @@ pub fn judge_within(
     recipients: &[u8],
     n: usize,
     sizes: Sizes,
-) -> Stage
+) -> Result<usize, Refusal>
     requires known_value { filled known.now ≡ true }
     requires recipients_value { sound_table recipients.now ≡ true }
     requires n_value { n ≡ said_count recipients.now }
     requires shared_len_bound { length shared.now ≤ longest }
     requires own_short { OwnShort (recipients_in recipients.now) }
-    ensures { result ≡ stage_of (first (within_tests general (names known.now) header.now shared.now
+    ensures { as_stage result ≡ stage_of (first (within_tests general (names known.now) header.now shared.now
         sizes (recipients_in recipients.now))) n }
 {
     if HEADER_ROOM < header.len() {
-        return Stage::Refused(6);
+        return Err(Refusal::LongHeader);
     }
     if unread_texts(
         LEVELS - 1,
@@ -399,10 +399,10 @@ pub fn judge_within(
         recipients,
         n,
     ) {
-        return Stage::Refused(7);
+        return Err(Refusal::Unread);
     }
     if hollow_texts(header, shared, recipients, n) {
-        return Stage::Refused(10);
+        return Err(Refusal::Shape);
     }
     judge_parameters(header, shared, known, recipients, n, sizes)
 }

@@ -8,7 +8,7 @@ ghost use Rattle.json_message.specs.WriteOrder.{most_for};
 ghost use Rattle.json_write.specs.Answers.{WritesJson};
 
 use jose::Sizes;
-use prelude::Stage;
+use prelude::refusal::Refusal;
 use prelude::limits::{LONGEST, MOST_RECIPIENTS};
 use recipients::Counted;
 
@@ -33,21 +33,21 @@ pub fn write(
     known: &[u8],
     recipients: &[u8],
     out: &mut [u8],
-) -> Stage
+) -> Result<usize, Refusal>
     ensures { WritesJson general
         (raw_json protected.now shared.now aad.now iv.now ciphertext.now
         tag.now recipients.now)
         known.now out.old result out.new }
 {
     if !names::sound(known) {
-        return Stage::Refused(3);
+        return Err(Refusal::KnownNames);
     }
     let counted = recipients::count(recipients);
     let Counted::Recipients(n) = counted else {
-        return Stage::Refused(20);
+        return Err(Refusal::RecipientTable);
     };
     if most_for(general) < n {
-        return Stage::Refused(20);
+        return Err(Refusal::RecipientTable);
     }
     let size = json_put::text_length(
         general, protected, shared, aad, iv, ciphertext, tag, recipients,
@@ -62,13 +62,13 @@ pub fn write(
         tag: tag.len(),
     };
     let judged = json_judge::judge_within(general, protected, shared, known, recipients, n, sizes);
-    let Stage::Passed(_) = judged else {
+    let Ok(_) = judged else {
         return judged;
     };
     if out.len() < size {
-        return Stage::Refused(1);
+        return Err(Refusal::ShortOutput);
     }
-    Stage::Passed(json_put::put_text(
+    Ok(json_put::put_text(
         general, protected, shared, aad, iv, ciphertext, tag, recipients, out,
     ))
 }

@@ -10,8 +10,8 @@ use lib.Seq.{length-take-le, get_or-set_same, get_or-set_other}
 use Rattle.prelude.specs.Buffer.{written}
 use Rattle.prelude.specs.Limits.{header_room}
 use Rattle.prelude.specs.Refusals.{Test, first}
-use Rattle.prelude.specs.declared.Stage.{Stage}
-use Rattle.prelude.specs.declared.Stage.TheVariants.{Refused}
+use Rattle.prelude.specs.Refusals.{Stage}
+use Rattle.prelude.specs.Refusals.{Refused}
 use Rattle.grammar.specs.Reader.{opens_object}
 use Rattle.grammar.specs.Places.{Place}
 use Rattle.rows.specs.Rows.{Entry, read_texts}

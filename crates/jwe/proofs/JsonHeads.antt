@@ -12,8 +12,8 @@ use Rattle.prelude.proofs.Refusals.{nonzero, nonzero_append}
 use Rattle.jose.specs.HeaderRules.{mode_in}
 use Rattle.headers.specs.Components as headers
 use Rattle.headers.specs.Answers.{components_of}
-use Rattle.prelude.specs.declared.Stage.{Stage}
-use Rattle.prelude.specs.declared.Stage.TheVariants.{Refused}
+use Rattle.prelude.specs.Refusals.{Stage}
+use Rattle.prelude.specs.Refusals.{Refused}
 use Rattle.shape.specs.Shape.{Recipient}
 use Rattle.jwe.specs.Judge.{Outcome, place, accepted, refused}
 use Rattle.jwe.specs.Answers.{numbers, refused_by}

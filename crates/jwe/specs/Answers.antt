@@ -2,8 +2,8 @@
 use Rattle.std.specs.Prelude.{◌≡◌, cond, List, [], ◌∷◌, ℕ, ◌*◌, ◌≤◌, length}
 use Rattle.prelude.specs.declared.Place.{Place}
 use Rattle.headers.specs.Answers.{code_components}
-use Rattle.prelude.specs.declared.Stage.{Stage}
-use Rattle.prelude.specs.declared.Stage.TheVariants.{Passed, Refused}
+use Rattle.prelude.specs.Refusals.{Stage}
+use Rattle.prelude.specs.Refusals.{Passed, Refused}
 use Rattle.rows.specs.Rows.{Entry}
 use Rattle.rows.specs.Tables.{entries_of, width}
 use Rattle.jwe.specs.Compact.{four_stops, compact_components}

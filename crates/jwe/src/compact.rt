@@ -16,7 +16,8 @@ ghost use Rattle.jwe.specs.Answers.{split_of};
 
 use crate::{Holding, Result, handed, held, refused};
 use headers::Components;
-use prelude::{Place, Stage};
+use prelude::Place;
+use prelude::refusal::Refusal;
 
 // The components between full stops, or that there are not exactly four full stops.
 #[derive(Clone, Copy)]
@@ -106,11 +107,11 @@ fn judge_header(
     ensures { Judges message.now (compact_order message.now (names known.now) recipient) (compact_outcome message.now) result text.old text.new table.old table.new }
 {
     let decoded = headers::header(message, q.protected, text);
-    let Stage::Passed(n) = decoded else {
+    let Ok(n) = decoded else {
         return handed(decoded);
     };
     let collected = headers::protected_entries(&text[..n], table);
-    let Stage::Passed(count) = collected else {
+    let Ok(count) = collected else {
         return handed(collected);
     };
     let judged = jose::judge::judge(
@@ -122,7 +123,7 @@ fn judge_header(
         count,
         headers::sizes(q),
     );
-    let Stage::Passed(mode) = judged else {
+    let Ok(mode) = judged else {
         return handed(judged);
     };
     if 1 <= recipient {

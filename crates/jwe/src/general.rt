@@ -8,7 +8,7 @@ ghost use Rattle.prelude.specs.Any.{any};
 ghost use Rattle.rows.specs.Rows.{read_texts};
 ghost use Rattle.rows.specs.Tables.{entries_of, header_table, recipient_table, width};
 ghost use Rattle.rows.specs.Inner.Prints.{collected_table, Printed};
-ghost use Rattle.prelude.specs.Refusals.{first, stage_of};
+ghost use Rattle.prelude.specs.Refusals.{first, stage_of, as_stage};
 ghost use Rattle.headers.specs.Components.{absent, misspelled};
 ghost use Rattle.headers.specs.Headers.{header_text, protected_entries, header_entries, object_order};
 ghost use Rattle.headers.specs.Answers.{place_of, components_of, header_buffer};
@@ -30,7 +30,8 @@ use jose::content::Named;
 use jose::lists::ENC;
 use json_read::Position;
 use prelude::limits::{MOST_MEMBERS, MOST_RECIPIENTS};
-use prelude::{Place, Stage};
+use prelude::Place;
+use prelude::refusal::Refusal;
 use rows::layout;
 use shape::held::Top;
 
@@ -73,52 +74,52 @@ fn misspelled(message: &[u8], q: Components, of: &[usize], number: usize) -> boo
 }
 
 // 6 and 7 on the protected header, if it is there: it is decoded into the buffer, and how long it is, 0 where there is none.
-fn decoded(message: &[u8], there: bool, place: Place, text: &mut [u8]) -> Stage
+fn decoded(message: &[u8], there: bool, place: Place, text: &mut [u8]) -> Result<usize, Refusal>
     requires place_value { misspelled message.now (place_of place) ≡ false }
     requires place_value_2 { there ≡ false → place_of place ≡ absent }
     requires text_len { length text.old ≡ header_room }
-    ensures value { result ≡ stage_of (first (text_tests there (header_text message.now (place_of place)))) (length (header_text message.now (place_of place))) }
+    ensures value { as_stage result ≡ stage_of (first (text_tests there (header_text message.now (place_of place)))) (length (header_text message.now (place_of place))) }
     ensures text_after { text.new ≡ header_buffer (header_text message.now (place_of place)) text.old }
 {
     if !there {
-        return Stage::Passed(0);
+        return Ok(0);
     }
     headers::header(message, place, text)
 }
 
 // 10 where the protected header is there and has no member; 8 and 9 on it: its parameters as entries of
 // the table. Where it has none, 8 and 9 pass, so that 10 is asked after them.
-fn protected(header: &[u8], there: bool, table: &mut [u32]) -> Stage
+fn protected(header: &[u8], there: bool, table: &mut [u32]) -> Result<usize, Refusal>
     requires header_len_bound { length header.now ≤ longest }
     requires header_table_in_bounds { header_table ≤ length table.old }
-    ensures value { result ≡ stage_of (first (protected_tests there header.now)) (length (protected_entries header.now)) }
+    ensures value { as_stage result ≡ stage_of (first (protected_tests there header.now)) (length (protected_entries header.now)) }
     ensures table_after { table.new ≡ collected_table 0 header.now (protected_entries header.now) table.old }
 {
     let list = jose::lists::REGISTERED;
     let at = Position { at: 0 }.skip_space(header).at;
     let object = headers::object(header, at, 0, &list, table, 0, false);
-    let Stage::Passed(count) = object else {
+    let Ok(count) = object else {
         return object;
     };
     if there {
         if count == 0 {
-            return Stage::Refused(10);
+            return Err(Refusal::Shape);
         }
     }
-    Stage::Passed(count)
+    Ok(count)
 }
 
 // 8 and 9 on a header that stands in the message, if its start is not 0: its parameters as entries of the
 // table from the entry `from` on.
-fn unprotected(message: &[u8], start: usize, origin: u32, table: &mut [u32], from: usize) -> Stage
+fn unprotected(message: &[u8], start: usize, origin: u32, table: &mut [u32], from: usize) -> Result<usize, Refusal>
     requires message_len_bound { length message.now ≤ longest }
     requires header_table_in_bounds { from * width + header_table ≤ length table.old }
     requires header_known { HeaderKnown message.now start }
-    ensures value { result ≡ stage_of (first (object_order message.now (header_entries message.now origin start))) (length (header_entries message.now origin start)) }
+    ensures value { as_stage result ≡ stage_of (first (object_order message.now (header_entries message.now origin start))) (length (header_entries message.now origin start)) }
     ensures table_after { table.new ≡ collected_table from message.now (header_entries message.now origin start) table.old }
 {
     if start == 0 {
-        return Stage::Passed(0);
+        return Ok(0);
     }
     let list = jose::lists::REGISTERED;
     headers::object(message, start, origin, &list, table, from, true)
@@ -132,14 +133,14 @@ fn own_headers(
     number: usize,
     own: &mut [u32],
     counts: &mut [usize],
-) -> Stage
+) -> Result<usize, Refusal>
     requires message_len_bound { length message.now ≤ longest }
     requires number_le_most_recipients { number ≤ most_recipients }
     requires recipient_width_in_bounds { number * recipient_width ≤ length of.now }
     requires own_len { length own.old ≡ own_table }
     requires counts_len { length counts.old ≡ most_recipients }
     requires headers_known { HeadersKnown message.now (recipients_of number of.now) }
-    ensures value { result ≡ stage_of (first (own_tests message.now (recipients_of number of.now))) number }
+    ensures value { as_stage result ≡ stage_of (first (own_tests message.now (recipients_of number of.now))) number }
     ensures leaves_own { LeavesOwn number message.now of.now own.new counts.new result }
 {
     let mut i: usize = 0;
@@ -151,13 +152,13 @@ fn own_headers(
             own,
             i * MOST_MEMBERS,
         );
-        let Stage::Passed(count) = object else {
+        let Ok(count) = object else {
             return object;
         };
         counts[i] = count;
         i += 1;
     }
-    Stage::Passed(number)
+    Ok(number)
 }
 
 // 12 to 18 on each recipient in turn. The first entries of the table, which are all recipients', stay as they are.
@@ -172,7 +173,7 @@ fn rules(
     counts: &[usize],
     table: &mut [u32],
     front: usize,
-) -> Stage
+) -> Result<usize, Refusal>
     requires known_value { filled known.now ≡ true }
     requires number_le_most_recipients { number ≤ most_recipients }
     requires recipient_width_in_bounds { number * recipient_width ≤ length of.now }
@@ -181,7 +182,7 @@ fn rules(
     requires owned { Owned number message.now of.now own.now counts.now }
     requires header_table_in_bounds { front * width + header_table ≤ length table.old }
     requires printed { Printed (read_texts header.now message.now) front table.old }
-    ensures value { result ≡ stage_of (first (rule_tests (names known.now) header.now message.now (entries_of front table.old) (components_of q) (recipients_of number of.now))) number }
+    ensures value { as_stage result ≡ stage_of (first (rule_tests (names known.now) header.now message.now (entries_of front table.old) (components_of q) (recipients_of number of.now))) number }
     ensures keeps_front { KeepsFront (read_texts header.now message.now) front table.old table.new }
 {
     let mut i: usize = 0;
@@ -189,12 +190,12 @@ fn rules(
         let count = held::gather(own, counts, i, table, front);
         let sizes = headers::sizes(headers::with_key(q, held::key(of, i)));
         let judged = jose::judge::judge(header, message, message, known, table, count, sizes);
-        let Stage::Passed(_) = judged else {
+        let Ok(_) = judged else {
             return judged;
         };
         i += 1;
     }
-    Stage::Passed(number)
+    Ok(number)
 }
 
 // Where the content algorithm of a recipient's own header stands.
@@ -251,7 +252,7 @@ fn ruled(
     counts: &[usize],
     table: &mut [u32],
     front: usize,
-) -> Stage
+) -> Result<usize, Refusal>
     requires known_value { filled known.now ≡ true }
     requires number_le_most_recipients { number ≤ most_recipients }
     requires recipient_width_in_bounds { number * recipient_width ≤ length of.now }
@@ -260,22 +261,22 @@ fn ruled(
     requires owned { Owned number message.now of.now own.now counts.now }
     requires header_table_in_bounds { front * width + header_table ≤ length table.old }
     requires printed { Printed (read_texts header.now message.now) front table.old }
-    ensures value { result ≡ stage_of (first (ruled_tests (names known.now) header.now message.now (entries_of front table.old) (components_of q) (recipients_of number of.now))) number }
+    ensures value { as_stage result ≡ stage_of (first (ruled_tests (names known.now) header.now message.now (entries_of front table.old) (components_of q) (recipients_of number of.now))) number }
     ensures keeps_front { KeepsFront (read_texts header.now message.now) front table.old table.new }
 {
     let each = rules(
         header, message, known, q, of, number, own, counts, table, front,
     );
-    let Stage::Passed(_) = each else {
+    let Ok(_) = each else {
         return each;
     };
     if rows::ask::present(table, front, ENC) {
-        return Stage::Passed(number);
+        return Ok(number);
     }
     if contents_differ(message, own, counts, number, 0) {
-        return Stage::Refused(21);
+        return Err(Refusal::ContentAlgorithms);
     }
-    Stage::Passed(number)
+    Ok(number)
 }
 
 // All recipients judged: 8 and 9 on their own headers, whose parameters are left in a table, 12 to 18 on each, and 21. The first
@@ -291,7 +292,7 @@ fn judged(
     counts: &mut [usize],
     table: &mut [u32],
     front: usize,
-) -> Stage
+) -> Result<usize, Refusal>
     requires message_len_bound { length message.now ≤ longest }
     requires known_value { filled known.now ≡ true }
     requires number_le_most_recipients { number ≤ most_recipients }
@@ -301,12 +302,12 @@ fn judged(
     requires header_table_in_bounds { front * width + header_table ≤ length table.old }
     requires printed { Printed (read_texts header.now message.now) front table.old }
     requires headers_known { HeadersKnown message.now (recipients_of number of.now) }
-    ensures value { result ≡ stage_of (first (all_tests (names known.now) header.now message.now (entries_of front table.old) (components_of q) (recipients_of number of.now))) number }
+    ensures value { as_stage result ≡ stage_of (first (all_tests (names known.now) header.now message.now (entries_of front table.old) (components_of q) (recipients_of number of.now))) number }
     ensures leaves_own { LeavesOwn number message.now of.now own.new counts.new result }
     ensures keeps_front { KeepsFront (read_texts header.now message.now) front table.old table.new }
 {
     let collected = own_headers(message, of, number, own, counts);
-    let Stage::Passed(_) = collected else {
+    let Ok(_) = collected else {
         return collected;
     };
     ruled(
@@ -346,15 +347,15 @@ fn shaped(
         result text.new table.new of.now own.new counts.new }
 {
     let header = decoded(message, top.protected, top.components.protected, text);
-    let Stage::Passed(h) = header else {
+    let Ok(h) = header else {
         return held::handed(header);
     };
     let protected_ones = protected(&text[..h], top.protected, table);
-    let Stage::Passed(p) = protected_ones else {
+    let Ok(p) = protected_ones else {
         return held::handed(protected_ones);
     };
     let shared = unprotected(message, top.shared, 1, table, p);
-    let Stage::Passed(s) = shared else {
+    let Ok(s) = shared else {
         return held::handed(shared);
     };
     let q = top.components;
@@ -370,7 +371,7 @@ fn shaped(
         table,
         p + s,
     );
-    let Stage::Passed(_) = all else {
+    let Ok(_) = all else {
         return held::handed(all);
     };
     Holding {
@@ -406,11 +407,11 @@ pub(crate) fn hold(
 {
     let mut members = [0u32; layout::HEADER_TABLE];
     let outermost = shape::top(message, &mut members);
-    let Stage::Passed(count) = outermost else {
+    let Ok(count) = outermost else {
         return held::handed(outermost);
     };
     let elements = shape::recipients(message, &members, count, of);
-    let Stage::Passed(number) = elements else {
+    let Ok(number) = elements else {
         return held::handed(elements);
     };
     let top = shape::held::held(&members, count);

@@ -11,7 +11,8 @@ ghost use Rattle.jwe.specs.Inner.Stages.{recipient_at, own_table};
 
 use crate::Holding;
 use headers::Components;
-use prelude::{Place, Stage};
+use prelude::Place;
+use prelude::refusal::Refusal;
 use rows::layout;
 
 // The room of a table for the own headers of all recipients.
@@ -43,7 +44,7 @@ pub(crate) fn refused(n: u32) -> Holding
 pub(crate) fn handed(stage: Stage) -> Holding
     ensures { result.number ≡ refused_by stage }
 {
-    let Stage::Refused(n) = stage else {
+    let Err(n) = stage else {
         return refused(0);
     };
     refused(n)

@@ -16,7 +16,8 @@ ghost use Rattle.jwe.specs.Inner.Holding.{Holds};
 
 use headers::Components;
 use prelude::limits::{HEADER_ROOM, LIST_ROOM, LONGEST};
-use prelude::{Place, Stage};
+use prelude::Place;
+use prelude::refusal::Refusal;
 
 mod compact;
 mod general;
@@ -74,7 +75,7 @@ pub(crate) fn refused(n: u32) -> Result
 pub(crate) fn handed(stage: Stage) -> Result
     ensures { numbers result ≡ refused (refused_by stage) }
 {
-    let Stage::Refused(n) = stage else {
+    let Err(n) = stage else {
         return refused(0);
     };
     refused(n)

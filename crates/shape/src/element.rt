@@ -8,7 +8,7 @@ ghost use Rattle.grammar.specs.Reader.{elements_at};
 ghost use Rattle.json_read.specs.Inner.Known.{KnownFrom, KnownIn};
 ghost use Rattle.prelude.specs.Any.{any};
 ghost use Rattle.rows.specs.Inner.Views.{the_entries};
-ghost use Rattle.prelude.specs.Refusals.{first, stage_of};
+ghost use Rattle.prelude.specs.Refusals.{first, stage_of, as_stage};
 ghost use Rattle.jose.specs.Inner.Elements.{elements_from};
 ghost use Rattle.shape.specs.Shape.{no_object, recipient_of};
 ghost use Rattle.shape.specs.Recipients.{element_entries, element_order};
@@ -19,7 +19,7 @@ use crate::held::component;
 use crate::{member, number};
 use json_read::Position;
 use json_read::member::Member;
-use prelude::Stage;
+use prelude::refusal::Refusal;
 use prelude::limits::{LEVELS, MOST_RECIPIENTS};
 use rows::table::Entries;
 
@@ -57,21 +57,21 @@ fn some_no_object(message: &[u8], from: Position, turns: usize) -> bool
 }
 
 // What is answered where all elements are objects, and no more than 8.
-fn counted(count: usize) -> Stage
-    ensures { result ≡ counted count }
+fn counted(count: usize) -> Result<usize, Refusal>
+    ensures { as_stage result ≡ counted count }
 {
     if count == 0 {
-        return Stage::Refused(10);
+        return Err(Refusal::Shape);
     }
-    Stage::Passed(count)
+    Ok(count)
 }
 
 // 10 on `recipients` itself, and 11: where its elements start, and how many they are. They are read once.
-pub(crate) fn walk(message: &[u8], at: usize, starts: &mut [usize]) -> Stage
+pub(crate) fn walk(message: &[u8], at: usize, starts: &mut [usize]) -> Result<usize, Refusal>
     requires most_recipients_in_bounds { most_recipients ≤ length starts.old }
     requires known_in { KnownIn square levels message.now at }
-    ensures value { result ≡ stage_of (first (array_order (elements_at levels message.now at))) (length (elements_at levels message.now at)) }
-    ensures leaves { Leaves (starts_of (elements_at levels message.now at)) starts.old starts.new result }
+    ensures value { as_stage result ≡ stage_of (first (array_order (elements_at levels message.now at))) (length (elements_at levels message.now at)) }
+    ensures leaves { Leaves (starts_of (elements_at levels message.now at)) starts.old starts.new (as_stage result) }
 {
     let mut p = Position { at }.inside(message);
     let mut count: usize = 0;
@@ -82,13 +82,13 @@ pub(crate) fn walk(message: &[u8], at: usize, starts: &mut [usize]) -> Stage
             return counted(count);
         };
         if row.kind != 0 {
-            return Stage::Refused(10);
+            return Err(Refusal::Shape);
         }
         if count == MOST_RECIPIENTS {
             if some_no_object(message, next, left - 1) {
-                return Stage::Refused(10);
+                return Err(Refusal::Shape);
             }
-            return Stage::Refused(11);
+            return Err(Refusal::ManyRecipients);
         }
         starts[count] = row.value.start;
         count += 1;
@@ -99,46 +99,40 @@ pub(crate) fn walk(message: &[u8], at: usize, starts: &mut [usize]) -> Stage
 }
 
 // 8 to 10 on the element at a position: where it passes, its recipient is written from a position of the table on.
-fn element(message: &[u8], at: usize, into: &mut [usize], to: usize) -> Stage
+fn element(message: &[u8], at: usize, into: &mut [usize], to: usize) -> Result<usize, Refusal>
     requires message_len_bound { length message.now ≤ longest }
     requires recipient_width_in_bounds { to + recipient_width ≤ length into.old }
     requires known_in { KnownIn curly levels message.now at }
-    ensures value { result ≡ stage_of (first (element_order message.now at)) (length (element_entries message.now at)) }
-    ensures leaves_at { LeavesAt to (three (recipient_of (element_entries message.now at))) into.old into.new result }
+    ensures value { as_stage result ≡ stage_of (first (element_order message.now at)) (length (element_entries message.now at)) }
+    ensures leaves_at { LeavesAt to (three (recipient_of (element_entries message.now at))) into.old into.new (as_stage result) }
 {
     let list = crate::MEMBERS;
     let mut table = [0u32; rows::layout::HEADER_TABLE];
-    let object = headers::object(message, at, 1, &list, &mut table, 0, true);
-    let Stage::Passed(count) = object else {
-        return object;
-    };
+    let count = headers::object(message, at, 1, &list, &mut table, 0, true)?;
     let members = Entries {
         table: &table,
         count,
     };
     if member::wrong_element(message, members) {
-        return Stage::Refused(10);
+        return Err(Refusal::Shape);
     }
     put(members, into, to);
-    object
+    Ok(count)
 }
 
 // 8 to 10 on the elements at some starts, in turn: their recipients as numbers of the table, those before one that is
 // refused, and how many they are.
-pub(crate) fn elements(message: &[u8], starts: &[usize], into: &mut [usize]) -> Stage
+pub(crate) fn elements(message: &[u8], starts: &[usize], into: &mut [usize]) -> Result<usize, Refusal>
     requires message_len_bound { length message.now ≤ longest }
     requires recipient_width_in_bounds { length starts.now * recipient_width ≤ length into.old }
     requires every { Every (KnownIn curly levels message.now) starts.now }
-    ensures value { result ≡ stage_of (first (starts_order message.now starts.now)) (length starts.now) }
+    ensures value { as_stage result ≡ stage_of (first (starts_order message.now starts.now)) (length starts.now) }
     ensures into_after { into.new ≡ written 0 (flat_recipients (passed_at message.now starts.now)) into.old }
 {
     let mut i: usize = 0;
     while i < starts.len() {
-        let answer = element(message, starts[i], into, i * crate::RECIPIENT_WIDTH);
-        let Stage::Passed(_) = answer else {
-            return answer;
-        };
+        element(message, starts[i], into, i * crate::RECIPIENT_WIDTH)?;
         i += 1;
     }
-    Stage::Passed(starts.len())
+    Ok(starts.len())
 }

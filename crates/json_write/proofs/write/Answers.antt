@@ -5,7 +5,7 @@ use Prim.Native.Nat.{◌≤◌, ◌<◌}
 use native.Mathlib.Omega.{arith}
 use lib.ListN.{length}
 use Rattle.prelude.specs.Refusals.{first}
-use Rattle.prelude.specs.declared.Stage.{Stage}
+use Rattle.prelude.specs.Refusals.{Stage}
 use Rattle.prelude.proofs.Lists.{all_below}
 use Rattle.names.specs.Names.{names, sound}
 use Rattle.names.proofs.Laws.{sound_filled}

@@ -4,7 +4,7 @@ use Prim.Native.Nat.{ℕ}
 use mathlib.Core.List.{List}
 use Rattle.jwe.specs.Judge.{refused}
 use Rattle.jwe.specs.Answers.{refused_by}
-use Rattle.prelude.specs.declared.Stage.{Stage}
+use Rattle.prelude.specs.Refusals.{Stage}
 use Rattle.jwe.proofs.handed.Goals as goal
 
 abbrev answer : Stage → List ℕ

@@ -14,8 +14,8 @@ use Rattle.jose.specs.HeaderRules.{recipient_order}
 use Rattle.jose.specs.ContentAlgorithm.{content_algorithm, differing}
 use Rattle.jose.specs.Inner.Content.{named_in, shown_in}
 use Rattle.headers.specs.Headers.{text_order, outermost, protected_entries, object_order}
-use Rattle.prelude.specs.declared.Stage.{Stage}
-use Rattle.prelude.specs.declared.Stage.TheVariants.{Passed, Refused}
+use Rattle.prelude.specs.Refusals.{Stage}
+use Rattle.prelude.specs.Refusals.{Passed, Refused}
 use Rattle.headers.specs.Components.{Components, with_key, sizes_of}
 use Rattle.shape.specs.Shape.{Recipient}
 use Rattle.shape.specs.Inner.Answers.{recipient_width}

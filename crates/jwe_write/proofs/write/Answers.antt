@@ -8,7 +8,7 @@ use borrow.Author.Tests.{ltb-false}
 use Rattle.names.specs.Names.{names, sound}
 use Rattle.names.proofs.Laws.{sound_filled}
 use Rattle.prelude.specs.Refusals.{first}
-use Rattle.prelude.specs.declared.Stage.{Stage}
+use Rattle.prelude.specs.Refusals.{Stage}
 use Rattle.headers.specs.Headers.{text_order}
 use Rattle.headers.proofs.Stages.{not_long, passed_is, refused_is}
 use Rattle.jwe_write.specs.Write.{raw, raw_sizes, compact_text, parameters_order}

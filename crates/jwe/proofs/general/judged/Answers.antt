@@ -7,8 +7,8 @@ use Rattle.names.specs.Names.{names}
 use Rattle.rows.specs.Tables.{entries_of}
 use Rattle.prelude.specs.Limits.{most_recipients}
 use Rattle.prelude.specs.Refusals.{first, stage_of}
-use Rattle.prelude.specs.declared.Stage.{Stage}
-use Rattle.prelude.specs.declared.Stage.TheVariants.{Passed, Refused}
+use Rattle.prelude.specs.Refusals.{Stage}
+use Rattle.prelude.specs.Refusals.{Passed, Refused}
 use Rattle.headers.specs.Answers.{components_of}
 use Rattle.headers.proofs.Stages.{passed_is, refused_is, refuses}
 use Rattle.jwe.specs.Inner.Stages.{recipients_of, Owned, LeavesOwn, own_tests, own_table}

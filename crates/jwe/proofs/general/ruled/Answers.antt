@@ -8,7 +8,7 @@ use Rattle.names.specs.Names.{names}
 use Rattle.rows.specs.Rows.{present}
 use Rattle.rows.specs.Tables.{entries_of}
 use Rattle.prelude.specs.Refusals.{first, stage_of}
-use Rattle.prelude.specs.declared.Stage.TheVariants.{Passed}
+use Rattle.prelude.specs.Refusals.{Passed}
 use Rattle.jose.specs.Registered.{enc}
 use Rattle.headers.specs.Answers.{components_of}
 use Rattle.headers.proofs.Stages.{passed_is, refused_is, refuses, passes}
