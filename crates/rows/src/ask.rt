@@ -169,6 +169,7 @@ impl<'a> Entries<'a> {
     }
 
     // Whether one of them has the n-th of the names.
+    #[tactic(auto, unfolding(crate::specs::Rows::present))]
     pub fn present(self, n: u32) -> bool
         ensures { result ≡ present n (the_entries self.entry) }
     {

@@ -30,7 +30,8 @@ returns-then-kind-ne-STRING c =
     let below : c.next-at.result < es.count = omega (arith, c.if-entries-at.false) in
     let last : es.count ≤ c.next.result = omega (arith, c.if-next-entries.false) in
     other_named es.count es.table.now c.next-at.result first.table_value below (first.table_value_2 below)
-    c.next.result c.next.ensures.table_value last (λ e. c.if-kind-ne-STRING.true cc)
+    c.next.result c.next.ensures.table_value last
+    (λ e. c.if-kind-ne-STRING.true (c.kind.ensures ∙ ap (λ (t : List ℕ). (first_of t).member.kind) c.at-e.ensures ∙ e))
 
 pub returns : goal.returns
 returns c =
