@@ -20,6 +20,7 @@ use json_read::Position;
 use prelude::limits::LEVELS;
 use prelude::Place;
 use prelude::refusal::Refusal;
+use rows::table::{Entries, Headers, Texts};
 
 // The encoded components by their places in the message; 0, 0 where one is absent.
 #[derive(Clone, Copy)]
@@ -95,7 +96,17 @@ pub fn object(
         return Err(Refusal::ManyMembers);
     };
     let first = from * rows::layout::WIDTH;
-    if rows::repeat::clashes(s, s, s, &table[first..], count, false) {
+    let texts = Texts {
+        header: s,
+        shared: s,
+        own: s,
+    };
+    let entries = Entries {
+        table: &table[first..],
+        count,
+    };
+    let members = Headers { texts, entries };
+    if members.clashes(false) {
         return Err(Refusal::NameTwice);
     }
     Ok(count)

@@ -1,15 +1,14 @@
 // One recipient's parameters judged, in document 01's order.
-ghost use Rattle.std.specs.Prelude.{◌≡◌, true, ◌*◌, ◌≤◌, length, map};
+ghost use Rattle.std.specs.Prelude.{◌≡◌, true, map};
 ghost use Rattle.names.specs.Names.{names, filled};
-ghost use Rattle.rows.specs.Rows.{texts, one_text};
-ghost use Rattle.rows.specs.Tables.{entries_of, width};
-ghost use Rattle.rows.specs.Inner.Prints.{Printed};
+ghost use Rattle.rows.specs.Inner.Views.{the_entries, the_texts};
 ghost use Rattle.prelude.specs.Refusals.{first, stage_of, as_stage};
 ghost use Rattle.jose.specs.Inner.Rules.{refusal_of, rule_number};
 ghost use Rattle.jose.specs.HeaderRules.{wrong_key, mode_in, breaks, rules_order, protected_rules, recipient_order};
 
 use crate::Sizes;
 use prelude::refusal::Refusal;
+use rows::table::Headers;
 
 // What a recipient's parameters are asked for, in document 01's order.
 #[derive(Clone, Copy, Debug, PartialEq, Eq)]
@@ -72,58 +71,36 @@ fn wrong_key(mode: u32, sizes: Sizes) -> bool
 }
 
 // Whether one recipient, whose key is wrong or not, breaks a rule.
-fn breaks(
-    rule: Rule,
-    header: &[u8],
-    shared: &[u8],
-    own: &[u8],
-    known: &[u8],
-    table: &[u32],
-    count: usize,
-    bad_key: bool,
-) -> bool
-    requires known_value { filled known.now ≡ true }
-    requires width_in_bounds { count * width ≤ length table.now }
-    requires printed { Printed (texts header.now shared.now own.now) count table.now }
+fn breaks(rule: Rule, h: Headers, known: &[u8], bad_key: bool) -> bool
+    requires { filled known.now ≡ true }
     ensures { result
-        ≡ breaks (names known.now) (texts header.now shared.now own.now)
-        (entries_of count table.now) bad_key (rule_number rule) }
+        ≡ breaks (names known.now) (the_texts h.entry.texts)
+        (the_entries h.entry.entries) bad_key (rule_number rule) }
 {
     match rule {
-        Rule::NameInTwoHeaders => rows::repeat::clashes(header, shared, own, table, count, true),
-        Rule::Incomplete => crate::rules::incomplete(table, count),
-        Rule::WrongKind => crate::rules::wrong_kind(table, count),
-        Rule::Unlisted => crate::rules::unlisted(header, shared, own, table, count),
-        Rule::Unprotected => crate::rules::unprotected(table, count),
-        Rule::Critical => crate::crit::wrong_crit(header, shared, own, known, table, count),
+        Rule::NameInTwoHeaders => h.clashes(true),
+        Rule::Incomplete => crate::rules::incomplete(h.entries),
+        Rule::WrongKind => crate::rules::wrong_kind(h.entries),
+        Rule::Unlisted => crate::rules::unlisted(h.texts, h.entries),
+        Rule::Unprotected => crate::rules::unprotected(h.entries),
+        Rule::Critical => crate::crit::wrong_crit(h, known),
         Rule::WrongKey => bad_key,
     }
 }
 
 // One recipient judged by some rules in order: the mode of its algorithm, or the first that it breaks.
-fn judge_by(
-    rules: &[Rule],
-    header: &[u8],
-    shared: &[u8],
-    own: &[u8],
-    known: &[u8],
-    table: &[u32],
-    count: usize,
-    sizes: Sizes,
-) -> Result<usize, Refusal>
-    requires known_value { filled known.now ≡ true }
-    requires width_in_bounds { count * width ≤ length table.now }
-    requires printed { Printed (texts header.now shared.now own.now) count table.now }
+fn judge_by(rules: &[Rule], h: Headers, known: &[u8], sizes: Sizes) -> Result<usize, Refusal>
+    requires { filled known.now ≡ true }
     ensures { as_stage result
         ≡ stage_of
-        (first (rules_order (names known.now) (texts header.now shared.now own.now)
-        (entries_of count table.now) sizes (map rule_number rules.now)))
-        (mode_in (texts header.now shared.now own.now) (entries_of count table.now)) }
+        (first (rules_order (names known.now) (the_texts h.entry.texts)
+        (the_entries h.entry.entries) sizes (map rule_number rules.now)))
+        (mode_in (the_texts h.entry.texts) (the_entries h.entry.entries)) }
 {
-    let mode = crate::rules::mode(header, shared, own, table, count);
+    let mode = crate::rules::mode(h.texts, h.entries);
     let bad_key = wrong_key(mode, sizes);
     for &rule in rules {
-        if breaks(rule, header, shared, own, known, table, count, bad_key) {
+        if breaks(rule, h, known, bad_key) {
             return Err(Refusal::from(rule));
         }
     }
@@ -131,45 +108,26 @@ fn judge_by(
 }
 
 // 12 to 18 on one recipient.
-pub fn judge(
-    header: &[u8],
-    shared: &[u8],
-    own: &[u8],
-    known: &[u8],
-    table: &[u32],
-    count: usize,
-    sizes: Sizes,
-) -> Result<usize, Refusal>
-    requires known_value { filled known.now ≡ true }
-    requires width_in_bounds { count * width ≤ length table.now }
-    requires printed { Printed (texts header.now shared.now own.now) count table.now }
+#[tactic(auto, unfolding(crate::specs::HeaderRules::recipient_order))]
+pub fn judge(h: Headers, known: &[u8], sizes: Sizes) -> Result<usize, Refusal>
+    requires { filled known.now ≡ true }
     ensures { as_stage result
         ≡ stage_of
-        (first (recipient_order (names known.now) (texts header.now shared.now own.now)
-        (entries_of count table.now) sizes))
-        (mode_in (texts header.now shared.now own.now) (entries_of count table.now)) }
+        (first (recipient_order (names known.now) (the_texts h.entry.texts)
+        (the_entries h.entry.entries) sizes))
+        (mode_in (the_texts h.entry.texts) (the_entries h.entry.entries)) }
 {
-    let rules = RECIPIENT;
-    judge_by(&rules, header, shared, own, known, table, count, sizes)
+    judge_by(&RECIPIENT, h, known, sizes)
 }
 
 // 13, 14, 15, 17 and 18 on one recipient of which only a protected header is there.
-pub fn judge_protected(
-    header: &[u8],
-    known: &[u8],
-    table: &[u32],
-    count: usize,
-    sizes: Sizes,
-) -> Result<usize, Refusal>
-    requires known_value { filled known.now ≡ true }
-    requires width_in_bounds { count * width ≤ length table.now }
-    requires printed { Printed (one_text header.now) count table.now }
+pub fn judge_protected(h: Headers, known: &[u8], sizes: Sizes) -> Result<usize, Refusal>
+    requires { filled known.now ≡ true }
     ensures { as_stage result
         ≡ stage_of
-        (first (rules_order (names known.now) (one_text header.now)
-        (entries_of count table.now) sizes protected_rules))
-        (mode_in (one_text header.now) (entries_of count table.now)) }
+        (first (rules_order (names known.now) (the_texts h.entry.texts)
+        (the_entries h.entry.entries) sizes protected_rules))
+        (mode_in (the_texts h.entry.texts) (the_entries h.entry.entries)) }
 {
-    let rules = PROTECTED;
-    judge_by(&rules, header, header, header, known, table, count, sizes)
+    judge_by(&PROTECTED, h, known, sizes)
 }

@@ -18,6 +18,7 @@ ghost use Rattle.jwe_write.specs.Answers.{WritesCompact};
 use jose::Sizes;
 use prelude::refusal::Refusal;
 use prelude::limits::{HEADER_ROOM, LEVELS, LONGEST};
+use rows::table::{Entries, Headers, Texts};
 
 // The header
 
@@ -42,7 +43,17 @@ fn parameters(header: &[u8], known: &[u8], sizes: Sizes) -> Result<usize, Refusa
 {
     let mut table = [0u32; rows::layout::HEADER_TABLE];
     let count = headers::protected_entries(header, &mut table)?;
-    jose::judge::judge_protected(header, known, &table, count, sizes)
+    let texts = Texts {
+        header,
+        shared: header,
+        own: header,
+    };
+    let entries = Entries {
+        table: &table,
+        count,
+    };
+    let only = Headers { texts, entries };
+    jose::judge::judge_protected(only, known, sizes)
 }
 
 // The message

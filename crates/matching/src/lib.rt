@@ -12,6 +12,7 @@ ghost use Rattle.matching.specs.Inner.Places.{nth, Matched};
 
 use rows::ask::field;
 use rows::layout;
+use rows::table::Texts;
 
 // The text in which an entry stands: the decoded protected header, or the message.
 pub fn text<'a>(header: &'a [u8], message: &'a [u8], table: &[u32], i: usize) -> &'a [u8]
@@ -42,7 +43,12 @@ fn named(header: &[u8], message: &[u8], table: &[u32], i: usize, print: usize, w
     if field(table, i, layout::PRINT) != print {
         return false;
     }
-    rows::repeat::says(header, message, message, table, i, w)
+    let texts = Texts {
+        header,
+        shared: message,
+        own: message,
+    };
+    texts.says(rows::ask::entry(table, i), w)
 }
 
 // The first entry of the other side, from one on, whose name says what that of entry i does; `count` where none does.

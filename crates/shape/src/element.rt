@@ -1,5 +1,5 @@
 // The elements of `recipients`, and the recipients themselves as numbers of a table.
-ghost use Rattle.std.specs.Prelude.{◌≡◌, ◌+◌, ◌-◌, ◌*◌, ◌≤◌, length};
+ghost use Rattle.std.specs.Prelude.{◌≡◌, ◌+◌, ◌*◌, ◌≤◌, length};
 ghost use Rattle.prelude.specs.Buffer.{written};
 ghost use Rattle.prelude.specs.Limits.{levels, longest, most_recipients};
 ghost use Rattle.grammar.specs.Grammar.{curly, square};
@@ -7,7 +7,7 @@ ghost use Rattle.grammar.specs.Bounds.{Every};
 ghost use Rattle.grammar.specs.Reader.{elements_at};
 ghost use Rattle.json_read.specs.Inner.Known.{KnownFrom, KnownIn};
 ghost use Rattle.prelude.specs.Any.{any};
-ghost use Rattle.rows.specs.Tables.{entries_of, width};
+ghost use Rattle.rows.specs.Inner.Views.{the_entries};
 ghost use Rattle.prelude.specs.Refusals.{first, stage_of, as_stage};
 ghost use Rattle.jose.specs.Inner.Elements.{elements_from};
 ghost use Rattle.shape.specs.Shape.{no_object, recipient_of};
@@ -20,15 +20,15 @@ use crate::{member, number};
 use json_read::Position;
 use prelude::refusal::Refusal;
 use prelude::limits::{LEVELS, MOST_RECIPIENTS};
+use rows::table::Entries;
 
 // The recipient of the first entries, written from a position on.
-pub(crate) fn put(table: &[u32], count: usize, into: &mut [usize], at: usize)
-    requires width_in_bounds { count * width ≤ length table.now }
-    requires recipient_width_in_bounds { at + recipient_width ≤ length into.old }
-    ensures { into.new ≡ written at (three (recipient_of (entries_of count table.now))) into.old }
+pub(crate) fn put(members: Entries, into: &mut [usize], at: usize)
+    requires { at + recipient_width ≤ length into.old }
+    ensures { into.new ≡ written at (three (recipient_of (the_entries members.entry))) into.old }
 {
-    let header = rows::ask::value_of(table, count, number::HEADER);
-    let key = component(table, count, number::ENCRYPTED_KEY);
+    let header = members.value_of(number::HEADER);
+    let key = component(members, number::ENCRYPTED_KEY);
     into[at] = header.start;
     into[at + 1] = key.start;
     into[at + 2] = key.len;
@@ -106,10 +106,14 @@ fn element(message: &[u8], at: usize, into: &mut [usize], to: usize) -> Result<u
     let list = crate::MEMBERS;
     let mut table = [0u32; rows::layout::HEADER_TABLE];
     let count = headers::object(message, at, 1, &list, &mut table, 0, true)?;
-    if member::wrong_element(message, &table, count) {
+    let members = Entries {
+        table: &table,
+        count,
+    };
+    if member::wrong_element(message, members) {
         return Err(Refusal::Shape);
     }
-    put(&table, count, into, to);
+    put(members, into, to);
     Ok(count)
 }
 

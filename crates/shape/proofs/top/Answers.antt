@@ -70,9 +70,9 @@ returns-in_err-count c =
       table_after = whole;
     }
 
-pub wrong_top-requires : goal.wrong_top-requires
+pub invariant_of-members : goal.invariant_of-members
 unfolding list_of member_names ascii flatten
-wrong_top-requires c =
+invariant_of-members c =
     let left : c.object.new.table
     ≡ collected_table 0 (c.args.message.now) (top_entries (c.args.message.now)) c.args.table.now = object_table_lem _ _ _ c.args.table.now _
     (top_entries_lem (c.args.message.now) _ (names_of_lem member_names) c.skip_space-at.result.at c.skip_space-at.ensures)
@@ -85,7 +85,7 @@ wrong_top-requires c =
     let holds : Entered (top_entries (c.args.message.now)) c.object.new.table
     c.in_ok-count.count = entered _ _ _ _ (left) c.requires.header_table_in_bounds _ (answer) c.in_ok-count.count
     (ap as_stage c.in_ok-count.was) in
-    (holds).fits
+    record { fits = (holds).fits }
 
 pub returns-then-wrong_top : goal.returns-then-wrong_top
 unfolding list_of member_names ascii flatten

@@ -13,11 +13,7 @@ use Rattle.jose.proofs.rules.mode_at.Goals as goal
 
 pub number_in-requires : goal.number_in-requires
 unfolding list_of flatten ascii algs alg_name alg_names
-number_in-requires c =
-    record {
-      list_value = filled_list alg_names;
-      width_in_bounds = search rules;
-    }
+number_in-requires c = filled_list alg_names
 
 -- the mode by the number that the value has in the list of names
 mode_found : {o : Option Alg} {i : ℕ} (v : List ℕ) → o ≡ nth algs i → i ≡ number_in (names (list_of alg_names)) v →

@@ -36,9 +36,9 @@ returns-in_err-count c =
       leaves_at = leaves_refused args.to _ args.into.now _ _ (exit_refused _ _ c.from_residual.ensures.1);
     }
 
-pub wrong_element-requires : goal.wrong_element-requires
+pub invariant_of-members : goal.invariant_of-members
 unfolding list_of member_names ascii flatten
-wrong_element-requires c =
+invariant_of-members c =
     let answer : (as_stage c.object.result) ≡ stage_of (first (object_order c.args.message.now ((element_entries c.args.message.now c.args.at))))
     (length ((element_entries c.args.message.now c.args.at))) = (let args = c.args in
     let message = args.message.now in
@@ -49,7 +49,7 @@ wrong_element-requires c =
     let same = element_entries_lem message args.at _ (names_of_lem member_names) in
     entered message _ _ _ (object_table_lem message _ _ _ _ same c.object.ensures.table_after) (search rules) _
     (answer) c.in_ok-count.count (ap as_stage c.in_ok-count.was)) in
-    (holds).fits
+    record { fits = (holds).fits }
 
 pub returns-then-wrong_element : goal.returns-then-wrong_element
 unfolding list_of member_names ascii flatten
@@ -72,24 +72,6 @@ returns-then-wrong_element c =
       value = object_wrong _ _ _ (answer) _ c.in_ok-count.count
           (ap as_stage c.in_ok-count.was) wrong ∙ element_order_lem args.message.now args.at _;
       leaves_at = refl;
-    }
-
-pub put-requires : goal.put-requires
-unfolding list_of member_names ascii flatten
-put-requires c =
-    let answer : (as_stage c.object.result) ≡ stage_of (first (object_order c.args.message.now ((element_entries c.args.message.now c.args.at))))
-    (length ((element_entries c.args.message.now c.args.at))) = (let args = c.args in
-    let message = args.message.now in
-    object_answer message _ _ _ (element_entries_lem message args.at _ (names_of_lem member_names)) _ c.object.ensures.value) in
-    let holds : Entered ((element_entries c.args.message.now c.args.at)) c.object.new.table
-    c.in_ok-count.count = (let args = c.args in
-    let message = args.message.now in
-    let same = element_entries_lem message args.at _ (names_of_lem member_names) in
-    entered message _ _ _ (object_table_lem message _ _ _ _ same c.object.ensures.table_after) (search rules) _
-    (answer) c.in_ok-count.count (ap as_stage c.in_ok-count.was)) in
-    record {
-      width_in_bounds = (holds).fits;
-      recipient_width_in_bounds = c.requires.recipient_width_in_bounds;
     }
 
 pub returns : goal.returns
