@@ -9,6 +9,7 @@ ghost use Rattle.recipients.specs.Inner.Answers.{count_answer, body_at};
 use prelude::Place;
 use prelude::limits::MOST_RECIPIENTS;
 
+pub mod bodies;
 pub mod four;
 
 // How many recipients a table has, or that it is malformed.
