@@ -8,6 +8,7 @@ ghost use Rattle.json_message.specs.WriteOrder.{most_for};
 ghost use Rattle.json_write.specs.Answers.{WritesJson};
 
 use jose::Sizes;
+use json_put::message::Message;
 use prelude::Stage;
 use prelude::limits::{LONGEST, MOST_RECIPIENTS};
 use recipients::Counted;
@@ -49,9 +50,16 @@ pub fn write(
     if most_for(general) < n {
         return Stage::Refused(20);
     }
-    let size = json_put::text_length(
-        general, protected, shared, aad, iv, ciphertext, tag, recipients,
-    );
+    let message = Message {
+        protected,
+        shared,
+        aad,
+        iv,
+        ciphertext,
+        tag,
+        recipients,
+    };
+    let size = json_put::text_length(general, &message);
     if LONGEST < size {
         return json_judge::judge_over(protected, shared, recipients, n);
     }
@@ -68,7 +76,5 @@ pub fn write(
     if out.len() < size {
         return Stage::Refused(1);
     }
-    Stage::Passed(json_put::put_text(
-        general, protected, shared, aad, iv, ciphertext, tag, recipients, out,
-    ))
+    Stage::Passed(json_put::put_text(general, &message, out))
 }
