@@ -1,3 +1,2 @@
-pub mod Sides
 pub mod Kept
 pub mod Partners
