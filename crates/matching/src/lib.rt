@@ -14,10 +14,10 @@ use same::Value;
 
 // Of the table's first `count` entries, the first `common` are all recipients'. Each keeps the fingerprint of its name.
 #[derive(Clone, Copy)]
-pub struct Side<'a> {
+pub struct Side<'a, 't> {
     pub header: &'a [u8],
     pub message: &'a [u8],
-    pub table: &'a [u32],
+    pub table: &'t [u32],
     pub common: usize,
     pub count: usize,
     pub ghost few: { common ≤ count },
@@ -26,7 +26,7 @@ pub struct Side<'a> {
     pub ghost reads: { EachReads (read_texts header.now message.now) (entries_of count table.now) } by { each_reads_prop (read_texts header.now message.now) (entries_of count table.now) },
 }
 
-impl<'a> Side<'a> {
+impl<'a, 't> Side<'a, 't> {
     ghost use Rattle.std.specs.Prelude.{◌≡◌, ◌<◌, drop, IfSome};
     ghost use Rattle.grammar.specs.Spellings.{undo};
     ghost use Rattle.spelling.specs.Inner.Fingerprints.{fingerprint};
@@ -80,7 +80,7 @@ impl<'a> Side<'a> {
     }
 
     // The first entry, from one on, whose name says what that of entry i of another side does.
-    pub fn seek(&self, from: usize, other: &Side<'_>, i: usize) -> Option<usize>
+    pub fn seek(&self, from: usize, other: &Side<'_, '_>, i: usize) -> Option<usize>
         requires from_le_count { from ≤ self.now.count }
         requires i_lt_count { i < other.now.count }
         ensures bounds { IfSome result (λ j. j < self.now.count) }

@@ -36,7 +36,7 @@ pub struct Kept {
 }
 
 // The side of an entry in a line.
-fn half(side: &Side<'_>, i: usize) -> Half
+fn half(side: &Side<'_, '_>, i: usize) -> Half
     requires { i < side.now.count }
     ensures { half_is result ≡ side_of (entry_at side.now i) }
 {
@@ -49,7 +49,7 @@ fn half(side: &Side<'_>, i: usize) -> Half
 }
 
 // The pair of entry i on the left, whose partner is sought from an entry on.
-fn find(left: &Side<'_>, i: usize, right: &Side<'_>, from: usize, work: &mut [u32]) -> Option<Pair>
+fn find(left: &Side<'_, '_>, i: usize, right: &Side<'_, '_>, from: usize, work: &mut [u32]) -> Option<Pair>
     requires i_lt_count { i < left.now.count }
     requires from_le_count { from ≤ right.now.count }
     requires work_room_in_bounds { work_room ≤ length work.old }
@@ -63,7 +63,7 @@ fn find(left: &Side<'_>, i: usize, right: &Side<'_>, from: usize, work: &mut [u3
 }
 
 // What is kept of two sides that have only what is all recipients'.
-pub fn keep(left: &Side<'_>, right: &Side<'_>, work: &mut [u32]) -> Kept
+pub fn keep(left: &Side<'_, '_>, right: &Side<'_, '_>, work: &mut [u32]) -> Kept
     requires left_few { left.now.count ≤ 2 * most_members }
     requires right_few { right.now.count ≤ 2 * most_members }
     requires work_room_in_bounds { work_room ≤ length work.old }
@@ -82,7 +82,7 @@ pub fn keep(left: &Side<'_>, right: &Side<'_>, work: &mut [u32]) -> Kept
 
 // The pair of entry i on the left. Of one that is all recipients' a partner among those on the right is kept; else its partner is among
 // the recipient's own.
-fn pair_of(left: &Side<'_>, i: usize, right: &Side<'_>, kept: &Kept, work: &mut [u32]) -> Option<Pair>
+fn pair_of(left: &Side<'_, '_>, i: usize, right: &Side<'_, '_>, kept: &Kept, work: &mut [u32]) -> Option<Pair>
     requires i_lt_count { i < left.now.count }
     requires keeps { Keeps (texts left.now) (texts right.now) (common left.now) (common right.now) kept.now }
     requires work_room_in_bounds { work_room ≤ length work.old }
@@ -98,7 +98,7 @@ fn pair_of(left: &Side<'_>, i: usize, right: &Side<'_>, kept: &Kept, work: &mut 
 }
 
 // The lines of entry i on the left and of its partner, if it has one.
-fn put_pair(left: &Side<'_>, i: usize, right: &Side<'_>, pair: Option<Pair>, recipient: u32, lines: &mut Lines)
+fn put_pair(left: &Side<'_, '_>, i: usize, right: &Side<'_, '_>, pair: Option<Pair>, recipient: u32, lines: &mut Lines)
     requires i_lt_count { i < left.now.count }
     requires pair_in_bounds { IfSome pair (λ p. p.at < right.now.count) }
     requires room { length lines.old + 2 ≤ most_lines }
@@ -116,7 +116,7 @@ fn put_pair(left: &Side<'_>, i: usize, right: &Side<'_>, pair: Option<Pair>, rec
 
 // Whether entry j on the right has a partner on the left. Of one that is all recipients' it is kept whether it has one among those on the
 // left; else its partner is among the recipient's own.
-fn has_partner(left: &Side<'_>, right: &Side<'_>, j: usize, kept: &Kept) -> bool
+fn has_partner(left: &Side<'_, '_>, right: &Side<'_, '_>, j: usize, kept: &Kept) -> bool
     requires j_lt_count { j < right.now.count }
     requires keeps { Keeps (texts left.now) (texts right.now) (common left.now) (common right.now) kept.now }
     ensures { result ≡ there (partner (texts left.now) (name_in (texts right.now) (entry_at right.now j)) (entries left.now)) }
@@ -128,7 +128,7 @@ fn has_partner(left: &Side<'_>, right: &Side<'_>, j: usize, kept: &Kept) -> bool
 }
 
 // The lines of a recipient's parameters, put behind the first ones.
-pub fn put_recipient(left: &Side<'_>, right: &Side<'_>, kept: &Kept, recipient: u32, lines: &mut Lines, work: &mut [u32])
+pub fn put_recipient(left: &Side<'_, '_>, right: &Side<'_, '_>, kept: &Kept, recipient: u32, lines: &mut Lines, work: &mut [u32])
     requires keeps { Keeps (texts left.now) (texts right.now) (common left.now) (common right.now) kept.now }
     requires room { length lines.old + (2 * left.now.count + right.now.count) ≤ most_lines }
     requires work_room_in_bounds { work_room ≤ length work.old }
