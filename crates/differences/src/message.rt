@@ -27,7 +27,7 @@ impl<'a> Judged<'a> {
     ghost use Rattle.differences.specs.Inner.Holding.{Fronted, Gathered};
 
     // The place of a recipient's key.
-    pub fn key(&self, n: usize) -> Place
+    pub(crate) fn key(&self, n: usize) -> Place
         requires { n < self.now.holds.recipients }
         ensures { place_of result ≡ ((held self.now.message.now).share n).key }
     {
@@ -35,7 +35,7 @@ impl<'a> Judged<'a> {
     }
 
     // What is compared of it before its recipients: the parameters that are all recipients'.
-    pub fn front<'t>(&self, table: &'t [u32]) -> Side<'a, 't>
+    pub(crate) fn front<'t>(&self, table: &'t [u32]) -> Side<'a, 't>
         requires { Fronted self.now.message.now self.now.holds.common table.now }
         ensures texts { texts result ≡ texts_of (compared self.now.message.now) }
         ensures entries { entries result ≡ (held self.now.message.now).common }
@@ -51,7 +51,7 @@ impl<'a> Judged<'a> {
     }
 
     // A recipient's own parameters put behind those; how many they are together.
-    pub fn gather(&self, n: usize, table: &mut [u32]) -> usize
+    pub(crate) fn gather(&self, n: usize, table: &mut [u32]) -> usize
         requires recipient { n < self.now.holds.recipients }
         requires fronted { Fronted self.now.message.now self.now.holds.common table.old }
         ensures fronted { Fronted self.now.message.now self.now.holds.common table.new }
@@ -61,7 +61,7 @@ impl<'a> Judged<'a> {
     }
 
     // What is compared of a recipient: those parameters.
-    pub fn side<'t>(&self, n: usize, table: &'t [u32], count: usize) -> Side<'a, 't>
+    pub(crate) fn side<'t>(&self, n: usize, table: &'t [u32], count: usize) -> Side<'a, 't>
         requires { Gathered self.now.message.now n self.now.holds.common count table.now }
         ensures texts { texts result ≡ texts_of (compared self.now.message.now) }
         ensures common { common result ≡ (held self.now.message.now).common }

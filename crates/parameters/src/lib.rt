@@ -110,7 +110,8 @@ fn put_pair(left: &Side<'_, '_>, i: usize, right: &Side<'_, '_>, pair: Option<Pa
         return;
     };
     let yours = half(right, pair.at);
-    lines.put_if(mine.origin != yours.origin, Kind::Moved, recipient, mine, yours);
+    let moved = mine.origin != yours.origin;
+    lines.put_if(moved, Kind::Moved, recipient, mine, yours);
     lines.put_if(pair.other, Kind::Value, recipient, mine, yours);
 }
 

@@ -16,6 +16,7 @@ pub const MOST: usize = 7 + MOST_RECIPIENTS + MOST_RECIPIENTS * (9 * MOST_MEMBER
 
 // What a line says (specs/Lines).
 #[derive(Clone, Copy)]
+#[repr(u8)]
 pub enum Kind {
     Form,
     Recipients,
@@ -116,6 +117,7 @@ impl Model for Lines {
 }
 
 impl Lines {
+    #[inline]
     pub fn new() -> Self
         ensures { result ≡ [] }
     {
@@ -143,13 +145,14 @@ impl Lines {
         requires { length self.old < most_lines }
         ensures { self.new ≡ self.old ++ line (kind_number kind) recipient (half_is left) (half_is right) ∷ [] }
     {
-        self.lines[self.count] = Line {
+        let Lines { lines, count } = self;
+        lines[*count] = Line {
             kind,
             recipient,
             left,
             right,
         };
-        self.count += 1;
+        *count += 1;
     }
 
     // The same where something holds; none where it does not.
