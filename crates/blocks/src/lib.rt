@@ -70,13 +70,16 @@ pub fn seek<K: Kind, const N: usize>(kind: K, s: &[u8], at: usize) -> usize
     if n <= at {
         return at;
     }
-    let near = n.min(at + 16);
-    for i in at..near {
+    for few in 0..16 {
+        let i = at + few;
+        if n <= i {
+            return i;
+        }
         if kind.has(s[i]) {
             return i;
         }
     }
-    let far = pass::<K, N>(kind, s, near);
+    let far = pass::<K, N>(kind, s, at + 16);
     for i in far..n {
         if kind.has(s[i]) {
             return i;
