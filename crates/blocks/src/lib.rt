@@ -28,7 +28,7 @@ fn count<K: Kind>(kind: K, block: &[u8]) -> u8
     count
 }
 
-// Past whole blocks of N octets of which none is of a kind.
+// Past whole blocks of N octets of which none is of a kind. No `for` over the blocks: what is answered is a position.
 fn pass<K: Kind, const N: usize>(kind: K, s: &[u8], from: usize) -> usize
     requires size { (0 < N) × (N < 256) }
     requires fits { from ≤ length s.now }

@@ -1,7 +1,7 @@
 -- The code's answers for those of the reader.
-use Rattle.std.specs.Prelude.{ℕ, ◌+◌, ◌*◌, ◌<◌, ◌≡◌, cond, List, drop}
+use Rattle.std.specs.Prelude.{ℕ, ◌+◌, ◌*◌, ◌<◌, cond, List, drop}
 use Rattle.std.proofs.Math.Option.{Option, none, some}
-use Rattle.grammar.specs.Grammar.{is_unescaped, is_hex}
+use Rattle.grammar.specs.Grammar.{is_hex}
 use Rattle.grammar.specs.Strings.{hex_more}
 use Rattle.grammar.specs.Reader.{octet_at, step, End, refused, ended, Turn, broken, closed, go_on, between, escaping, digit, scan_string}
 use Rattle.grammar.specs.Reader.{Answer, nothing, found, Before}
