@@ -1,7 +1,7 @@
 // Encoding: whole blocks of 48 octets become words of six, then eight values of each word, then characters; what is left
 // goes group by group. As in decoding, the steps between are local arrays.
-ghost use Rattle.std.specs.Prelude.{◌≡◌, ◌+◌, ◌≤◌, map, length};
-ghost use Rattle.prelude.specs.Buffer.{AllBelow, written};
+ghost use Rattle.std.specs.Prelude.{◌≡◌, ◌≤◌, map, length};
+ghost use Rattle.prelude.specs.Buffer.{AllBelow};
 ghost use Rattle.base64url.specs.Base64url.{character, encoded};
 ghost use Rattle.base64url.specs.Inner.Words.{spread_of, spread_all, sixes_of};
 
@@ -35,40 +35,37 @@ fn block_sextets(words: &[u64; 8], six: &mut [u8; 64])
     }
 }
 
-// The characters of values, written from a position on. Answers the position after them.
-fn characters(six: &[u8], out: &mut [u8], at: usize) -> usize
+// The characters of values.
+fn characters(six: &[u8], out: &mut [u8])
     requires all_below { AllBelow 64 six.now }
-    requires six_in_bounds { at + length (map character six.now) ≤ length out.old }
-    ensures value { result ≡ at + length (map character six.now) }
-    ensures out_after { out.new ≡ written at (map character six.now) out.old }
+    requires out_len { length out.old ≡ length six.now }
+    ensures { out.new ≡ map character six.now }
 {
     for (k, &v) in six.iter().enumerate() {
-        out[at + k] = step::character(v);
+        out[k] = step::character(v);
     }
-    at + six.len()
 }
 
-// The text of a block, likewise.
-pub(crate) fn encode_block(octets: &[u8; 48], out: &mut [u8], at: usize) -> usize
-    requires { at + length (encoded octets.now) ≤ length out.old }
-    ensures value { result ≡ at + length (encoded octets.now) }
-    ensures out_after { out.new ≡ written at (encoded octets.now) out.old }
+// The text of a block.
+pub(crate) fn encode_block(octets: &[u8; 48], out: &mut [u8])
+    requires { length out.old ≡ length (encoded octets.now) }
+    ensures { out.new ≡ encoded octets.now }
 {
     let mut words = [0u64; 8];
     let mut six = [0u8; 64];
     block_sixes(octets, &mut words);
     block_sextets(&words, &mut six);
-    characters(&six, out, at)
+    characters(&six, out);
 }
 
-// The text of at most 48 octets, likewise.
-pub(crate) fn encode_few(octets: &[u8], out: &mut [u8], at: usize) -> usize
+// The text of at most 48 octets.
+pub(crate) fn encode_few(octets: &[u8], out: &mut [u8])
     requires octets_len_bound { length octets.now ≤ 48 }
-    requires octets_in_bounds { at + length (encoded octets.now) ≤ length out.old }
-    ensures value { result ≡ at + length (encoded octets.now) }
-    ensures out_after { out.new ≡ written at (encoded octets.now) out.old }
+    requires out_len { length out.old ≡ length (encoded octets.now) }
+    ensures { out.new ≡ encoded octets.now }
 {
     let mut six = [0u8; 64];
-    let n = by_groups::split(octets, &mut six, 0);
-    characters(&six[..n], out, at)
+    let n = out.len();
+    by_groups::split(octets, &mut six[..n]);
+    characters(&six[..n], out);
 }

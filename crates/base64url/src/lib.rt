@@ -70,10 +70,12 @@ pub fn decode(text: &[u8], out: &mut [u8]) -> Result<usize, DecodeError>
     ensures { Decodes text.now out.old result out.new }
 {
     check(text)?;
-    if out.len() < decoded_length(text.len()) {
+    let n = decoded_length(text.len());
+    if out.len() < n {
         return Err(DecodeError::Short);
     }
-    Ok(decoding::decode_at(text, out, 0))
+    decoding::decode(text, &mut out[..n]);
+    Ok(n)
 }
 
 // The text of octets, written from a position on: whole blocks, then what is left. Answers the position after it.
@@ -85,9 +87,12 @@ pub fn encode_at(octets: &[u8], out: &mut [u8], at: usize) -> usize
     let mut j = at;
     let (blocks, rest) = octets.as_chunks::<48>();
     for block in blocks {
-        j = encoding::encode_block(block, out, j);
+        encoding::encode_block(block, &mut out[j..j + 64]);
+        j += 64;
     }
-    encoding::encode_few(rest, out, j)
+    let end = j + encoded_length(rest.len());
+    encoding::encode_few(rest, &mut out[j..end]);
+    end
 }
 
 // Encodes octets into out from a position on, and answers the position after the text. None is document 01's 1: the text
