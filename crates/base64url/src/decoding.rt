@@ -23,9 +23,9 @@ fn block_values(text: &[u8; 128], six: &mut [u8; 128])
 fn join(x: u64) -> u64
     ensures { result ≡ joined x }
 {
-    let y = (x & 0x003F003F003F003F) * 64 + (x / 256 & 0x003F003F003F003F);
-    let z = (y & 0x00000FFF00000FFF) * 4096 + (y / 65536 & 0x00000FFF00000FFF);
-    z % 16777216 * 1099511627776 + z / 4294967296 * 65536
+    let y = (x & 0x003F_003F_003F_003F) * 0x40 + (x / 0x100 & 0x003F_003F_003F_003F);
+    let z = (y & 0x0000_0FFF_0000_0FFF) * 0x1000 + (y / 0x1_0000 & 0x0000_0FFF_0000_0FFF);
+    z % 0x100_0000 * 0x100_0000_0000 + z / 0x1_0000_0000 * 0x1_0000
 }
 
 // The words of a block's values.

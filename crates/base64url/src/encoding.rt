@@ -21,9 +21,9 @@ fn block_sixes(octets: &[u8; 48], words: &mut [u64; 8])
 fn spread(w: u64) -> u64
     ensures { result ≡ spread_of w }
 {
-    let z = w / 1099511627776 + w / 65536 % 16777216 * 4294967296;
-    let y = (z / 4096 & 0x00000FFF00000FFF) + (z & 0x00000FFF00000FFF) * 65536;
-    (y / 64 & 0x003F003F003F003F) + (y & 0x003F003F003F003F) * 256
+    let z = w / 0x100_0000_0000 + w / 0x1_0000 % 0x100_0000 * 0x1_0000_0000;
+    let y = (z / 0x1000 & 0x0000_0FFF_0000_0FFF) + (z & 0x0000_0FFF_0000_0FFF) * 0x1_0000;
+    (y / 0x40 & 0x003F_003F_003F_003F) + (y & 0x003F_003F_003F_003F) * 0x100
 }
 
 // The values of a block's words, eight stored at once.
