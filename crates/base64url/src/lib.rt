@@ -51,7 +51,9 @@ pub fn check(text: &[u8]) -> Result<(), DecodeError>
 pub fn encoded_length(n: usize) -> usize
     ensures { result ≡ min (encoded_length n) (2 ^ 64 - 1) }
 {
-    (n / 3).saturating_mul(4).saturating_add((n % 3 * 4 + 2) / 3)
+    (n / 3)
+        .saturating_mul(4)
+        .saturating_add((n % 3 * 4 + 2) / 3)
 }
 
 // How many octets n characters make, floor(3n/4).

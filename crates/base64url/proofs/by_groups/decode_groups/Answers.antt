@@ -1,12 +1,12 @@
 -- `decode_groups` writes a text's octets: group by group, and then what is left.
-use Prim.Native.Nat.{ℕ, ◌+◌, ◌*◌, ◌-◌}
-use mathlib.Core.Path.{◌≡◌, refl, ap, ◌∙◌}
+use Prim.Native.Nat.{◌+◌, ◌*◌, ◌-◌}
+use mathlib.Core.Path.{◌≡◌, refl, ◌∙◌}
 use mathlib.Core.List.{[]}
 use native.Mathlib.Omega.{arith}
 use lib.ListN.{length, get_or}
 use Rattle.prelude.proofs.Writing.{begin}
 use Rattle.base64url.specs.Base64url.{six_bits, decoded}
-use Rattle.base64url.proofs.Chunks.{Chunked, chunk_below, rest_below, chunk_length, part_size, part_filled, rest_size, rest_filled}
+use Rattle.base64url.proofs.Chunks.{Chunked, chunk_below, rest_below, chunk_length, part_filled, rest_size, rest_filled}
 use Rattle.base64url.proofs.Groups.{decoded_by}
 use Rattle.base64url.proofs.Laws.{decoded_length_lem}
 use Rattle.base64url.proofs.by_groups.decode_groups.Goals as goal

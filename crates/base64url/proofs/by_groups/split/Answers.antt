@@ -1,12 +1,12 @@
 -- `split` writes octets' values: group by group, and then what is left.
-use Prim.Native.Nat.{ℕ, ◌+◌, ◌*◌, ◌-◌}
-use mathlib.Core.Path.{◌≡◌, refl, ap, ◌∙◌}
+use Prim.Native.Nat.{◌+◌, ◌*◌, ◌-◌}
+use mathlib.Core.Path.{◌≡◌, ◌∙◌}
 use mathlib.Core.List.{[]}
 use native.Mathlib.Omega.{arith}
 use lib.ListN.{length, get_or}
 use Rattle.prelude.proofs.Writing.{begin}
 use Rattle.base64url.specs.Base64url.{sextets}
-use Rattle.base64url.proofs.Chunks.{Chunked, chunk_length, part_size, part_filled, rest_size, rest_filled}
+use Rattle.base64url.proofs.Chunks.{Chunked, chunk_length, part_filled, rest_size, rest_filled}
 use Rattle.base64url.proofs.Groups.{sextets_by}
 use Rattle.base64url.proofs.Groups.{sextets_length}
 use Rattle.base64url.proofs.by_groups.split.Goals as goal
