@@ -1,12 +1,12 @@
--- The fingerprint of a spelling: plain octets and escapes in turn, and the whole stays the same.
-use Prim.Native.Nat.{◌-◌, ◌≤◌}
+-- What was taken in with what is to come is the fingerprint of the whole.
 use mathlib.Core.Path.{◌≡◌}
-use lib.ListN.{length}
-use Rattle.spelling.specs.Inner.Cursors.{whole}
+use Rattle.grammar.specs.Spellings.{undo}
+use Rattle.spelling.specs.Inner.Fingerprints.{fingerprint_from, fingerprint}
+use Rattle.spelling.specs.Inner.Cursors.{rest, size}
 use Rattle.spelling.proofs.fingerprint.Given as goal
 
-abbrev pub invariant-loop-run : goal.invariant-loop-run
-invariant-loop-run l = (whole l.a l.p ≡ whole l.a l.initial.p) × (l.p.half ≤ 56319)
+abbrev pub invariant-loop-c : goal.invariant-loop-c
+invariant-loop-c l = fingerprint_from l.h (rest l.p) ≡ fingerprint (undo l.a)
 
-abbrev pub decreases-loop-run : goal.decreases-loop-run
-decreases-loop-run l = length l.a - l.p.at
+abbrev pub decreases-loop-c : goal.decreases-loop-c
+decreases-loop-c l = size l.p
