@@ -1,17 +1,16 @@
 -- Spellings as the code reads them: a whole character at a time, its octets taken from the code point that it says.
-use mathlib.Core.Path.{◌≡◌, refl, ap, ap₂, sym, ◌∙◌}
+use mathlib.Core.Path.{◌≡◌, refl, ap, sym, ◌∙◌}
 use mathlib.Core.Bool.{Bool, true, false, cond, true≢false}
 use mathlib.Core.List.{List, [], ◌∷◌, ◌++◌}
 use mathlib.Core.Option.{none, some}
 use mathlib.Core.Option as maybe
-use Prim.Native.Nat.{ℕ, zero, suc, ◌+◌, ◌-◌, ◌*◌, ◌/◌, ◌≤◌, ◌<◌}
+use Prim.Native.Nat.{ℕ, zero, suc, ◌+◌, ◌≤◌, ◌<◌}
 use native.Mathlib.Omega.{arith}
 use lib.ListN.{length, drop, get_or, drop_of_length-le, length-drop}
-use lib.Dec.{leb}
 use borrow.Author.Tests.{ne_eqb}
 use Rattle.prelude.proofs.Lists.{drop_next}
 use Rattle.grammar.specs.Strings.{hex_more, unit, escape_point, is_high, combined}
-use Rattle.grammar.specs.Utf8.{six_bits, encode}
+use Rattle.grammar.specs.Utf8.{encode}
 use Rattle.grammar.specs.Spellings.{Spot, between, escaping, digit, unit_octets, adds, next, undo_from}
 use Rattle.std.specs.Prelude.{Option, None, Some, is_some}
 use Rattle.spelling.specs.Inner.Escapes.{half_of, waiting, last_octets, undo_at}
@@ -176,3 +175,14 @@ module _ {r : List ℕ} (left n : ℕ) (v : List ℕ) (e : r ≡ last_octets lef
       cases : (k : ℕ) → k ≤ 0 → w ≡ last_octets k m ++ w
       cases zero l = refl
       cases (suc k) l = absurd (omega arith)
+
+-- where no escape stands
+module _ (s : List ℕ) (half : Option ℕ) (at left n : ℕ) (l : left ≤ 0) where
+  pub plain_octet : (m : ℕ) → at < length s → (get_or s at 0 ≡ 92 → ⊥) →
+      last_octets left n ++ undo_at s half at ≡ get_or s at 0 ∷ (last_octets left m ++ undo_at s None (at + 1))
+  plain_octet m h f = one_octet left n (undo_at s half at) refl l m _ _ (undo_plain s half at h f)
+
+  pub no_octet : length s ≤ at → last_octets left n ++ undo_at s half at ≡ []
+  no_octet h = between_characters left n (undo_at s half at) refl l ∙ undo_end s (between (half_of half)) at h
+
+pub ruleset plain_octets = (plain_octet, no_octet)

@@ -1,12 +1,9 @@
 -- Fingerprints as the code makes them, octet by octet; and what they say: strings that say the same have equal ones.
 use mathlib.Core.Path.{◌≡◌, refl, ap, sym, subst}
 use mathlib.Core.Bool.{Bool, true, false}
-use mathlib.Core.List.{List, [], ◌∷◌, ◌++◌}
-use Prim.Native.Nat.{ℕ, ◌+◌, ◌/◌, ◌≤◌, ◌<◌}
-use lib.ListN.{length, get_or}
+use mathlib.Core.List.{List, [], ◌∷◌}
+use Prim.Native.Nat.{ℕ}
 use lib.Dec.{T}
-use borrow.Author.Tests.{le-leb, lt-leb}
-use Rattle.grammar.specs.Utf8.{six_bits, encode}
 use Rattle.grammar.specs.Spellings.{undo, alike, has}
 use Rattle.spelling.specs.Inner.Fingerprints.{mixed, fingerprint_from, fingerprint}
 use Rattle.std.specs.Prelude.{None}

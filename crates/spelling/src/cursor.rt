@@ -66,13 +66,32 @@ impl<'a> Cursor<'a> {
         }
     }
 
-    // The next octet.
+    // The next octet. One that stands for itself is taken here, so that a loop has these by itself.
+    #[inline(always)]
+    #[tactic(auto, using(crate::proofs::Cursors::plain_octets))]
     pub(crate) fn next(&mut self) -> Option<u8>
         ensures { Gives self.old result self.new }
     {
         if 0 < self.left {
             return Some(self.pending());
         }
+        if self.at == self.text.len() {
+            return None;
+        }
+        let c = self.text[self.at];
+        if c != b'\\' {
+            self.at += 1;
+            self.half = None;
+            return Some(c);
+        }
+        self.escaped()
+    }
+
+    // The next octet, where an escape stands.
+    fn escaped(&mut self) -> Option<u8>
+        requires { self.old.left ≡ 0 }
+        ensures { Gives self.old result self.new }
+    {
         while self.at < self.text.len() {
             let s = self.text;
             let at = self.at;

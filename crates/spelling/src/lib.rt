@@ -3,7 +3,7 @@
 
 ghost use Rattle.std.specs.Prelude.{◌≡◌, ◌≤◌, ◌<◌, true, false, length, drop, None};
 ghost use Rattle.grammar.specs.Spellings.{undo, equal, alike, has};
-ghost use Rattle.spelling.specs.Inner.Fingerprints.{mixed, fingerprint};
+ghost use Rattle.spelling.specs.Inner.Fingerprints.{mixed, fingerprint_from, fingerprint};
 ghost use Rattle.spelling.specs.Inner.Escapes.{undo_at, Common};
 ghost use Rattle.spelling.specs.Inner.Cursors.{rest, size};
 
@@ -129,14 +129,26 @@ fn mix(h: u32, c: u8) -> u32
     ((h as u64 * 16777619 + c as u64 + 1) % 4294967296) as u32
 }
 
-// A fingerprint of what a spelling says.
-pub fn fingerprint(a: &[u8]) -> u32
-    ensures { result ≡ fingerprint (undo a.now) }
+// A fingerprint with what is still to come from a cursor taken in.
+fn mix_rest(mut p: Cursor, mut h: u32) -> u32
+    ensures { result ≡ fingerprint_from h (rest p.entry) }
 {
-    let mut p = Cursor::new(a, 0);
-    let mut h = 2166136261;
     while let Some(c) = p.next() {
         h = mix(h, c);
     }
     h
+}
+
+// A fingerprint of what a spelling says. Most have no escape, and octets before the first stand for themselves.
+pub fn fingerprint(a: &[u8]) -> u32
+    ensures { result ≡ fingerprint (undo a.now) }
+{
+    let mut print = 2166136261;
+    for (k, &c) in a.iter().enumerate() {
+        if c == b'\\' {
+            return mix_rest(Cursor::new(a, k), print);
+        }
+        print = mix(print, c);
+    }
+    print
 }

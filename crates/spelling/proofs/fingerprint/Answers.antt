@@ -1,17 +1,30 @@
 -- Octet by octet, and the whole stays the same.
+use Prim.Native.Nat.{◌+◌}
 use mathlib.Core.Path.{ap, sym, ◌∙◌}
+use Rattle.std.specs.Prelude.{None}
+use Rattle.grammar.specs.Spellings.{between}
 use Rattle.spelling.specs.Inner.Fingerprints.{fingerprint_from}
-use Rattle.spelling.specs.Inner.Cursors.{rest}
+use Rattle.spelling.specs.Inner.Escapes.{half_of, undo_at}
+use Rattle.spelling.proofs.Cursors.{undo_plain, undo_end}
 use Rattle.spelling.proofs.Fingerprints.{mixed_start, mixed_next, mixed_end}
 use Rattle.spelling.proofs.fingerprint.Goals as goal
 
-pub loop-c-init : goal.loop-c-init
-loop-c-init c = ap (fingerprint_from 2166136261) c.new-p.ensures ∙ mixed_start c.args.a.now
+pub loop-k-init : goal.loop-k-init
+loop-k-init c = mixed_start c.args.a.now
 
-pub loop-c-preserved : goal.loop-c-preserved
-loop-c-preserved c =
-    ap (λ h. fingerprint_from h (rest c.next.new.self)) c.mix-h.ensures
-    ∙ mixed_next c.loop-c.h c.in-Some.c (rest c.next.new.self) (rest c.loop-c.p) (sym c.in-Some.ensures.0) ∙ c.loop-c.invariant
+pub loop-k-preserved : goal.loop-k-preserved
+loop-k-preserved c =
+    let a = c.args.a.now in
+    let k = c.loop-k.k in
+    ap (λ h. fingerprint_from h (undo_at a None (k + 1))) c.mix-print.ensures
+    ∙ mixed_next c.loop-k.print _ (undo_at a None (k + 1)) (undo_at a None k) (sym (undo_plain a None k c.loop-k-test.true c.if-c-eq92.false))
+    ∙ c.loop-k.invariant
+
+pub returns-then-c-eq92 : goal.returns-then-c-eq92
+returns-then-c-eq92 c = c.mix_rest.ensures ∙ ap (fingerprint_from c.loop-k.print) c.new.ensures ∙ c.loop-k.invariant
 
 pub returns : goal.returns
-returns c = mixed_end c.loop-c.h (rest c.loop-c.p) (sym c.in_default.ensures) ∙ c.loop-c.invariant
+returns c =
+    let a = c.args.a.now in
+    let k = c.loop-k.k in
+    mixed_end c.loop-k.print (undo_at a None k) (sym (undo_end a (between (half_of None)) k c.loop-k-test.false)) ∙ c.loop-k.invariant

@@ -3,7 +3,7 @@ use Prim.Native.Nat.{◌-◌, ◌≤◌}
 use mathlib.Core.Path.{◌≡◌}
 use lib.ListN.{length}
 use Rattle.spelling.specs.Inner.Cursors.{rest, size}
-use Rattle.spelling.proofs.cursor.Cursor.next.Given as goal
+use Rattle.spelling.proofs.cursor.Cursor.escaped.Given as goal
 
 abbrev pub invariant-loop-self : goal.invariant-loop-self
 invariant-loop-self l = record {

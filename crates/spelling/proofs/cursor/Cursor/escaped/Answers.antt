@@ -8,7 +8,7 @@ use Rattle.grammar.specs.Spellings.{between}
 use Rattle.spelling.specs.Inner.Escapes.{half_of, undo_at}
 use Rattle.spelling.proofs.Cursors.{between_characters, one_octet, none_added}
 use Rattle.spelling.proofs.Cursors.{undo_end, undo_plain, undo_cut, undo_escape, undo_cut_digits, undo_pair, undo_single, undo_first}
-use Rattle.spelling.proofs.cursor.Cursor.next.Goals as goal
+use Rattle.spelling.proofs.cursor.Cursor.escaped.Goals as goal
 
 pub returns-then-c-ne92 : goal.returns-then-c-ne92
 returns-then-c-ne92 c =
@@ -27,8 +27,9 @@ pub returns-then-e-ne117 : goal.returns-then-e-ne117
 returns-then-e-ne117 c =
     let p = c.loop-self.self in
     let kept = c.loop-self.invariant in
+    let behind = undo_at p.text.now None (p.at + 2) in
     let escape = undo_escape p.text.now p.half p.at c.loop-self-test.true c.if-c-ne92.false (omega arith) c.if-e-ne117.true in (
-      one_octet _ _ _ kept.same kept.none _ _ _ (escape ∙ ap (λ x. x ∷ undo_at p.text.now None (p.at + 2)) (sym c.escape_point.ensures)),
+      one_octet _ _ _ kept.same kept.none _ c.escape_point.result behind (escape ∙ ap (λ x. x ∷ behind) (sym c.escape_point.ensures)),
       omega arith,
     )
 
