@@ -4,8 +4,7 @@ ghost use Rattle.std.specs.Prelude.{true, [], ◌∷◌, map};
 ghost use Rattle.recipients.specs.Parsed.{recipients_in};
 ghost use Rattle.json_text.specs.Inner.Led.{led_one};
 ghost use Rattle.json_message.specs.JsonText.{header_member, component_member, own_members, element_text, recipient_members};
-ghost use Rattle.json_message.specs.JsonWrite.{written_text};
-ghost use Rattle.json_put.specs.Inner.Members.{name_text, encoded_member, shown, head_members, tail_members, all_members, raw_of, point, Room, Puts};
+ghost use Rattle.json_put.specs.Inner.Members.{name_text, encoded_member, shown, head_members, tail_members, all_members, point, Room, Puts};
 
 use crate::message::Message;
 use crate::sink::Sink;
@@ -155,20 +154,10 @@ fn components<S: Sink>(message: &Message<'_>, begun: bool, to: &mut S) -> bool
 }
 
 // All of them.
-fn members<S: Sink>(many: bool, message: &Message<'_>, begun: bool, to: &mut S) -> bool
+pub(crate) fn members<S: Sink>(many: bool, message: &Message<'_>, begun: bool, to: &mut S) -> bool
     requires { Room S.fits (point to.old begun) (all_members many message.now) }
     ensures { Puts S.gains (point to.old begun) (all_members many message.now) (point to.new result) }
 {
     let next = headers(many, message, begun, to);
     components(message, next, to)
-}
-
-// The message.
-pub(crate) fn text<S: Sink>(many: bool, message: &Message<'_>, to: &mut S)
-    requires { S.fits to.old (written_text many (raw_of message.now)) }
-    ensures { S.gains to.old (written_text many (raw_of message.now)) to.new }
-{
-    to.octet(b'{');
-    members(many, message, false, to);
-    to.octet(b'}');
 }
