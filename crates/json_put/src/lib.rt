@@ -21,9 +21,9 @@ fn text<S: Sink>(general: bool, message: &Message<'_>, to: &mut S)
     requires { S.fits to.old (written_text general (raw_of message.now)) }
     ensures { S.gains to.old (written_text general (raw_of message.now)) to.new }
 {
-    to.octet(b'{');
+    to.octets(b"{");
     write::members(general, message, false, to);
-    to.octet(b'}');
+    to.octets(b"}");
 }
 
 // How many octets the message has; where it has more than a message may have, one more than that.

@@ -17,7 +17,7 @@ fn comma<S: Sink>(begun: bool, to: &mut S)
     ensures { S.gains to.old (led_one begun []) to.new }
 {
     if begun {
-        to.octet(b',');
+        to.octets(b",");
     }
 }
 
@@ -27,10 +27,9 @@ fn member_name<S: Sink>(name: &[u8], begun: bool, to: &mut S)
     ensures { S.gains to.old (led_one begun (name_text name.now)) to.new }
 {
     comma(begun, to);
-    to.octet(b'"');
+    to.octets(b"\"");
     to.octets(name);
-    to.octet(b'"');
-    to.octet(b':');
+    to.octets(b"\":");
 }
 
 // A header's text as a member; nothing where it is absent.
@@ -52,9 +51,9 @@ fn encoded<S: Sink>(name: &[u8], octets: &[u8], begun: bool, to: &mut S) -> bool
     ensures { Puts S.gains (point to.old begun) (encoded_member name.now octets.now) (point to.new result) }
 {
     member_name(name, begun, to);
-    to.octet(b'"');
+    to.octets(b"\"");
     to.encoded(octets);
-    to.octet(b'"');
+    to.octets(b"\"");
     true
 }
 
@@ -86,9 +85,9 @@ fn element<S: Sink>(table: &[u8], body: Body, begun: bool, to: &mut S) -> bool
     ensures { Puts S.gains (point to.old begun) (element_text (shown table.now body) ∷ []) (point to.new result) }
 {
     comma(begun, to);
-    to.octet(b'{');
+    to.octets(b"{");
     own(table, body, false, to);
-    to.octet(b'}');
+    to.octets(b"}");
     true
 }
 
@@ -112,9 +111,9 @@ fn general<S: Sink>(message: &Message<'_>, begun: bool, to: &mut S) -> bool
         (point to.new result) }
 {
     member_name(b"recipients", begun, to);
-    to.octet(b'[');
+    to.octets(b"[");
     elements(message, false, to);
-    to.octet(b']');
+    to.octets(b"]");
     true
 }
 

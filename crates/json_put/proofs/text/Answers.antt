@@ -3,20 +3,20 @@ use Rattle.json_put.proofs.Putting.{next, ◌▸◌, ended}
 use Rattle.json_put.proofs.Parts.{text_parts}
 use Rattle.json_put.proofs.text.Goals as goal
 
-pub octet-requires : goal.octet-requires
-octet-requires g c = next (text_parts g.S.Sink.laws c.args.to.now c.args.message.now c.args.general c.requires)
+pub octets-requires : goal.octets-requires
+octets-requires g c = next (text_parts g.S.Sink.laws c.args.to.now c.args.message.now c.args.general c.requires)
 
 pub members-requires : goal.members-requires
 members-requires g c =
-    next (text_parts g.S.Sink.laws c.args.to.now c.args.message.now c.args.general c.requires ▸ c.octet.ensures)
+    next (text_parts g.S.Sink.laws c.args.to.now c.args.message.now c.args.general c.requires ▸ c.octets.ensures)
 
-pub octet-requires-2 : goal.octet-requires-2
-octet-requires-2 g c =
+pub octets-requires-2 : goal.octets-requires-2
+octets-requires-2 g c =
     next
-    (text_parts g.S.Sink.laws c.args.to.now c.args.message.now c.args.general c.requires ▸ c.octet.ensures ▸ c.members.ensures.octets)
+    (text_parts g.S.Sink.laws c.args.to.now c.args.message.now c.args.general c.requires ▸ c.octets.ensures ▸ c.members.ensures.octets)
 
 pub returns : goal.returns
 returns g c =
     ended
-    (text_parts g.S.Sink.laws c.args.to.now c.args.message.now c.args.general c.requires ▸ c.octet.ensures ▸ c.members.ensures.octets
-    ▸ c.octet-2.ensures)
+    (text_parts g.S.Sink.laws c.args.to.now c.args.message.now c.args.general c.requires ▸ c.octets.ensures ▸ c.members.ensures.octets
+    ▸ c.octets-2.ensures)
