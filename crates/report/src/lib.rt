@@ -5,22 +5,15 @@ ghost use Rattle.std.specs.Prelude.{◌≡◌, ◌*◌, ◌≤◌, length};
 ghost use Rattle.prelude.specs.Buffer.{AllBelow, written};
 ghost use Rattle.prelude.specs.Limits.{number_limit};
 ghost use Rattle.rows.specs.Tables.{list_width};
-ghost use Rattle.jwe.specs.Answers.{numbers};
+ghost use Rattle.jwe.specs.Answers.{numbers, reading_of};
 ghost use Rattle.report.specs.Report.{too_long, refused_report};
 ghost use Rattle.report.specs.Answers.{report_room, Reports, result_report};
 
-use jwe::Result;
+use jwe::Reading;
 use prelude::limits::{HEADER_ROOM, LIST_ROOM};
 
 mod lines;
 mod words;
-
-// The octets written, or that too little is lent.
-#[derive(Clone, Copy)]
-pub enum Reported {
-    Octets(usize),
-    Short,
-}
 
 fn put_too_long(out: &mut [u8]) -> usize
     requires { report_room ≤ length out.old }
@@ -42,13 +35,13 @@ fn put_refused(n: u32, out: &mut [u8]) -> usize
 }
 
 // By the reader's result and its list, of at most 96 parameters.
-fn put_accepted(r: Result, list: &[u32], out: &mut [u8]) -> usize
+fn put_accepted(r: Reading, list: &[u32], out: &mut [u8]) -> usize
     requires report_room_in_bounds { report_room ≤ length out.old }
-    requires all_below { AllBelow number_limit (numbers r) }
+    requires all_below { AllBelow number_limit (numbers (reading_of r)) }
     requires parameters_bound { r.parameters ≤ 96 }
     requires list_width_in_bounds { r.parameters * list_width ≤ length list.now }
-    ensures value { result ≡ length (result_report r list.now) }
-    ensures out_after { out.new ≡ written 0 (result_report r list.now) out.old }
+    ensures value { result ≡ length (result_report (reading_of r) list.now) }
+    ensures out_after { out.new ≡ written 0 (result_report (reading_of r) list.now) out.old }
     ensures upper_bound { result ≤ length out.old }
 {
     let a = lines::put_first(r.form, r.recipients, r.mode, out, 0);
@@ -56,23 +49,23 @@ fn put_accepted(r: Result, list: &[u32], out: &mut [u8]) -> usize
     lines::put_parameters(list, r.parameters, out, b)
 }
 
-// Reads a message of at most 61,440 octets with no known names, for recipient 0, and writes the report on it at the
-// output's start. The rest of the output is unchanged; all of it is where fewer than 8,192 octets are lent.
-pub fn report(message: &[u8], out: &mut [u8]) -> Reported
+// Reads a message of at most 61,440 octets with no known names, for recipient 0, writes the report on it at the output's
+// start, and answers how many octets it is. The rest of the output is unchanged; all of it is where fewer than 8,192 octets
+// are lent, and the answer None.
+pub fn report(message: &[u8], out: &mut [u8]) -> Option<usize>
     ensures { Reports message.now out.old result out.new }
 {
     if out.len() < 8192 {
-        return Reported::Short;
+        return None;
     }
     if 61440 < message.len() {
-        return Reported::Octets(put_too_long(out));
+        return Some(put_too_long(out));
     }
     let known = [0u8; 1];
     let mut header = [0u8; HEADER_ROOM];
     let mut list = [0u32; LIST_ROOM];
-    let answer = gateway::read(message, &known, 0, &mut header, &mut list);
-    if answer.number == 0 {
-        return Reported::Octets(put_accepted(answer, &list, out));
-    }
-    Reported::Octets(put_refused(answer.number, out))
+    Some(match gateway::read(message, &known, 0, &mut header, &mut list) {
+        Ok(reading) => put_accepted(reading, &list, out),
+        Err(refusal) => put_refused(refusal.number(), out),
+    })
 }
