@@ -5,8 +5,8 @@ ghost use Rattle.prelude.specs.Buffer.{written};
 ghost use Rattle.prelude.specs.Limits.{most_members};
 ghost use Rattle.grammar.specs.Grammar.{curly, square};
 ghost use Rattle.grammar.specs.Reader.{entry_at, value_at, members_at};
-ghost use Rattle.json_read.specs.Members.{first_in, member_of, next_from, five_of, flat, collected_of, member_room, member_width};
-ghost use Rattle.json_read.specs.Inner.Known.{Given, Known, KnownEntry, KnownIn};
+ghost use Rattle.json_read.specs.Members.{first_in, member_of, next_from, five_of, flat, bracket_of, collected_of, member_room, member_width};
+ghost use Rattle.json_read.specs.Inner.Known.{Given, Known, KnownEntry, KnownFrom, KnownIn, given_prop, from_prop};
 
 use crate::Position;
 use prelude::Place;
@@ -30,6 +30,18 @@ pub struct Row {
 pub struct Member {
     pub row: Row,
     pub next: Position,
+}
+
+// The members of an object, or the elements of an array, from a place on (src/entries.rt), no more than are left of the text's octets. What is asked of a judged text is known of all of them.
+#[derive(Clone, Copy)]
+pub struct Entries<'a> {
+    pub text: &'a [u8],
+    pub at: Position,
+    pub left: usize,
+    pub array: bool,
+    pub levels: u32,
+    pub judged: bool,
+    ghost known: { Given judged (KnownFrom (bracket_of array) levels text.now left at.at) } by { given_prop judged (from_prop (bracket_of array) levels text.now left at.at) },
 }
 
 // The five numbers of a row, written from a position on.
