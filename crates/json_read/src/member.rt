@@ -138,20 +138,13 @@ impl Position {
         ensures value { result ≡ collected_of (members_at levels s.now self.at) }
         ensures table_after { table.new ≡ written 0 (flat (take most_members (members_at levels s.now self.at))) table.old }
     {
-        let mut p = self.step(s).skip_space(s);
         let mut count: usize = 0;
-        let mut left = s.len();
-        while 0 < left {
-            let Some(found) = p.member(s, levels, judged) else {
-                return Some(count);
-            };
+        for row in Entries::members(s, self.at, levels, judged) {
             if count == MOST_MEMBERS {
                 return None;
             }
-            put_row(found.row, table, count * WIDTH);
+            put_row(row, table, count * WIDTH);
             count += 1;
-            p = found.next;
-            left -= 1;
         }
         Some(count)
     }
