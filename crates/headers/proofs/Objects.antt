@@ -20,7 +20,7 @@ use Rattle.rows.proofs.Entries.{flat_length, entries_written_from}
 use Rattle.rows.proofs.Printing.{stand_in_one, printed_written_from}
 use Rattle.prelude.specs.Refusals.{first, stage_of}
 use Rattle.headers.specs.Headers.{object_order}
-use Rattle.prelude.specs.declared.Stage.TheVariants.{Passed, Refused}
+use Rattle.prelude.specs.Refusals.{Passed, Refused}
 use Rattle.headers.proofs.Bounds.{either_way}
 
 -- What collecting answers, by how many entries there are.

@@ -17,7 +17,7 @@ use Rattle.json_read.proofs.Knowing.{text_known}
 use Rattle.prelude.specs.Any.{any_pair}
 use Rattle.prelude.specs.Buffer.{written}
 use Rattle.prelude.specs.Refusals.{first, stage_of}
-use Rattle.prelude.specs.declared.Stage.TheVariants.{Passed}
+use Rattle.prelude.specs.Refusals.{Passed}
 use Rattle.rows.specs.Rows.{Entry, entry_of, entries_in, repeated}
 use Rattle.rows.specs.Tables.{width}
 use Rattle.rows.specs.Inner.Prints.{flat, collected_table}

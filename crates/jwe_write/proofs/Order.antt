@@ -23,7 +23,7 @@ use Rattle.headers.proofs.Texts.{no_value, by_reading}
 use Rattle.headers.proofs.Stages.{text_nonzero, object_nonzero, stopped}
 use Rattle.jwe_write.specs.Write.{Raw, raw_sizes, compact_text, writer_rules, parameters_order, write_order, write_refusal}
 use Rattle.jwe_write.specs.Answers.{WritesCompact}
-use Rattle.prelude.specs.declared.Stage.TheVariants.{Passed, Refused}
+use Rattle.prelude.specs.Refusals.{Passed, Refused}
 
 -- 6 and 7 on a header, by its length and its reading
 

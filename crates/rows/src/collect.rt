@@ -55,8 +55,7 @@ fn fill(
     requires width_in_bounds { from * width + count * width ≤ length table.old }
     ensures { table.new ≡ written (from * width) (flat text.now (entries_in (names list.now) text.now origin (members_of count rows.now))) table.old }
 {
-    let mut i: usize = 0;
-    while i < count {
+    for i in 0..count {
         let start = i * json_read::member::WIDTH;
         let end = start + json_read::member::WIDTH;
         put(
@@ -67,7 +66,6 @@ fn fill(
             table,
             (from + i) * layout::WIDTH,
         );
-        i += 1;
     }
 }
 

@@ -22,8 +22,8 @@ use Rattle.rows.proofs.Entries.{flat_length, entries_written}
 use Rattle.prelude.specs.Refusals.{Test, ◌if◌, first, stage_of}
 use Rattle.prelude.proofs.Refusals.{first_fails, first_passes}
 use Rattle.headers.specs.Headers.{is_nothing, unread, outermost, object_order}
-use Rattle.prelude.specs.declared.Stage.{Stage}
-use Rattle.prelude.specs.declared.Stage.TheVariants.{Passed, Refused}
+use Rattle.prelude.specs.Refusals.{Stage}
+use Rattle.prelude.specs.Refusals.{Passed, Refused}
 use Rattle.headers.proofs.Stages.{passed_is, object_nonzero}
 use Rattle.headers.proofs.Texts.{no_value}
 use Rattle.shape.specs.Shape.{member_names, member_entries, wrong_top, wrong_element}

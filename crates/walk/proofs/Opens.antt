@@ -23,7 +23,7 @@ use Rattle.prelude.proofs.Refusals.{first_fails, first_passes}
 use Rattle.prelude.specs.Limits.{longest}
 use Rattle.json_read.proofs.NumberParts.{same_found}
 use Rattle.headers.specs.Headers.{unread, protected_entries, object_order}
-use Rattle.prelude.specs.declared.Stage.TheVariants.{Passed, Refused}
+use Rattle.prelude.specs.Refusals.{Passed, Refused}
 use Rattle.headers.proofs.Stages.{passed_is, refused_is}
 use Rattle.headers.proofs.Texts.{no_value, by_reading}
 use Rattle.walk.specs.declared.Opening.{Opening}

@@ -65,7 +65,3 @@ escape_of p closed = None
 escape_of p (go_on (between waits)) = Some (record { next = p; waits = waits })
 escape_of p (go_on (escaping waits)) = None
 escape_of p (go_on (digit waits n x)) = None
-
--- Every octet of a block stands for itself.
-abbrev pub Plain : List ℕ → Type 0
-Plain block = (k : ℕ) → k < length block → is_unescaped (get_or block k 0) ≡ true

@@ -2,8 +2,7 @@
 use mathlib.Core.Path.{ap, sym, ◌∙◌}
 use native.Mathlib.Omega.{arith}
 use Rattle.prelude.specs.Any.{any}
-use Rattle.rows.specs.Rows.{texts}
-use Rattle.rows.specs.Tables.{entries_of}
+use Rattle.rows.specs.Inner.Views.{the_entries, the_texts}
 use Rattle.jose.specs.HeaderRules.{misplaced}
 use Rattle.jose.proofs.Elements.{elements_all}
 use Rattle.jose.proofs.Walks.{of_any, walk_spent, walk_end, walk_found, walk_on}
@@ -13,8 +12,7 @@ pub loop-left-init : goal.loop-left-init
 loop-left-init c =
     let given = c.args in
     let s = given.s.now in
-    let es = entries_of given.count given.table.now in
-    ap (any (misplaced (texts given.header.now given.shared.now given.own.now) es s))
+    ap (any (misplaced (the_texts given.h.texts) (the_entries given.h.entries) s))
     (elements_all s given.at c.inside-p.result.at c.inside-p.ensures)
 
 pub returns-in_default : goal.returns-in_default

@@ -14,6 +14,7 @@ use Rattle.jose.proofs.Elements.{elements_all, elements_spent, elements_none, el
 use Rattle.jose.proofs.Walks.{of_any, walk_spent, walk_end, walk_found, walk_on}
 use Rattle.shape.specs.Shape.{no_object}
 use Rattle.shape.proofs.Walking.{walking, refused_10, refused_11, walked_on, over, walked_out}
+use Rattle.prelude.specs.Refusals.{as_stage}
 use Rattle.shape.proofs.element.walk.Goals as goal
 
 pub loop-left-init : goal.loop-left-init
@@ -37,7 +38,7 @@ returns-in_default c =
     let s = c.args.message.now in
     let left = c.loop-left-test.true in
     let told = c.in_default.ensures in
-    let both = walked_out c.loop-left.invariant.0 (elements_none s c.loop-left.left c.loop-left.p.at left told) c.counted.result
+    let both = walked_out c.loop-left.invariant.0 (elements_none s c.loop-left.left c.loop-left.p.at left told) (as_stage c.counted.result)
     c.counted.ensures
     (walk_end (of_any no_object) _ s c.loop-left.left c.loop-left.p.at c.loop-left.invariant.0.some left told) in
     record { value = both.0; leaves = both.1 }
@@ -133,7 +134,7 @@ shape_of-starts c = c.loop-left.invariant.0.same
 pub returns : goal.returns
 returns c =
     let s = c.args.message.now in
-    let both = walked_out c.loop-left.invariant.0 (elements_spent s c.loop-left.left c.loop-left.p.at (omega arith)) c.counted-2.result
+    let both = walked_out c.loop-left.invariant.0 (elements_spent s c.loop-left.left c.loop-left.p.at (omega arith)) (as_stage c.counted-2.result)
     c.counted-2.ensures
     (walk_spent (of_any no_object) _ s c.loop-left.left c.loop-left.p.at c.loop-left.invariant.0.some (omega arith)) in
     record { value = both.0; leaves = both.1 }
