@@ -17,7 +17,7 @@ use Rattle.rows.proofs.Entries.{entries_length}
 use Rattle.headers.specs.Components.{Components, octets_at}
 use Rattle.headers.specs.Answers.{components_of}
 use Rattle.jwe.specs.Judge.{held}
-use Rattle.jwe.specs.declared.Holding.{Holding}
+use Rattle.jwe.specs.Answers.{Holding}
 use Rattle.matching.specs.Inner.Places.{Matched}
 use Rattle.parameters.specs.Lines.{missing, Line, line, line_if}
 use Rattle.parameters.specs.Inner.Putting.{EachReads, Valued}

@@ -14,10 +14,9 @@ ghost use Rattle.json_message.specs.JsonWrite.{raw_json};
 ghost use Rattle.json_write.specs.Answers.{WritesJson};
 ghost use Rattle.differences.specs.Answers.{Compares};
 
-use aad::Joined;
-use base64url::Decoded;
+use base64url::DecodeError;
 use differences::Answer;
-use jwe::Result;
+use jwe::Reading;
 use prelude::Place;
 use prelude::refusal::Refusal;
 
@@ -37,7 +36,7 @@ pub fn read(
     recipient: u32,
     header: &mut [u8],
     list: &mut [u32],
-) -> Result
+) -> jwe::Result
     ensures answered { numbers result
         ≡ result_of (call message.now known.now recipient
         (length header.old) (length list.old)) }
@@ -76,7 +75,7 @@ pub fn value<'a>(
 
 // Decodes one component: 5 where it is not base64url, then 1 where the output is shorter than the octets. They are at the
 // output's start, and the rest of it is unchanged; refused, all of it is.
-pub fn decode(text: &[u8], out: &mut [u8]) -> Decoded
+pub fn decode(text: &[u8], out: &mut [u8]) -> Result<usize, DecodeError>
     ensures { Decodes text.now out.old result out.new }
 {
     base64url::decode(text, out)
@@ -84,7 +83,7 @@ pub fn decode(text: &[u8], out: &mut [u8]) -> Decoded
 
 // Writes the additional authenticated data of an encoded protected header and an encoded aad, either of which may be empty, at
 // the output's start; the rest of it is unchanged, and all of it where there is too little room.
-pub fn aad(header: &[u8], aad: &[u8], out: &mut [u8]) -> Joined
+pub fn aad(header: &[u8], aad: &[u8], out: &mut [u8]) -> Option<usize>
     ensures { Joins header.now aad.now out.old result out.new }
 {
     aad::join(header, aad, out)

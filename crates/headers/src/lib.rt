@@ -15,7 +15,6 @@ ghost use Rattle.headers.specs.Components.{misspelled, with_key, sizes_of};
 ghost use Rattle.headers.specs.Headers.{header_text, text_order, protected_entries, object_order};
 ghost use Rattle.headers.specs.Answers.{place_of, components_of, header_buffer};
 
-use base64url::{Checked, Decoded};
 use jose::Sizes;
 use json_read::member::Collected;
 use json_read::{Found, Position};
@@ -73,11 +72,7 @@ pub fn misspelled(message: &[u8], place: Place) -> bool
     if place.len == 0 {
         return false;
     }
-    let checked = base64url::check(parts::part(message, place.start, place.len));
-    let Checked::Sound = checked else {
-        return true;
-    };
-    false
+    base64url::check(parts::part(message, place.start, place.len)).is_err()
 }
 
 // 8 and 9 on the object at a position of a text, which has been judged or not: its members as entries of the table from the
@@ -140,7 +135,7 @@ pub fn header(message: &[u8], place: Place, buffer: &mut [u8]) -> Result<usize, 
     ensures buffer_after { buffer.new ≡ header_buffer (header_text message.now (place_of place)) buffer.old }
 {
     let decoded = base64url::decode(parts::part(message, place.start, place.len), buffer);
-    let Decoded::Octets(n) = decoded else {
+    let Ok(n) = decoded else {
         return Err(Refusal::LongHeader);
     };
     let judged = json_read::judge(&buffer[..n], LEVELS);

@@ -11,8 +11,7 @@ ghost use Rattle.aad.specs.Aad.{aad_text, aad_refusal};
 ghost use Rattle.jwe_write.specs.Write.{raw, compact_text, write_refusal};
 ghost use Rattle.json_message.specs.JsonWrite.{raw_json, written_text, json_write_refusal};
 
-use aad::Joined;
-use base64url::Decoded;
+use base64url::DecodeError;
 use prelude::refusal::Refusal;
 
 pub mod component;
@@ -28,17 +27,16 @@ pub fn jwe_decode(text: &[u8], out: &mut [u8], octets: &mut usize) -> u32
 {
     let answer = gateway::decode(text, out);
     match answer {
-        Decoded::Octets(decoded) => {
+        Ok(decoded) => {
             *octets = decoded;
             0
         }
-        Decoded::Misspelled => {
+        Err(error) => {
             *octets = 0;
-            5
-        }
-        Decoded::Short => {
-            *octets = 0;
-            1
+            match error {
+                DecodeError::Misspelled => 5,
+                DecodeError::Short => 1,
+            }
         }
     }
 }
@@ -50,13 +48,12 @@ pub fn jwe_aad(encoded_header: &[u8], encoded_aad: &[u8], out: &mut [u8], octets
         (aad_text encoded_header.now encoded_aad.now)
         out.old result octets.new out.new }
 {
-    let answer = gateway::aad(encoded_header, encoded_aad, out);
-    match answer {
-        Joined::Octets(joined) => {
+    match gateway::aad(encoded_header, encoded_aad, out) {
+        Some(joined) => {
             *octets = joined;
             0
         }
-        Joined::Short => {
+        None => {
             *octets = 0;
             1
         }

@@ -9,7 +9,7 @@ ghost use Rattle.jose.specs.Registered.{kind_asked};
 ghost use Rattle.jose.specs.HeaderRules.{incomplete, wrong_kind, unlisted, unprotected, mode_in};
 
 use crate::lists::{ALG, CRIT, ENC, JWK, X5C, ZIP};
-use algorithms::{Alg, NamedAlg};
+use algorithms::Alg;
 use rows::layout::{ARRAY, OBJECT, STRING};
 use rows::table::{Entries, Entry, Texts};
 
@@ -103,10 +103,10 @@ fn mode_at(texts: Texts, e: Entry) -> u32
     ensures { result ≡ mode_of (nth algs (number_in alg_names (value_in (the_texts texts.entry) (the_entry e.entry)))) }
 {
     let list = algorithms::ALGS;
-    let NamedAlg::Alg(alg) = Alg::numbered(number_in(&list, texts, e)) else {
-        return 0;
-    };
-    alg.mode()
+    match Alg::numbered(number_in(&list, texts, e)) {
+        Some(alg) => alg.mode(),
+        None => 0,
+    }
 }
 
 // The mode of the algorithm that the first `alg` names; 0 where none is named or listed.

@@ -286,14 +286,8 @@ fn judge_parameters(
         sizes (recipients_in recipients.now))) n }
 {
     let mut table = [0u32; rows::layout::RECIPIENT_TABLE];
-    let protected = headers::protected_entries(header, &mut table);
-    let Ok(p) = protected else {
-        return protected;
-    };
-    let common = text_entries(shared, 1, &mut table, p);
-    let Ok(s) = common else {
-        return common;
-    };
+    let p = headers::protected_entries(header, &mut table)?;
+    let s = text_entries(shared, 1, &mut table, p)?;
     judge_recipients(
         header,
         shared,

@@ -9,13 +9,14 @@ use lib.ListN.{length, take, drop, get_or, drop_of_length-le, length-take, lengt
 use lib.Seq.{get_or-take, get_or-drop}
 use lib.Dec.{T, eqb, leb, ltb}
 use borrow.Author.Tests.{ltb-true, ltb-false, leb-true, eqb-true, eq-eqb, ne_eqb}
+use Rattle.std.specs.List.{position_or_len}
 use Rattle.prelude.proofs.Lists.{drop_next}
 use Rattle.prelude.proofs.Numbers.{below}
 use Rattle.grammar.specs.Grammar.{quote, backslash, letter_u, among, is_digit, is_unescaped, is_escape, is_hex}
 use Rattle.grammar.specs.Strings.{hex_digit, hex_more, is_high, is_low}
 use Rattle.grammar.specs.Reader.{End, refused, ended, Scan, between, escaping, digit, Turn, broken, closed, go_on}
 use Rattle.grammar.specs.Reader.{octet_at, step, skip, pass_over, turn, after_unit, after_char, scan_string, string_at}
-use Rattle.json_read.specs.Inner.Ends.{hex_at, resumed, Beyond, escape_of, Plain}
+use Rattle.json_read.specs.Inner.Ends.{hex_at, resumed, Beyond, escape_of}
 use Rattle.json_read.specs.declared.string.Escape.{Escape}
 use Rattle.json_read.specs.declared.string.Escape.TheVariants.{Next, Wrong}
 use Rattle.json_read.specs.declared.string.Hex.TheVariants.{More, Wrong as NoHex}
@@ -256,16 +257,6 @@ module _ (s : List ℕ) where
           ap (scan s (between false)) (skip_next is_unescaped s at h e) ∙ later (omega arith)
           ∙ sym (plain_next at h (ap is_unescaped (sym (octet_here s at h)) ∙ e))
 
-  -- a block of the class is skipped with what comes after it
-  pub plain_block : (m at : ℕ) → at + m ≤ length s → ((k : ℕ) → k < m → is_unescaped (get_or s (at + k) 0) ≡ true)
-      → skip is_unescaped s (at + m) ≡ skip is_unescaped s at
-  plain_block zero at l h = let e : at + 0 ≡ at = omega arith in ap (skip is_unescaped s) e
-  plain_block (suc m) at l h =
-      let next : at + suc m ≡ (at + m) + 1 = omega arith in
-      ap (skip is_unescaped s) next
-      ∙ sym (skip_next is_unescaped s (at + m) (omega arith) (h m (omega arith)))
-      ∙ plain_block m at (omega arith) (λ k l. h k (omega (arith, l)))
-
 pub pass_forward : (p : ℕ → Bool) (t : List ℕ) (at : ℕ) → at ≤ pass_over p t at
 unfolding pass_over
 pass_forward p [] at = omega arith
@@ -278,6 +269,21 @@ pass_forward p (c ∷ t) at = cases (p c) (pass_forward p t (at + 1))
 pub skip_forward : (p : ℕ → Bool) (s : List ℕ) (at : ℕ) → at ≤ skip p s at
 unfolding skip
 skip_forward p s at = pass_forward p (drop at s) at
+
+-- what is skipped ends at the first octet outside the class
+pass_first : (p : ℕ → Bool) (t : List ℕ) (at : ℕ) → at + position_or_len (λ c. not (p c)) t ≡ pass_over p t at
+unfolding pass_over
+pass_first p [] at = omega arith
+pass_first p (c ∷ t) at = cases (p c) (pass_first p t (at + 1))
+  where
+    cases : (b : Bool) → at + 1 + position_or_len (λ x. not (p x)) t ≡ pass_over p t (at + 1)
+        → at + cond (not (not b)) (1 + position_or_len (λ x. not (p x)) t) 0 ≡ cond b (pass_over p t (at + 1)) at
+    cases true later = omega (arith, later)
+    cases false later = omega arith
+
+pub skip_first : (p : ℕ → Bool) (s : List ℕ) (at : ℕ) → at + position_or_len (λ c. not (p c)) (drop at s) ≡ skip p s at
+unfolding skip
+skip_first p s at = pass_first p (drop at s) at
 
 -- The code's digit
 
@@ -299,25 +305,16 @@ farther at q (Next p waits) l b = omega (arith, l, b)
 farther at q Wrong l b = tt
 
 -- The code's test for the end of a run, over all octets
-pub stop_test : (c : ℕ) → c < 256 → (ltb c 32 || (eqb c 34 || eqb c 92)) ≡ not (is_unescaped c)
+pub stop_test : (c : ℕ) → c < 256 → ((ltb c 32 || eqb c 34) || eqb c 92) ≡ not (is_unescaped c)
 stop_test c h =
-    same (ltb c 32 || (eqb c 34 || eqb c 92)) (not (is_unescaped c))
-    (below (λ (n : ℕ). beq (ltb n 32 || (eqb n 34 || eqb n 92)) (not (is_unescaped n))) 256 tt c h)
+    same ((ltb c 32 || eqb c 34) || eqb c 92) (not (is_unescaped c))
+    (below (λ (n : ℕ). beq ((ltb n 32 || eqb n 34) || eqb n 92) (not (is_unescaped n))) 256 tt c h)
   where
     same : (a b : Bool) → T (beq a b) → a ≡ b
     same true true t = refl
     same true false t = absurd t
     same false true t = absurd t
     same false false t = refl
-
-pub plain_part : (s : List ℕ) (at m : ℕ) → at + m ≤ length s → Plain (take (at + m - at) (drop at s))
-    → skip is_unescaped s (at + m) ≡ skip is_unescaped s at
-plain_part s at m h plain =
-    let size : length (take (at + m - at) (drop at s)) ≡ m =
-    length-take (at + m - at) (drop at s) ∙ omega (arith, length-drop at s) in
-    plain_block s m at h (λ k l.
-    ap is_unescaped (sym (get_or-take (at + m - at) (drop at s) k 0 (omega (arith, l)) ∙ get_or-drop at s k 0))
-    ∙ plain k (omega (arith, l, size)))
 
 -- a run ends at an octet outside the class
 pub skip_stops : (p : ℕ → Bool) (s : List ℕ) (n at : ℕ) → length s - at ≤ n → p 256 ≡ false → p (octet_at s (skip p s at)) ≡ false

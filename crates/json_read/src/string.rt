@@ -1,9 +1,11 @@
 // Strings (RFC 8259 section 7), with the rule on halves of surrogate pairs. Runs of plain octets are passed over in blocks.
-ghost use Rattle.std.specs.Prelude.{◌≡◌, ◌+◌, ◌^◌, ◌≤◌, ◌<◌, true, false, not, length, drop, eqb, [], ◌∷◌};
+ghost use Rattle.std.specs.Prelude.{◌≡◌, ◌+◌, ◌^◌, ◌≤◌, ◌<◌, true, false, not, drop, [], ◌∷◌};
 ghost use Rattle.grammar.specs.Grammar.{among, is_unescaped, is_escape, is_hex};
 ghost use Rattle.grammar.specs.Strings.{hex_digit, is_high, is_low};
 ghost use Rattle.grammar.specs.Reader.{octet_at, skip, between, escaping, digit, after_unit, scan_string, string_at};
-ghost use Rattle.json_read.specs.Inner.Ends.{ends_of, hex_at, Small, resumed, Beyond, escape_of, Plain};
+ghost use Rattle.json_read.specs.Inner.Ends.{ends_of, hex_at, Small, resumed, Beyond, escape_of};
+
+use blocks::Kind;
 
 use crate::{Ends, Position};
 
@@ -96,27 +98,16 @@ fn after_unit(p: Position, half: bool, u: u32) -> Escape
     Escape::Next(p, is_high(u))
 }
 
-// Whether an octet does not stand for itself in a string.
-fn is_stop(c: u8) -> bool
-    ensures { result ≡ not (is_unescaped c) }
-{
-    (c < 32) | ((c == 34) | (c == 92))
-}
+// An octet that does not stand for itself in a string.
+#[derive(Clone, Copy)]
+struct Stop;
 
-// How many do not; counted in an octet and without another exit, so that it is done sixteen at a time.
-fn count_stops(block: &[u8]) -> u8
-    requires { length block.now ≤ 64 }
-    ensures { result ≡ 0 → Plain block.now }
-{
-    let mut count: u8 = 0;
-    let mut k: usize = 0;
-    while k < block.len() {
-        if is_stop(block[k]) {
-            count += 1;
-        }
-        k += 1;
+impl Kind for Stop {
+    ghost has = { λ kind c. not (is_unescaped c) };
+
+    fn has(self, c: u8) -> bool {
+        (c < 32) | (c == b'"') | (c == b'\\')
     }
-    count
 }
 
 impl Position {
@@ -175,56 +166,13 @@ impl Position {
         Escape::Next(self.step(s), false)
     }
 
-    // Past the octets here that stand for themselves. Names and most values are short: blocks begin after sixteen octets.
+    // Past the octets here that stand for themselves.
     fn skip_plain(self, s: &[u8]) -> Position
         ensures { result.at ≡ skip is_unescaped s.now self.at }
     {
-        let mut at = self.at;
-        let mut few: usize = 0;
-        while few < 16 {
-            if s.len() <= at {
-                return Position { at };
-            }
-            if is_stop(s[at]) {
-                return Position { at };
-            }
-            at += 1;
-            few += 1;
+        Position {
+            at: blocks::seek::<Stop, 64>(Stop, s, self.at),
         }
-        Position { at }.skip_long(s)
-    }
-
-    // The same for a long run.
-    fn skip_long(self, s: &[u8]) -> Position
-        ensures { result.at ≡ skip is_unescaped s.now self.at }
-    {
-        let mut at = self.skip_blocks(s).at;
-        while at < s.len() {
-            if is_stop(s[at]) {
-                return Position { at };
-            }
-            at += 1;
-        }
-        Position { at }
-    }
-
-    // Past whole blocks of such octets.
-    fn skip_blocks(self, s: &[u8]) -> Position
-        ensures { skip is_unescaped s.now result.at ≡ skip is_unescaped s.now self.at }
-    {
-        let n = s.len();
-        let mut at = self.at;
-        if n < at {
-            return self;
-        }
-        while 64 <= n - at {
-            let e = at + 64;
-            if count_stops(&s[at..e]) != 0 {
-                break;
-            }
-            at = e;
-        }
-        Position { at }
     }
 
     // Past them, unless a first half waits.

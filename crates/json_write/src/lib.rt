@@ -5,12 +5,12 @@
 ghost use Rattle.std.specs.Prelude.{◌≡◌};
 ghost use Rattle.json_message.specs.JsonWrite.{raw_json};
 ghost use Rattle.json_message.specs.WriteOrder.{most_for};
+ghost use Rattle.prelude.specs.Refusals.{as_stage};
 ghost use Rattle.json_write.specs.Answers.{WritesJson};
 
 use jose::Sizes;
 use prelude::refusal::Refusal;
 use prelude::limits::{LONGEST, MOST_RECIPIENTS};
-use recipients::Counted;
 
 // How many recipients a message may have, general or flattened.
 fn most_for(general: bool) -> usize
@@ -37,13 +37,12 @@ pub fn write(
     ensures { WritesJson general
         (raw_json protected.now shared.now aad.now iv.now ciphertext.now
         tag.now recipients.now)
-        known.now out.old result out.new }
+        known.now out.old (as_stage result) out.new }
 {
     if !names::sound(known) {
         return Err(Refusal::KnownNames);
     }
-    let counted = recipients::count(recipients);
-    let Counted::Recipients(n) = counted else {
+    let Some(n) = recipients::count(recipients) else {
         return Err(Refusal::RecipientTable);
     };
     if most_for(general) < n {
@@ -61,10 +60,7 @@ pub fn write(
         ciphertext: ciphertext.len(),
         tag: tag.len(),
     };
-    let judged = json_judge::judge_within(general, protected, shared, known, recipients, n, sizes);
-    let Ok(_) = judged else {
-        return judged;
-    };
+    json_judge::judge_within(general, protected, shared, known, recipients, n, sizes)?;
     if out.len() < size {
         return Err(Refusal::ShortOutput);
     }

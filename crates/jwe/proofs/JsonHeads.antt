@@ -19,7 +19,7 @@ use Rattle.jwe.specs.Judge.{Outcome, place, accepted, refused}
 use Rattle.jwe.specs.Answers.{numbers, refused_by}
 use Rattle.jwe.specs.Inner.Stages.{own_tests, rule_tests, ruled_tests, all_tests, headed_order, Judges}
 use Rattle.headers.specs.declared.Components.{Components}
-use Rattle.jwe.specs.declared.Result.{Result}
+use Rattle.jwe.specs.Answers.{Result}
 use Rattle.jwe.proofs.Answering.{refuses}
 use Rattle.jwe.proofs.JsonOrder.{stop, skip, own_nonzero, rule_nonzero, content_nonzero}
 

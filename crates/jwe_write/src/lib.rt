@@ -44,10 +44,7 @@ fn parameters(header: &[u8], known: &[u8], sizes: Sizes) -> Result<usize, Refusa
     ensures { as_stage result ≡ stage_of (first (parameters_order (names known.now) header.now sizes)) (mode_in (one_text header.now) (protected_entries header.now)) }
 {
     let mut table = [0u32; rows::layout::HEADER_TABLE];
-    let collected = headers::protected_entries(header, &mut table);
-    let Ok(count) = collected else {
-        return collected;
-    };
+    let count = headers::protected_entries(header, &mut table)?;
     let texts = Texts {
         header,
         shared: header,
@@ -139,25 +136,19 @@ pub fn write(
     known: &[u8],
     out: &mut [u8],
 ) -> Result<usize, Refusal>
-    ensures { WritesCompact (raw header.now key.now iv.now ciphertext.now tag.now) known.now out.old result out.new }
+    ensures { WritesCompact (raw header.now key.now iv.now ciphertext.now tag.now) known.now out.old (as_stage result) out.new }
 {
     if !names::sound(known) {
         return Err(Refusal::KnownNames);
     }
-    let read = text(header);
-    let Ok(_) = read else {
-        return read;
-    };
+    text(header)?;
     let sizes = Sizes {
         key: key.len(),
         iv: iv.len(),
         ciphertext: ciphertext.len(),
         tag: tag.len(),
     };
-    let ruled = parameters(header, known, sizes);
-    let Ok(_) = ruled else {
-        return ruled;
-    };
+    parameters(header, known, sizes)?;
     let n = message_length(header, key, iv, ciphertext, tag);
     if LONGEST < n {
         return Err(Refusal::LongMessage);

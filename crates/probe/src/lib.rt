@@ -12,7 +12,6 @@ ghost use Rattle.grammar.specs.Spellings.{alike, has};
 ghost use Rattle.json_read.specs.Inner.Numbers.{judge_refusal, value_kind, found_end};
 ghost use Rattle.probe.specs.Inner.Texts.{texts_same};
 
-use base64url::{Checked, Encoded};
 use json_read::{Found, Position};
 use same::Value;
 
@@ -23,8 +22,8 @@ pub extern "C" fn probe_check(text: &[u8]) -> u32
 {
     let answer = base64url::check(text);
     match answer {
-        Checked::Sound => 0,
-        Checked::Faulty => 5,
+        Ok(()) => 0,
+        Err(_) => 5,
     }
 }
 
@@ -45,11 +44,11 @@ pub extern "C" fn probe_encode(octets: &[u8], out: &mut [u8], at: usize, end: &m
 {
     let answer = base64url::encode(octets, out, at);
     match answer {
-        Encoded::End(next) => {
+        Some(next) => {
             *end = next;
             0
         }
-        Encoded::Full => {
+        None => {
             *end = 0;
             1
         }

@@ -11,7 +11,7 @@ use Rattle.shape.specs.Inner.Answers.{recipient_width, recipients_room}
 use Rattle.jwe.specs.Judge.{held}
 use Rattle.jwe.specs.Inner.Stages.{recipient_at, own_table}
 use Rattle.jwe.specs.Inner.Holding.{HoldsShare, HoldsCommon}
-use Rattle.jwe.specs.declared.Holding.{Holding}
+use Rattle.jwe.specs.Answers.{Holding}
 use Rattle.parameters.specs.Lines.{missing, Line, line, line_if, line_width, laid}
 use Rattle.parameters.specs.Inner.Putting.{KeptLeft, KeptRight}
 use Rattle.differences.specs.Differences.{compared, texts_of, whole}

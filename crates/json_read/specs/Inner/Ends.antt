@@ -1,5 +1,5 @@
 -- The code's answers for those of the reader.
-use Rattle.std.specs.Prelude.{ℕ, ◌+◌, ◌*◌, ◌<◌, ◌≡◌, true, cond, List, length, drop, get_or}
+use Rattle.std.specs.Prelude.{ℕ, ◌+◌, ◌*◌, ◌<◌, ◌≡◌, cond, List, drop}
 use Rattle.std.proofs.Math.Option.{Option, none, some}
 use Rattle.grammar.specs.Grammar.{is_unescaped, is_hex}
 use Rattle.grammar.specs.Strings.{hex_more}
@@ -60,7 +60,3 @@ escape_of p closed = Wrong
 escape_of p (go_on (between waits)) = Next p waits
 escape_of p (go_on (escaping waits)) = Wrong
 escape_of p (go_on (digit waits n x)) = Wrong
-
--- Every octet of a block stands for itself.
-abbrev pub Plain : List ℕ → Type 0
-Plain block = (k : ℕ) → k < length block → is_unescaped (get_or block k 0) ≡ true

@@ -22,7 +22,7 @@ use Rattle.shape.specs.Inner.Answers.{recipient_width}
 use Rattle.jwe.specs.General.{own_entries, is_hollow}
 use Rattle.jwe.specs.Judge.{Outcome, answered}
 use Rattle.jwe.specs.Answers.{numbers, BeginsWith}
-use Rattle.jwe.specs.declared.Result.{Result}
+use Rattle.jwe.specs.Answers.{Result}
 
 -- The room for the entries that are handed out: those of a recipient's three headers where the message is JSON, else of the
 -- protected one.

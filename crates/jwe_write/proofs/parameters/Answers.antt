@@ -8,8 +8,7 @@ use Rattle.names.specs.Names.{names}
 use Rattle.rows.specs.Rows.{Entry, one_text}
 use Rattle.rows.specs.Inner.Prints.{collected_table}
 use Rattle.rows.proofs.Printing.{stand_in_one, printed_at}
-use Rattle.prelude.specs.Refusals.{first, stage_of}
-use Rattle.prelude.specs.declared.Stage.TheVariants.{Passed}
+use Rattle.prelude.specs.Refusals.{first, stage_of, as_stage, number_of, Passed}
 use Rattle.prelude.proofs.Refusals.{first_skip}
 use Rattle.jose.specs.HeaderRules.{mode_in}
 use Rattle.headers.specs.Headers.{protected_entries, object_order}
@@ -25,25 +24,26 @@ passed_kept : (header after : List ℕ) (count : ℕ) →
     Kept header (protected_entries header) (replicate 256 0) after count
 passed_kept header after count told left = kept_passed header (protected_entries header) (replicate 256 0) after count (omega arith) told left
 
-pub returns-in_default : goal.returns-in_default
-returns-in_default c =
+pub returns-in_err-count : goal.returns-in_err-count
+returns-in_err-count c =
     let header = c.args.header.now in
     let es = protected_entries header in
-    let r = refused_is c.in_default.field-0 _ _ (sym c.in_default.is ∙ c.protected_entries-collected.ensures.value) in
-    let all = stopped (object_order header es) _ (object_nonzero header es) c.in_default.field-0 r.0 r.1 in
-    c.in_default.is ∙ refuses _ r.1 ∙ ap (λ (n : ℕ). stage_of n (mode_in (one_text header) es)) (sym all)
+    let n = number_of c.in_err-count.field-0.0 in
+    let r = refused_is n _ _ (sym (ap as_stage c.in_err-count.was) ∙ c.protected_entries.ensures.value) in
+    let all = stopped (object_order header es) _ (object_nonzero header es) n r.0 r.1 in
+    ap as_stage c.in_err-count.was ∙ refuses _ r.1 ∙ ap (λ (n : ℕ). stage_of n (mode_in (one_text header) es)) (sym all)
 
 pub invariant_of-entries : goal.invariant_of-entries
 invariant_of-entries c =
-    let collected = c.protected_entries-collected.ensures in
-    let kept = passed_kept c.args.header.now _ _ (sym c.in-Passed.is ∙ collected.value) collected.table_after in
+    let collected = c.protected_entries.ensures in
+    let kept = passed_kept c.args.header.now _ _ (sym (ap as_stage c.in_ok-count.was) ∙ collected.value) collected.table_after in
     record { fits = kept.fits }
 
 pub invariant_of-only : goal.invariant_of-only
 invariant_of-only c =
     let header = c.args.header.now in
-    let collected = c.protected_entries-collected.ensures in
-    let kept = passed_kept header _ _ (sym c.in-Passed.is ∙ collected.value) collected.table_after in
+    let collected = c.protected_entries.ensures in
+    let kept = passed_kept header _ _ (sym (ap as_stage c.in_ok-count.was) ∙ collected.value) collected.table_after in
     let printed = kept_printed (one_text header) kept (stand_in_one header (protected_entries header)) in
     record { printed = λ i below. printed_at _ i _ _ below printed }
 
@@ -52,8 +52,8 @@ returns c =
     let header = c.args.header.now in
     let es = protected_entries header in
     let ts = one_text header in
-    let collected = c.protected_entries-collected.ensures in
-    let kept = passed_kept header _ _ (sym c.in-Passed.is ∙ collected.value) collected.table_after in
+    let collected = c.protected_entries.ensures in
+    let kept = passed_kept header _ _ (sym (ap as_stage c.in_ok-count.was) ∙ collected.value) collected.table_after in
     c.judge_protected.ensures
     ∙ ap (λ (es : List Entry). stage_of (first (writer_rules (names c.args.known.now) header es c.args.sizes)) (mode_in ts es)) kept.entries
     ∙ ap (λ (n : ℕ). stage_of n (mode_in ts es))

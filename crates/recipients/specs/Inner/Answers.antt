@@ -1,13 +1,11 @@
 -- The answers of the code on a table.
-use Rattle.std.specs.Prelude.{List, cond, ℕ, ◌+◌}
+use Rattle.std.specs.Prelude.{List, cond, ℕ, Option, Some, None, ◌+◌}
 use Rattle.recipients.specs.Parsed.{said_count, header_length, key_length, body_start, sound_table}
 use Rattle.recipients.specs.declared.Body.{Body}
-use Rattle.recipients.specs.declared.Counted.{Counted}
-use Rattle.recipients.specs.declared.Counted.TheVariants.{Recipients, Malformed}
 
 -- How many recipients there are, where the table is sound.
-unfoldable pub count_answer : List ℕ → Counted
-count_answer t = cond (sound_table t) (Recipients (said_count t)) Malformed
+unfoldable pub count_answer : List ℕ → Option ℕ
+count_answer t = cond (sound_table t) (Some (said_count t)) None
 
 -- Where the i-th recipient's header and key stand.
 unfoldable pub body_at : List ℕ → ℕ → Body

@@ -1,6 +1,6 @@
 -- `recipients` asks for the form: the top level is the one recipient of a flattened message; the elements of a general
 -- one are walked along, and then read by their starts.
-use mathlib.Core.Path.{◌≡◌, ap, sym, subst, ◌∙◌, ap, sym}
+use mathlib.Core.Path.{◌≡◌, ap, sym, subst, ◌∙◌}
 use mathlib.Core.Bool.{true}
 use mathlib.Core.List.{List}
 use Prim.Native.Nat.{ℕ, ◌≤◌}
@@ -13,7 +13,7 @@ use Rattle.rows.specs.Inner.Views.{the_entries}
 use Rattle.grammar.specs.Grammar.{curly, square}
 use Rattle.grammar.specs.Bounds.{Every}
 use Rattle.json_read.specs.Inner.Known.{KnownIn}
-use Rattle.prelude.specs.Refusals.{first, as_stage, number_of, as_stage}
+use Rattle.prelude.specs.Refusals.{first, as_stage, number_of}
 use Rattle.headers.proofs.Stages.{passed_is}
 use Rattle.shape.specs.Shape.{Recipient}
 use Rattle.shape.specs.Inner.Answers.{flat_recipients, starts_of, array_order}
@@ -21,7 +21,7 @@ use Rattle.shape.proofs.Known.{recipients_known, elements_known}
 use Rattle.shape.proofs.Forms.{flattened, flattened_numbers, general_refused, eight, starts_count, starts_are}
 use Rattle.shape.proofs.Forms.{general, general_none, general_writes}
 use borrow.Author.Rules.{rules}
-use Rattle.prelude.proofs.Exits.{handed_up, handed_up}
+use Rattle.prelude.proofs.Exits.{handed_up}
 use Rattle.shape.proofs.recipients.Goals as goal
 
 pub returns-then-not-present : goal.returns-then-not-present

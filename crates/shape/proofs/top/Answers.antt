@@ -1,6 +1,6 @@
 -- `top` reads the text, collects the entries of the object that it is, and asks the definition's questions of them. The
 -- list of names in the source is that of the definition, by computing.
-use mathlib.Core.Path.{◌≡◌, ap, sym, subst, ◌∙◌, ap, sym}
+use mathlib.Core.Path.{◌≡◌, ap, sym, subst, ◌∙◌}
 use mathlib.Core.Bool.{false}
 use mathlib.Core.List.{flatten}
 use lib.ListN.{length}
@@ -10,7 +10,7 @@ use Rattle.names.proofs.Laws.{names_of_lem}
 use Rattle.rows.specs.Inner.Prints.{collected_table}
 use Rattle.grammar.specs.Grammar.{curly}
 use Rattle.json_read.specs.Inner.Known.{KnownIn}
-use Rattle.prelude.specs.Refusals.{first, stage_of, as_stage, as_stage}
+use Rattle.prelude.specs.Refusals.{first, stage_of, as_stage}
 use Rattle.headers.specs.Headers.{unread, object_order}
 use Rattle.headers.proofs.Texts.{no_value}
 use Rattle.shape.specs.Shape.{member_names, wrong_top}
@@ -21,7 +21,7 @@ use Rattle.shape.proofs.Objects.{object_refused, object_wrong, object_passed}
 use Rattle.shape.proofs.Objects.{top_entries_lem, unread_is, top_unread, top_order_lem, top_kept, top_collected}
 use Rattle.shape.proofs.Known.{top_object}
 use borrow.Author.Rules.{rules}
-use Rattle.prelude.proofs.Exits.{handed_up, handed_up}
+use Rattle.prelude.proofs.Exits.{handed_up}
 use Rattle.shape.proofs.top.Goals as goal
 
 pub returns-in_default : goal.returns-in_default

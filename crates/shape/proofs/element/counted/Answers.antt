@@ -1,5 +1,5 @@
 -- `counted` tells no element from some.
-use mathlib.Core.Path.{ap, sym, ap, sym}
+use mathlib.Core.Path.{ap, sym}
 use mathlib.Core.Bool.{Bool, cond}
 use borrow.Author.Tests.{eq-eqb, ne_eqb}
 use Rattle.prelude.specs.Refusals.{Passed, Refused}

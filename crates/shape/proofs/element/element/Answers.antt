@@ -1,6 +1,6 @@
 -- `element` collects the entries of the element, asks the definition's questions of them, and writes the recipient. The
 -- list of names in the source is that of the definition, by computing.
-use mathlib.Core.Path.{◌≡◌, refl, ap, sym, ◌∙◌, ap, sym}
+use mathlib.Core.Path.{◌≡◌, refl, ap, sym, ◌∙◌}
 use mathlib.Core.List.{List, flatten}
 use lib.ListN.{length}
 use Rattle.prelude.specs.Ascii.{ascii}
@@ -8,7 +8,7 @@ use Rattle.prelude.specs.Buffer.{written}
 use Rattle.names.specs.Names.{list_of}
 use Rattle.names.proofs.Laws.{names_of_lem}
 use Rattle.rows.specs.Rows.{Entry}
-use Rattle.prelude.specs.Refusals.{first, stage_of, as_stage, number_of, as_stage}
+use Rattle.prelude.specs.Refusals.{first, stage_of, as_stage, number_of}
 use Rattle.headers.specs.Headers.{object_order}
 use Rattle.shape.specs.Shape.{member_names, wrong_element, recipient_of}
 use Rattle.shape.specs.Recipients.{element_entries}
@@ -17,7 +17,7 @@ use Rattle.shape.proofs.Objects.{Entered, object_answer, object_table_lem, enter
 use Rattle.shape.proofs.Objects.{object_refused, object_wrong, object_passed, element_entries_lem, element_order_lem, leaves_refused}
 use borrow.Author.Rules.{rules}
 use Rattle.names.specs.Names.{filled, total}
-use Rattle.prelude.proofs.Exits.{handed_up, exit_refused, handed_up}
+use Rattle.prelude.proofs.Exits.{handed_up, exit_refused}
 use Rattle.shape.proofs.element.element.Goals as goal
 
 pub returns-in_err-count : goal.returns-in_err-count

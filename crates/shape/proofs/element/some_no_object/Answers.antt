@@ -1,5 +1,5 @@
 -- `some_no_object` walks along the elements: what is asked of those from here on stays the answer.
-use mathlib.Core.Path.{refl, ap, sym, ◌∙◌, ap, sym}
+use mathlib.Core.Path.{refl, ap, sym, ◌∙◌}
 use mathlib.Core.Bool.{not}
 use native.Mathlib.Omega.{arith}
 use borrow.Author.Tests.{eq-eqb, ne_eqb}

@@ -1,7 +1,7 @@
 -- `walk` goes along the elements: so many are objects, and their starts are written; after the eighth, the rest is
 -- asked for one that is no object.
 use Prim.Native.Nat.{◌-◌}
-use mathlib.Core.Path.{refl, ap, sym, ◌∙◌, ap, sym}
+use mathlib.Core.Path.{refl, ap, sym, ◌∙◌}
 use mathlib.Core.Bool.{not}
 use native.Mathlib.Omega.{arith}
 use borrow.Author.Tests.{eq-eqb, ne_eqb}
@@ -14,7 +14,7 @@ use Rattle.jose.proofs.Elements.{elements_all, elements_spent, elements_none, el
 use Rattle.jose.proofs.Walks.{of_any, walk_spent, walk_end, walk_found, walk_on}
 use Rattle.shape.specs.Shape.{no_object}
 use Rattle.shape.proofs.Walking.{walking, refused_10, refused_11, walked_on, over, walked_out}
-use Rattle.prelude.specs.Refusals.{as_stage, as_stage}
+use Rattle.prelude.specs.Refusals.{as_stage}
 use Rattle.shape.proofs.element.walk.Goals as goal
 
 pub loop-left-init : goal.loop-left-init
