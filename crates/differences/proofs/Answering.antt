@@ -17,26 +17,21 @@ use Rattle.jwe.specs.Inner.Stages.{own_table}
 use Rattle.jwe.specs.Inner.Holding.{Holds}
 use Rattle.jwe.specs.Answers.{Holding}
 use Rattle.parameters.specs.Lines.{Line, line_width, laid}
-use Rattle.parameters.specs.Inner.Putting.{Appends}
 use Rattle.differences.specs.Differences.{compared, differences}
 use Rattle.differences.specs.Answers.{refusal_of, both_accepted, holds_all, compare_number, shown_lines, answer_of, Compares}
-use Rattle.differences.specs.Inner.Opened.{Sided, Answers}
+use Rattle.differences.specs.Inner.Holding.{Judges, Fronted}
+use Rattle.differences.specs.Inner.Handing.{Answers}
 use Rattle.differences.specs.declared.Answer.{Answer}
 
 -- Where both are accepted: the list is too short, or holds all.
-module _ (ls : List Line) (before : List ℕ) (count : ℕ) {empty full : List ℕ} (a : Appends 0 empty count full ls) where
+module _ (ls : List Line) (before : List ℕ) where
   abbrev by : Bool → List Line
   by b = cond b ls []
 
-  many : count ≡ length ls
-  many = omega (arith, a.count)
-
-  pub answers_short : length before < count * line_width →
-      Answers ls before (record { number = 1; left = 0; right = 0; lines = 0 }) before
+  pub answers_short : length before < length ls * line_width → Answers ls before (record { number = 1; left = 0; right = 0; lines = 0 }) before
   unfolding written laid
   answers_short h =
-      let none : leb (length ls * line_width) (length before) ≡ false =
-      lt-leb (length ls * line_width) (length before) (omega (arith, h, many)) in
+      let none : leb (length ls * line_width) (length before) ≡ false = lt-leb (length ls * line_width) (length before) h in
       record {
         number = sym (ap (λ (b : Bool). cond b 0 1) none);
         accepted = (refl, refl);
@@ -44,19 +39,15 @@ module _ (ls : List Line) (before : List ℕ) (count : ℕ) {empty full : List �
         leaves = sym (ap (λ (b : Bool). written 0 (laid (by b)) before) none);
       }
 
-  pub answers_all : (after : List ℕ) → count * line_width ≤ length before →
-      after ≡ written 0 (take (count * line_width) full) before →
-      Answers ls before (record { number = 0; left = 0; right = 0; lines = count }) after
-  answers_all after h w =
-      let all : leb (length ls * line_width) (length before) ≡ true =
-      le-leb (length ls * line_width) (length before) (omega (arith, h, many)) in
+  pub answers_all : (count : ℕ) (after : List ℕ) → count ≡ length ls → length ls * line_width ≤ length before →
+      after ≡ written 0 (laid ls) before → Answers ls before (record { number = 0; left = 0; right = 0; lines = count }) after
+  answers_all count after e h w =
+      let all : leb (length ls * line_width) (length before) ≡ true = le-leb (length ls * line_width) (length before) h in
       record {
         number = sym (ap (λ (b : Bool). cond b 0 1) all);
         accepted = (refl, refl);
-        lines = many ∙ sym (ap (λ (b : Bool). length (by b)) all);
-        leaves =
-            w ∙ ap (λ (xs : List ℕ). written 0 xs before) a.front
-            ∙ sym (ap (λ (b : Bool). written 0 (laid (by b)) before) all);
+        lines = e ∙ sym (ap (λ (b : Bool). length (by b)) all);
+        leaves = w ∙ sym (ap (λ (b : Bool). written 0 (laid (by b)) before) all);
       }
 
 -- By both refusals.
@@ -112,22 +103,23 @@ module _ (left right known before : List ℕ) where
         leaves = a.leaves ∙ sym (ap (λ (b : Bool). written 0 (laid (lines_by b)) before) yes);
       }
 
--- A side as `hold` leaves it.
-pub sided : (message : List ℕ) (x : Holding) (text table of own counts : List ℕ) →
-    Holds message (held message) x text table of own counts → length table ≡ recipient_table → length of ≡ recipients_room →
-    length own ≡ own_table → length counts ≡ most_recipients → Sided message (take x.header text) x table of own counts
-sided message x text table of own counts h t o w k = record {
-  opened = record {
-    decoded = h.header;
-    front = h.common;
-    share = h.share;
-    long = t;
-    keys = o;
-    owned = w;
-    counted = k;
-  };
+-- A message as `hold` leaves it, and its table.
+
+pub judged : (message : List ℕ) (x : Holding) (text table of own counts : List ℕ) →
+    Holds message (held message) x text table of own counts → length of ≡ recipients_room → length own ≡ own_table →
+    length counts ≡ most_recipients → Judges message (take x.header text) x of own counts
+judged message x text table of own counts h o w k = record {
+  decoded = h.header;
   form = h.form;
   recipients = h.recipients;
   few = h.few;
   components = h.components;
+  share = h.share;
+  keys = o;
+  owned = w;
+  counted = k;
 }
+
+pub fronted : (message : List ℕ) (x : Holding) (text table of own counts : List ℕ) →
+    Holds message (held message) x text table of own counts → length table ≡ recipient_table → Fronted message x.common table
+fronted message x text table of own counts h t = record { front = h.common; long = t }

@@ -1,5 +1,4 @@
-pub mod Recipients
 pub mod Readings
-pub mod Turns
-pub mod Sides
+pub mod Judging
+pub mod Putting
 pub mod Answering

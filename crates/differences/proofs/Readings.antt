@@ -19,10 +19,9 @@ use Rattle.shape.specs.Recipients.{top_of, top_entries, recipients_in}
 use Rattle.jwe.specs.General.{shared_entries, own_entries}
 use Rattle.jwe.specs.Judge.{Held, json_held, compact_held, held, asked}
 use Rattle.same.specs.Inner.Walking.{Reads}
-use Rattle.matching.specs.Inner.Places.{nth}
+use Rattle.matching.specs.Matching.{value_of}
+use Rattle.matching.specs.Inner.Places.{nth, EntryReads, EachReads}
 use Rattle.matching.proofs.Partners.{some_is}
-use Rattle.parameters.specs.Parameters.{value_of}
-use Rattle.parameters.specs.Inner.Putting.{EntryReads, EachReads}
 
 module _ (ts : Texts) where
   abbrev Each : List Entry → Type 0

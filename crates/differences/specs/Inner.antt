@@ -1,2 +1,3 @@
 -- What only contracts inside cite.
-pub mod Opened
+pub mod Holding
+pub mod Handing

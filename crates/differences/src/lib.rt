@@ -2,22 +2,29 @@
 // changed only where it holds them all.
 #![tactic(auto)]
 
-ghost use Rattle.std.specs.Prelude.{◌≡◌, ◌+◌, ◌*◌, ◌≤◌, min, length};
-ghost use Rattle.prelude.specs.Limits.{most_members, most_recipients};
+ghost use Rattle.std.specs.Prelude.{◌≡◌, ◌++◌, ◌+◌, ◌*◌, ◌≤◌, not, min, length};
+ghost use Rattle.grammar.specs.Spellings.{equal};
 ghost use Rattle.headers.specs.Answers.{place_of};
-ghost use Rattle.shape.specs.Inner.Answers.{recipient_width};
+ghost use Rattle.headers.specs.Components.{octets_at};
 ghost use Rattle.same.specs.Inner.Walking.{work_room};
-ghost use Rattle.parameters.specs.Lines.{line_if, line_width};
-ghost use Rattle.parameters.specs.Inner.Putting.{Appends};
-ghost use Rattle.differences.specs.Differences.{compared, whole, up_to, recipient_lines, differences};
-ghost use Rattle.differences.specs.Inner.Opened.{other_at, component_lines, whole_lines, key_line, recipient_most, most_lines, Fronted, Opened, CommonLeft, CommonRight, Sided, Answers};
+ghost use Rattle.jwe.specs.Judge.{held};
+ghost use Rattle.parameters.specs.Lines.{line_if};
+ghost use Rattle.parameters.specs.Inner.Puts.{most_lines, kind_number, recipient_most};
+ghost use Rattle.parameters.specs.Inner.Kept.{Keeps};
+ghost use Rattle.differences.specs.Differences.{compared, texts_of, whole, up_to, message_lines, key_lines, recipient_lines, differences};
+ghost use Rattle.differences.specs.Inner.Holding.{Fronted};
+ghost use Rattle.differences.specs.Inner.Handing.{Answers};
 ghost use Rattle.differences.specs.Answers.{answer_of, Compares};
 
-use jwe::{Holding, held};
-use parameters::lines;
+use jwe::held;
+use message::Judged;
+use parameters::Kept;
+use parameters::lines::{self, Kind, Lines, missing};
 use prelude::Place;
-use prelude::limits::{HEADER_ROOM, MOST_MEMBERS, MOST_RECIPIENTS};
+use prelude::limits::{HEADER_ROOM, MOST_RECIPIENTS};
 use rows::layout;
+
+mod message;
 
 // The own number, 1 where the list is too short; the refusal of either message, 0 where it is accepted; how many lines there are.
 #[derive(Clone, Copy)]
@@ -27,10 +34,6 @@ pub struct Answer {
     pub right: u32,
     pub lines: usize,
 }
-
-// Lines are at most so many: seven of the whole message, one for each key, and for each recipient two for each of 96 parameters on the left
-// and one for each on the right.
-const MOST_LINES: usize = 7 + MOST_RECIPIENTS + MOST_RECIPIENTS * (9 * MOST_MEMBERS);
 
 // The answer where a message is refused.
 fn refused(left: u32, right: u32) -> Answer
@@ -46,7 +49,7 @@ fn refused(left: u32, right: u32) -> Answer
 
 // Whether what stands at two places is spelled otherwise.
 fn other(left: &[u8], q: Place, right: &[u8], p: Place) -> bool
-    ensures { result ≡ other_at left.now (place_of q) right.now (place_of p) }
+    ensures { result ≡ not (equal (octets_at left.now (place_of q)) (octets_at right.now (place_of p))) }
 {
     !prelude::equal(
         parts::part(left, q.start, q.len),
@@ -54,351 +57,121 @@ fn other(left: &[u8], q: Place, right: &[u8], p: Place) -> bool
     )
 }
 
-// A line of kind 0 to 6, where something holds.
-fn put_whole(test: bool, lines: &mut [u32], at: usize, kind: u32) -> usize
-    requires { at * line_width + line_width ≤ length lines.old }
-    ensures appends { Appends at lines.old result lines.new (line_if test (whole kind)) }
-    ensures upper_bound { result ≤ at + 1 }
+// A line of the whole message, where something holds.
+fn put_whole(test: bool, kind: Kind, lines: &mut Lines)
+    requires { length lines.old + 1 ≤ most_lines }
+    ensures lines { lines.new ≡ lines.old ++ line_if test (whole (kind_number kind)) }
+    ensures upper_bound { length lines.new ≤ length lines.old + 1 }
 {
-    lines::put_if(test, lines, at, kind, 0, lines::missing(), lines::missing())
+    lines.put_if(test, kind, 0, missing(), missing());
 }
 
-// The lines of the components that are all recipients': iv, aad, ciphertext, tag.
-fn put_components(
-    left: &[u8],
-    l: Holding,
-    right: &[u8],
-    r: Holding,
-    lines: &mut [u32],
-    at: usize,
-) -> usize
-    requires { (at + 4) * line_width ≤ length lines.old }
-    ensures appends { Appends at lines.old result lines.new (component_lines left.now l right.now r) }
-    ensures upper_bound { result ≤ at + 4 }
+// The lines of the whole message.
+fn put_message(left: &Judged<'_>, right: &Judged<'_>, lines: &mut Lines)
+    requires { length lines.old + 7 ≤ most_lines }
+    ensures lines { lines.new ≡ lines.old ++ message_lines (compared left.now.message.now) (compared right.now.message.now) }
+    ensures upper_bound { length lines.new ≤ length lines.old + 7 }
 {
-    let q = l.components;
-    let p = r.components;
-    let one = put_whole(other(left, q.iv, right, p.iv), lines, at, 3);
-    let two = put_whole(other(left, q.aad, right, p.aad), lines, one, 4);
-    let three = put_whole(
-        other(left, q.ciphertext, right, p.ciphertext),
-        lines,
-        two,
-        5,
-    );
-    put_whole(other(left, q.tag, right, p.tag), lines, three, 6)
-}
-
-// The lines of kinds 0 to 6.
-fn put_message(
-    left: &[u8],
-    left_header: &[u8],
-    l: Holding,
-    right: &[u8],
-    right_header: &[u8],
-    r: Holding,
-    lines: &mut [u32],
-) -> usize
-    requires { most_lines * line_width ≤ length lines.old }
-    ensures appends { Appends 0 lines.old result lines.new
-        (whole_lines left.now left_header.now l right.now right_header.now r) }
-    ensures upper_bound { result ≤ 7 }
-{
-    let one = put_whole(l.form != r.form, lines, 0, 0);
-    let two = put_whole(l.recipients != r.recipients, lines, one, 1);
-    let same = prelude::equal(left_header, right_header);
-    let three = put_whole(!same, lines, two, 2);
-    put_components(left, l, right, r, lines, three)
+    let (l, r) = (left.message, right.message);
+    let (q, p) = (left.holds.components, right.holds.components);
+    put_whole(left.holds.form != right.holds.form, Kind::Form, lines);
+    put_whole(left.holds.recipients != right.holds.recipients, Kind::Recipients, lines);
+    put_whole(!prelude::equal(left.header, right.header), Kind::Header, lines);
+    put_whole(other(l, q.iv, r, p.iv), Kind::Iv, lines);
+    put_whole(other(l, q.aad, r, p.aad), Kind::Aad, lines);
+    put_whole(other(l, q.ciphertext, r, p.ciphertext), Kind::Ciphertext, lines);
+    put_whole(other(l, q.tag, r, p.tag), Kind::Tag, lines);
 }
 
 // The lines of the keys of the first recipients.
-fn put_keys(
-    left: &[u8],
-    left_of: &[usize],
-    right: &[u8],
-    right_of: &[usize],
-    both: usize,
-    lines: &mut [u32],
-    at: usize,
-) -> usize
-    requires both_le_most_recipients { both ≤ most_recipients }
-    requires recipient_width_in_bounds { both * recipient_width ≤ length left_of.now }
-    requires recipient_width_in_bounds_2 { both * recipient_width ≤ length right_of.now }
-    requires line_width_in_bounds { (at + both) * line_width ≤ length lines.old }
-    ensures appends { Appends at lines.old result lines.new
-        (up_to (key_line left.now left_of.now right.now right_of.now) both) }
-    ensures upper_bound { result ≤ at + both }
+fn put_keys(left: &Judged<'_>, right: &Judged<'_>, both: usize, lines: &mut Lines)
+    requires both_le_left { both ≤ left.now.holds.recipients }
+    requires both_le_right { both ≤ right.now.holds.recipients }
+    requires room { length lines.old + both ≤ most_lines }
+    ensures lines { lines.new ≡ lines.old ++ up_to (key_lines (compared left.now.message.now) (compared right.now.message.now)) both }
+    ensures upper_bound { length lines.new ≤ length lines.old + both }
 {
-    let mut m = at;
-    let mut n: usize = 0;
-    while n < both {
-        let q = held::key(left_of, n);
-        let p = held::key(right_of, n);
-        let differs = other(left, q, right, p);
-        m = lines::put_if(
-            differs,
-            lines,
-            m,
-            7,
-            n as u32,
-            lines::missing(),
-            lines::missing(),
-        );
-        n += 1;
+    for n in 0..both {
+        let differs = other(left.message, left.key(n), right.message, right.key(n));
+        lines.put_if(differs, Kind::Key, n as u32, missing(), missing());
     }
-    m
 }
 
-// The lines of the parameters of the first recipients, one after the other. The tables begin with the parameters that are all recipients',
-// and each recipient's own are put behind them in turn.
-fn put_parameters<'a, 'b>(
-    left_header: &'a [u8],
-    left: &'a [u8],
+// The lines of the parameters of the first recipients, one after the other.
+fn put_parameters(
+    left: &Judged<'_>,
     left_table: &mut [u32],
-    left_common: usize,
-    left_of: &[usize],
-    left_own: &[u32],
-    left_counts: &[usize],
-    right_header: &'b [u8],
-    right: &'b [u8],
+    right: &Judged<'_>,
     right_table: &mut [u32],
-    right_common: usize,
-    right_of: &[usize],
-    right_own: &[u32],
-    right_counts: &[usize],
     both: usize,
-    partners: &[usize],
-    others: &[u32],
-    back: &[usize],
-    lines: &mut [u32],
-    at: usize,
-    work: &mut [u32],
-) -> usize
-    requires opened { Opened left.now left_header.now left_common both left_table.old left_of.now left_own.now left_counts.now }
-    requires opened_2 { Opened right.now right_header.now right_common both right_table.old right_of.now right_own.now right_counts.now }
-    requires both_le_most_recipients { both ≤ most_recipients }
-    requires common_left { CommonLeft left.now right.now partners.now others.now }
-    requires common_right { CommonRight left.now right.now back.now }
-    requires line_width_in_bounds { (at + both * recipient_most) * line_width ≤ length lines.old }
-    requires work_room_in_bounds { work_room ≤ length work.old }
-    ensures appends { Appends at lines.old result lines.new
-        (up_to (recipient_lines (compared left.now) (compared right.now)) both) }
-    ensures upper_bound { result ≤ at + both * recipient_most }
-{
-    let mut m = at;
-    let mut n: usize = 0;
-    while n < both {
-        let mine = held::gather(left_own, left_counts, n, left_table, left_common);
-        let yours = held::gather(right_own, right_counts, n, right_table, right_common);
-        m = parameters::put_recipient(
-            left_header,
-            left,
-            left_table,
-            left_common,
-            mine,
-            right_header,
-            right,
-            right_table,
-            right_common,
-            yours,
-            partners,
-            others,
-            back,
-            n as u32,
-            lines,
-            m,
-            work,
-        );
-        n += 1;
-    }
-    m
-}
-
-// The lower of two numbers.
-fn lower(a: usize, b: usize) -> usize
-    ensures { result ≡ min a b }
-{
-    if a <= b { a } else { b }
-}
-
-// The parameters that are all recipients', matched and compared once.
-fn keep_common<'a, 'b>(
-    left_header: &'a [u8],
-    left: &'a [u8],
-    left_table: &[u32],
-    left_common: usize,
-    right_header: &'b [u8],
-    right: &'b [u8],
-    right_table: &[u32],
-    right_common: usize,
-    partners: &mut [usize],
-    others: &mut [u32],
-    back: &mut [usize],
+    kept: &Kept,
+    lines: &mut Lines,
     work: &mut [u32],
 )
-    requires fronted { Fronted left.now left_header.now left_common left_table.now }
-    requires fronted_2 { Fronted right.now right_header.now right_common right_table.now }
-    requires partners_len { length partners.old ≡ 2 * most_members }
-    requires others_len { length others.old ≡ 2 * most_members }
-    requires back_len { length back.old ≡ 2 * most_members }
+    requires fronted { Fronted left.now.message.now left.now.holds.common left_table.old }
+    requires fronted_2 { Fronted right.now.message.now right.now.holds.common right_table.old }
+    requires both_le_left { both ≤ left.now.holds.recipients }
+    requires both_le_right { both ≤ right.now.holds.recipients }
+    requires keeps { Keeps (texts_of (compared left.now.message.now)) (texts_of (compared right.now.message.now)) (held left.now.message.now).common (held right.now.message.now).common kept.now }
+    requires room { length lines.old + both * recipient_most ≤ most_lines }
     requires work_room_in_bounds { work_room ≤ length work.old }
-    ensures common_left { CommonLeft left.now right.now partners.new others.new }
-    ensures common_right { CommonRight left.now right.now back.new }
+    ensures lines { lines.new ≡ lines.old ++ up_to (recipient_lines (compared left.now.message.now) (compared right.now.message.now)) both }
+    ensures upper_bound { length lines.new ≤ length lines.old + both * recipient_most }
 {
-    matching::seek_all(
-        left_header,
-        left,
-        left_table,
-        left_common,
-        right_header,
-        right,
-        right_table,
-        right_common,
-        partners,
-    );
-    parameters::compare_all(
-        left_header,
-        left,
-        left_table,
-        left_common,
-        right_header,
-        right,
-        right_table,
-        right_common,
-        partners,
-        others,
-        work,
-    );
-    matching::seek_all(
-        right_header,
-        right,
-        right_table,
-        right_common,
-        left_header,
-        left,
-        left_table,
-        left_common,
-        back,
-    );
+    for n in 0..both {
+        let mine = left.gather(n, left_table);
+        let yours = right.gather(n, right_table);
+        parameters::put_recipient(
+            &left.side(n, left_table, mine),
+            &right.side(n, right_table, yours),
+            kept,
+            n as u32,
+            lines,
+            work,
+        );
+    }
 }
 
-// All lines, in order; how many there are.
-fn put_all<'a, 'b>(
-    left_header: &'a [u8],
-    left: &'a [u8],
+// All lines, in order. The parameters that are all recipients' are matched and compared once.
+fn put_all(
+    left: &Judged<'_>,
     left_table: &mut [u32],
-    l: Holding,
-    left_of: &[usize],
-    left_own: &[u32],
-    left_counts: &[usize],
-    right_header: &'b [u8],
-    right: &'b [u8],
+    right: &Judged<'_>,
     right_table: &mut [u32],
-    r: Holding,
-    right_of: &[usize],
-    right_own: &[u32],
-    right_counts: &[usize],
-    lines: &mut [u32],
+    lines: &mut Lines,
     work: &mut [u32],
-) -> usize
-    requires sided { Sided left.now left_header.now l left_table.old left_of.now left_own.now left_counts.now }
-    requires sided_2 { Sided right.now right_header.now r right_table.old right_of.now right_own.now right_counts.now }
-    requires lines_len { length lines.old ≡ most_lines * line_width }
+)
+    requires fronted { Fronted left.now.message.now left.now.holds.common left_table.old }
+    requires fronted_2 { Fronted right.now.message.now right.now.holds.common right_table.old }
+    requires empty { length lines.old ≡ 0 }
     requires work_room_in_bounds { work_room ≤ length work.old }
-    ensures appends { Appends 0 lines.old result lines.new (differences (compared left.now) (compared right.now)) }
-    ensures upper_bound { result ≤ most_lines }
+    ensures lines { lines.new ≡ lines.old ++ differences (compared left.now.message.now) (compared right.now.message.now) }
+    ensures upper_bound { length lines.new ≤ most_lines }
 {
-    let left_common = l.common;
-    let right_common = r.common;
-    let mut partners = [0usize; 64];
-    let mut others = [0u32; 64];
-    let mut back = [0usize; 64];
-    keep_common(
-        left_header,
-        left,
-        left_table,
-        left_common,
-        right_header,
-        right,
-        right_table,
-        right_common,
-        &mut partners,
-        &mut others,
-        &mut back,
-        work,
-    );
-    let whole = put_message(left, left_header, l, right, right_header, r, lines);
-    let both = lower(l.recipients, r.recipients);
-    let keys = put_keys(left, left_of, right, right_of, both, lines, whole);
-    put_parameters(
-        left_header,
-        left,
-        left_table,
-        left_common,
-        left_of,
-        left_own,
-        left_counts,
-        right_header,
-        right,
-        right_table,
-        right_common,
-        right_of,
-        right_own,
-        right_counts,
-        both,
-        &partners,
-        &others,
-        &back,
-        lines,
-        keys,
-        work,
-    )
+    let kept = parameters::keep(&left.front(left_table), &right.front(right_table), work);
+    let both = left.holds.recipients.min(right.holds.recipients);
+    put_message(left, right, lines);
+    put_keys(left, right, both, lines);
+    put_parameters(left, left_table, right, right_table, both, &kept, lines, work);
 }
 
 // The answer where both messages are accepted: the lines are copied to the list where it holds them all.
-fn hand_out<'a, 'b>(
-    left_header: &'a [u8],
-    left: &'a [u8],
+fn hand_out(
+    left: &Judged<'_>,
     left_table: &mut [u32],
-    l: Holding,
-    left_of: &[usize],
-    left_own: &[u32],
-    left_counts: &[usize],
-    right_header: &'b [u8],
-    right: &'b [u8],
+    right: &Judged<'_>,
     right_table: &mut [u32],
-    r: Holding,
-    right_of: &[usize],
-    right_own: &[u32],
-    right_counts: &[usize],
     list: &mut [u32],
 ) -> Answer
-    requires sided { Sided left.now left_header.now l left_table.old left_of.now left_own.now left_counts.now }
-    requires sided_2 { Sided right.now right_header.now r right_table.old right_of.now right_own.now right_counts.now }
-    ensures { Answers (differences (compared left.now) (compared right.now)) list.old result list.new }
+    requires fronted { Fronted left.now.message.now left.now.holds.common left_table.old }
+    requires fronted_2 { Fronted right.now.message.now right.now.holds.common right_table.old }
+    ensures { Answers (differences (compared left.now.message.now) (compared right.now.message.now)) list.old result list.new }
 {
-    let mut lines = [0u32; MOST_LINES * lines::WIDTH];
+    let mut lines = Lines::new();
     let mut work = [0u32; same::WORK_ROOM];
-    let count = put_all(
-        left_header,
-        left,
-        left_table,
-        l,
-        left_of,
-        left_own,
-        left_counts,
-        right_header,
-        right,
-        right_table,
-        r,
-        right_of,
-        right_own,
-        right_counts,
-        &mut lines,
-        &mut work,
-    );
-    let end = count * lines::WIDTH;
-    if list.len() < end {
+    put_all(left, left_table, right, right_table, &mut lines, &mut work);
+    let count = lines.len();
+    if list.len() < count * lines::WIDTH {
         return Answer {
             number: 1,
             left: 0,
@@ -406,7 +179,7 @@ fn hand_out<'a, 'b>(
             lines: 0,
         };
     }
-    rows::copy::copy(&lines[..end], list, 0);
+    lines.hand_out(list);
     Answer {
         number: 0,
         left: 0,
@@ -454,23 +227,21 @@ pub fn compare(left: &[u8], right: &[u8], known: &[u8], list: &mut [u32]) -> Ans
     if r.number != 0 {
         return refused(0, r.number);
     }
-    let h = l.header;
-    let g = r.header;
-    hand_out(
-        &left_text[..h],
-        left,
-        &mut left_table,
-        l,
-        &left_of,
-        &left_own,
-        &left_counts,
-        &right_text[..g],
-        right,
-        &mut right_table,
-        r,
-        &right_of,
-        &right_own,
-        &right_counts,
-        list,
-    )
+    let mine = Judged {
+        message: left,
+        header: &left_text[..l.header],
+        holds: l,
+        of: &left_of,
+        own: &left_own,
+        counts: &left_counts,
+    };
+    let yours = Judged {
+        message: right,
+        header: &right_text[..r.header],
+        holds: r,
+        of: &right_of,
+        own: &right_own,
+        counts: &right_counts,
+    };
+    hand_out(&mine, &mut left_table, &yours, &mut right_table, list)
 }

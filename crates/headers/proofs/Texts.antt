@@ -20,7 +20,8 @@ use Rattle.grammar.specs.Places.{Place}
 use Rattle.grammar.specs.Reader.{Answer, nothing, found, read_text}
 use Rattle.json_read.specs.Inner.Ends.{found_of}
 use Rattle.json_read.specs.declared.Found.{Found}
-use Rattle.json_read.specs.declared.Found.TheVariants.{Value, Nothing}
+use Rattle.std.specs.Prelude as std
+use Rattle.std.specs.Prelude.{Some, None}
 use Rattle.prelude.specs.Refusals.{first, stage_of}
 use Rattle.prelude.specs.Outputs.{octets_written, output_after}
 use Rattle.headers.specs.Components.{octets_at, misspelled}
@@ -142,15 +143,15 @@ unfolding stage_of
 refused_6 {header} d e = sym (stage_of_lem header true (unread header) (too_long_lem d e) refl)
 
 -- Whether there is no reading, by the answer.
-abbrev pub no_value : Found → Bool
-no_value (Value end kind) = false
-no_value Nothing = true
+abbrev pub no_value : std.Option Found → Bool
+no_value (Some v) = false
+no_value None = true
 
 pub by_reading : (a : Answer) → no_value (found_of a) ≡ is_nothing a
 by_reading nothing = refl
 by_reading (found e k) = refl
 
-module _ {header last : List ℕ} {n : ℕ} (b : Begins header last n) {answer : Found}
+module _ {header last : List ℕ} {n : ℕ} (b : Begins header last n) {answer : std.Option Found}
     (a : answer ≡ found_of (read_text 12 (take n last))) where
   unread_is : unread header ≡ no_value answer
   unfolding unread

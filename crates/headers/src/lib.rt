@@ -16,8 +16,7 @@ ghost use Rattle.headers.specs.Headers.{header_text, text_order, protected_entri
 ghost use Rattle.headers.specs.Answers.{place_of, components_of, header_buffer};
 
 use jose::Sizes;
-use json_read::member::Collected;
-use json_read::{Found, Position};
+use json_read::Position;
 use prelude::limits::LEVELS;
 use prelude::Place;
 use prelude::refusal::Refusal;
@@ -93,8 +92,7 @@ pub fn object(
     ensures value { as_stage result ≡ stage_of (first (object_order s.now (entries_in (names list.now) s.now origin (members_at levels s.now at)))) (length (members_at levels s.now at)) }
     ensures table_after { table.new ≡ collected_table from s.now (entries_in (names list.now) s.now origin (members_at levels s.now at)) table.old }
 {
-    let collected = rows::collect::collect(s, at, origin, list, table, from, judged);
-    let Collected::Rows(count) = collected else {
+    let Some(count) = rows::collect::collect(s, at, origin, list, table, from, judged) else {
         return Err(Refusal::ManyMembers);
     };
     let first = from * rows::layout::WIDTH;
@@ -138,8 +136,7 @@ pub fn header(message: &[u8], place: Place, buffer: &mut [u8]) -> Result<usize, 
     let Ok(n) = decoded else {
         return Err(Refusal::LongHeader);
     };
-    let judged = json_read::judge(&buffer[..n], LEVELS);
-    let Found::Value(_, _) = judged else {
+    let Some(_) = json_read::judge(&buffer[..n], LEVELS) else {
         return Err(Refusal::Unread);
     };
     Ok(n)

@@ -12,7 +12,7 @@ ghost use Rattle.jose.specs.Inner.Elements.{element_of, elements_from};
 
 use crate::lists::CRIT;
 use json_read::Position;
-use json_read::member::{Member, Row};
+use json_read::member::Row;
 use prelude::limits::LEVELS;
 use rows::layout::STRING;
 use rows::table::{Entry, Headers};
@@ -33,11 +33,10 @@ fn spelled(s: &[u8], row: Row) -> &[u8]
 fn empty(s: &[u8], at: usize) -> bool
     ensures { result ≡ is_empty (elements_at levels s.now at) }
 {
-    let first = Position { at }.inside(s).element(s, LEVELS, false);
-    let Member::Here(_, _) = first else {
-        return true;
-    };
-    false
+    Position { at }
+        .inside(s)
+        .element(s, LEVELS, false)
+        .is_none()
 }
 
 // Whether an element is no string, or none of the known names.
@@ -56,14 +55,13 @@ fn some_unknown(s: &[u8], known: &[u8], at: usize) -> bool
     let mut p = Position { at }.inside(s);
     let mut left = s.len();
     while 0 < left {
-        let found = p.element(s, LEVELS, false);
-        let Member::Here(row, next) = found else {
+        let Some(found) = p.element(s, LEVELS, false) else {
             return false;
         };
-        if unknown(s, known, row) {
+        if unknown(s, known, found.row) {
             return true;
         }
-        p = next;
+        p = found.next;
         left -= 1;
     }
     false
@@ -83,14 +81,13 @@ fn again(s: &[u8], row: Row, from: Position, turns: usize) -> bool
     let mut p = from;
     let mut left = turns;
     while 0 < left {
-        let found = p.element(s, LEVELS, false);
-        let Member::Here(other, next) = found else {
+        let Some(found) = p.element(s, LEVELS, false) else {
             return false;
         };
-        if same(s, row, other) {
+        if same(s, row, found.row) {
             return true;
         }
-        p = next;
+        p = found.next;
         left -= 1;
     }
     false
@@ -104,14 +101,13 @@ fn twice(s: &[u8], at: usize) -> bool
     let mut p = Position { at }.inside(s);
     let mut left = s.len();
     while 0 < left {
-        let found = p.element(s, LEVELS, false);
-        let Member::Here(row, next) = found else {
+        let Some(found) = p.element(s, LEVELS, false) else {
             return false;
         };
-        if again(s, row, next, left - 1) {
+        if again(s, found.row, found.next, left - 1) {
             return true;
         }
-        p = next;
+        p = found.next;
         left -= 1;
     }
     false
@@ -137,14 +133,13 @@ fn some_misplaced(h: Headers, s: &[u8], at: usize) -> bool
     let mut p = Position { at }.inside(s);
     let mut left = s.len();
     while 0 < left {
-        let found = p.element(s, LEVELS, false);
-        let Member::Here(row, next) = found else {
+        let Some(found) = p.element(s, LEVELS, false) else {
             return false;
         };
-        if misplaced(h, s, row) {
+        if misplaced(h, s, found.row) {
             return true;
         }
-        p = next;
+        p = found.next;
         left -= 1;
     }
     false

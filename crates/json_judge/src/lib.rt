@@ -19,14 +19,16 @@ ghost use Rattle.json_message.specs.Inner.Judged.{own_levels};
 ghost use Rattle.json_message.specs.Inner.PiecesOrder.{hollow_text};
 ghost use Rattle.jwe.specs.Answers.{refused_by};
 ghost use Rattle.json_judge.specs.Inner.Asked.{Readable, OwnReadable, OwnShort, Front, unread_texts, hollow_texts};
+ghost use Rattle.json_judge.specs.Inner.Faults.{fault_number, as_judged};
 ghost use Rattle.json_judge.specs.Inner.Asked.{own_tests, rules_tests, recipients_tests, parameters_tests};
 ghost use Rattle.json_judge.specs.Inner.Asked.{over_tests, within_tests};
 
 use jose::Sizes;
-use jose::content::Named;
 use jose::lists::ENC;
-use json_read::{Found, Position};
+use json_read::Position;
+use prelude::Place;
 use prelude::refusal::Refusal;
+use rows::table::{Entries, Headers, Texts};
 use prelude::limits::{HEADER_ROOM, LEVELS};
 
 // 7 on a text within so many levels; an absent one is not judged.
@@ -36,11 +38,7 @@ fn unread_within(levels: u32, text: &[u8]) -> bool
     if text.len() == 0 {
         return false;
     }
-    let judged = json_read::judge(text, levels);
-    let Found::Value(_, _) = judged else {
-        return true;
-    };
-    false
+    json_read::judge(text, levels).is_none()
 }
 
 // 7 on the own headers.
@@ -117,23 +115,12 @@ fn text_entries(text: &[u8], origin: u32, table: &mut [u32], from: usize) -> Res
     headers::object(text, at, origin, &list, table, from, true)
 }
 
-// The refusal of a stage, 0 where it passed.
-fn number(stage: Stage) -> u32
-    ensures { result ≡ refused_by stage }
-{
-    let Err(n) = stage else {
-        return 0;
-    };
-    n
-}
-
-// What a recipient is refused for: 8 or 9 on its own header, and, where that passes, 12 to 18. 0 where for nothing. And where the
-// content algorithm of its own header stands.
+// What a recipient whose own header passes 8 and 9 is refused for, 12 to 18, and where the content algorithm of that header
+// stands.
 #[derive(Clone, Copy)]
 struct Faults {
-    object: u32,
-    rules: u32,
-    content: Named,
+    rules: Option<Refusal>,
+    content: Option<Place>,
 }
 
 // A recipient with this own header and these sizes judged. The first entries of the table are all recipients', and
@@ -146,68 +133,67 @@ fn judge_recipient(
     sizes: Sizes,
     table: &mut [u32],
     front: usize,
-) -> Faults
+) -> Result<Faults, Refusal>
     requires known_value { filled known.now ≡ true }
     requires readable { Readable own.now }
     requires header_table_in_bounds { front * width + header_table ≤ length table.old }
     requires front { Front header.now shared.now front table.old }
-    ensures object_value { result.object ≡ first (own_tests own.now) }
-    ensures rules_value { result.object ≡ 0 → result.rules ≡ first
+    ensures object_value { (as_judged result).object ≡ first (own_tests own.now) }
+    ensures rules_value { (as_judged result).object ≡ 0 → (as_judged result).rules ≡ first
         (rules_tests (names known.now) header.now shared.now own.now sizes) }
-    ensures content_value { result.object ≡ 0 → result.content ≡ named_in (text_entries 2 own.now) }
+    ensures content_value { (as_judged result).object ≡ 0 → (as_judged result).content ≡ named_in (text_entries 2 own.now) }
     ensures table_len_unchanged { (length table.new ≡ length table.old)
         × Front header.now shared.now front table.new }
 {
-    let collected = text_entries(own, 2, table, front);
-    let Ok(count) = collected else {
-        return Faults {
-            object: number(collected),
-            rules: 0,
-            content: Named::Nothing,
-        };
+    let count = text_entries(own, 2, table, front)?;
+    let texts = Texts {
+        header,
+        shared,
+        own,
     };
-    let judged = jose::judge::judge(header, shared, own, known, table, front + count, sizes);
-    let start = front * rows::layout::WIDTH;
-    Faults {
-        object: 0,
-        rules: number(judged),
-        content: jose::content::sole(&table[start..], count),
-    }
-}
-
-// The first of two refusals that is one.
-fn earlier(a: u32, b: u32) -> u32
-    ensures { result ≡ cond (eqb a 0) b a }
-{
-    if a == 0 { b } else { a }
+    let entries = Entries {
+        table,
+        count: front + count,
+    };
+    let headers = Headers { texts, entries };
+    let its = Entries {
+        table: &table[front * rows::layout::WIDTH..],
+        count,
+    };
+    Ok(Faults {
+        rules: jose::judge::judge(headers, known, sizes).err(),
+        content: jose::content::sole(its),
+    })
 }
 
 // Where the first recipient's content algorithm stands, behind recipient i.
-fn first_content(i: usize, so_far: Named, its: Named) -> Named
+fn first_content(i: usize, so_far: Option<Place>, its: Option<Place>) -> Option<Place>
     ensures { result ≡ cond (eqb i 0) its so_far }
 {
     if i == 0 { its } else { so_far }
 }
 
 // 21 where a recipient's content algorithm differs from the first one's, each in its own header.
-fn content_fault(first: &[u8], named: Named, own: &[u8], its: Named) -> u32
-    ensures { result ≡ cond (differ (shown_in first.now named) (shown_in own.now its)) 21 0 }
+fn content_fault(
+    first: &[u8],
+    named: Option<Place>,
+    own: &[u8],
+    its: Option<Place>,
+) -> Option<Refusal>
+    ensures { fault_number result ≡ cond (differ (shown_in first.now named) (shown_in own.now its)) 21 0 }
 {
     if jose::content::differ(first, named, own, its) {
-        return 21;
+        return Some(Refusal::ContentAlgorithms);
     }
-    0
+    None
 }
 
 // The refusal of all recipients: the first one by the rules, and then 21 on their own headers, unless a header that all share has
 // `enc`.
-fn fault_of_all(rules: u32, shared: bool, content: u32) -> u32
-    ensures { result ≡ cond (eqb rules 0) (cond shared 0 content) rules }
+fn fault_of_all(rules: Option<Refusal>, shared: bool, content: Option<Refusal>) -> Option<Refusal>
+    ensures { fault_number result ≡ cond (eqb (fault_number rules) 0) (cond shared 0 (fault_number content)) (fault_number rules) }
 {
-    if rules != 0 {
-        return rules;
-    }
-    if shared { 0 } else { content }
+    rules.or(if shared { None } else { content })
 }
 
 // 8 and 9 on each recipient's own header, 12 to 18 on each recipient, and 21 on all. Each own header is collected once: while the
@@ -232,10 +218,14 @@ fn judge_recipients(
         sizes (recipients_in recipients.now))) n }
     ensures table_len_unchanged { length table.new ≡ length table.old }
 {
-    let has_enc = rows::ask::present(table, front, ENC);
-    let mut broken: u32 = 0;
-    let mut content: u32 = 0;
-    let mut named = Named::Nothing;
+    let has_enc = Entries {
+        table,
+        count: front,
+    }
+    .present(ENC);
+    let mut broken = None;
+    let mut content = None;
+    let mut named = None;
     let mut start = 1 + 8 * n;
     let head = recipients::recipient(recipients, 0, start);
     let first = parts::part(recipients, head.header.start, head.header.len);
@@ -249,22 +239,17 @@ fn judge_recipients(
             ciphertext: sizes.ciphertext,
             tag: sizes.tag,
         };
-        let faults = judge_recipient(header, shared, own, known, its, table, front);
-        if faults.object != 0 {
-            return Err(faults.object);
-        }
-        broken = earlier(broken, faults.rules);
-        let at = faults.content;
-        named = first_content(i, named, at);
-        content = earlier(content, content_fault(first, named, own, at));
+        let faults = judge_recipient(header, shared, own, known, its, table, front)?;
+        broken = broken.or(faults.rules);
+        named = first_content(i, named, faults.content);
+        content = content.or(content_fault(first, named, own, faults.content));
         start = body.key.start + body.key.len;
         i += 1;
     }
-    let refusal = fault_of_all(broken, has_enc, content);
-    if refusal != 0 {
-        return Err(refusal);
+    match fault_of_all(broken, has_enc, content) {
+        Some(refusal) => Err(refusal),
+        None => Ok(n),
     }
-    Ok(n)
 }
 
 // 8 and 9 on all texts, 12 to 18 on each recipient, and 21 on all.

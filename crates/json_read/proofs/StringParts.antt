@@ -16,11 +16,13 @@ use Rattle.grammar.specs.Grammar.{quote, backslash, letter_u, among, is_digit, i
 use Rattle.grammar.specs.Strings.{hex_digit, hex_more, is_high, is_low}
 use Rattle.grammar.specs.Reader.{End, refused, ended, Scan, between, escaping, digit, Turn, broken, closed, go_on}
 use Rattle.grammar.specs.Reader.{octet_at, step, skip, pass_over, turn, after_unit, after_char, scan_string, string_at}
-use Rattle.json_read.specs.Inner.Ends.{hex_at, resumed, Beyond, escape_of}
+use Rattle.json_read.specs.Inner.Ends.{more, hex_at, resumed, Beyond, escape_of}
 use Rattle.json_read.specs.declared.string.Escape.{Escape}
-use Rattle.json_read.specs.declared.string.Escape.TheVariants.{Next, Wrong}
-use Rattle.json_read.specs.declared.string.Hex.TheVariants.{More, Wrong as NoHex}
+use Rattle.std.specs.Prelude as std
+use Rattle.std.specs.Prelude.{Some, None}
 use Rattle.json_read.specs.declared.Position.{Position}
+use Rattle.json_read.specs.declared.string.Hex.{Hex}
+use Rattle.json_read.proofs.NumberParts.{same_found}
 use Rattle.grammar.proofs.Scan.{T→true, all, among_all}
 use Rattle.grammar.proofs.Here.{octet_here, octet_end, step_inside, class_inside, skip_end, skip_next, skip_stop}
 
@@ -101,27 +103,26 @@ hex_lower c e h = cases (leb c 70) refl (hex_all (λ n. leb n 70 || leb 87 n) c 
 -- A digit of \u
 
 -- what the answer says of the octet
-hex_wrong : (s : List ℕ) (at x : ℕ) → NoHex ≡ hex_at s at x → is_hex (octet_at s at) ≡ false
+hex_wrong : (s : List ℕ) (at x : ℕ) → None ≡ hex_at s at x → is_hex (octet_at s at) ≡ false
 unfolding hex_at
 hex_wrong s at x e = cases (is_hex (octet_at s at)) refl e
   where
     cases : (b : Bool) → is_hex (octet_at s at) ≡ b
-        → NoHex ≡ cond b (More (record { at = step s at }) (hex_more x (octet_at s at))) NoHex → is_hex (octet_at s at) ≡ false
+        → None ≡ cond b (more (record { at = step s at }) (hex_more x (octet_at s at))) None → is_hex (octet_at s at) ≡ false
     cases true f e = let z : ◌≡◌ {A = ℕ} 0 1 = cc in absurd (omega arith)
     cases false f e = f
 
-hex_more_lem : (s : List ℕ) (at x : ℕ) (p : Position) (y : ℕ) → More p y ≡ hex_at s at x
+hex_more_lem : (s : List ℕ) (at x : ℕ) (p : Position) (y : ℕ) → more p y ≡ hex_at s at x
     → (is_hex (octet_at s at) ≡ true) × (p.at ≡ step s at) × (y ≡ hex_more x (octet_at s at))
 unfolding hex_at
 hex_more_lem s at x p y e = cases (is_hex (octet_at s at)) refl e
   where
     cases : (b : Bool) → is_hex (octet_at s at) ≡ b
-        → More p y ≡ cond b (More (record { at = step s at }) (hex_more x (octet_at s at))) NoHex
+        → more p y ≡ cond b (more (record { at = step s at }) (hex_more x (octet_at s at))) None
         → (is_hex (octet_at s at) ≡ true) × (p.at ≡ step s at) × (y ≡ hex_more x (octet_at s at))
     cases true f e =
-        let q : ◌≡◌ {A = Position} p (record { at = step s at }) = cc in
-        let r : y ≡ hex_more x (octet_at s at) = cc in
-        (f, ap (λ (z : Position). z.at) q, r)
+        let h = same_found e in
+        (f, ap (λ (z : Hex). z.next.at) h, ap (λ (z : Hex). z.value) h)
     cases false f e = let z : ◌≡◌ {A = ℕ} 0 1 = cc in absurd (omega arith)
 
 after_hex : (s : List ℕ) (p : Position) (h : Bool) (u : ℕ) → resumed s (escape_of p (after_unit h u)) ≡ resume s p.at (after_unit h u)
@@ -138,7 +139,7 @@ after_hex s p true u = cases (is_low u)
     cases false = refl
 
 module _ (s : List ℕ) (h : Bool) (x at : ℕ) where
-  pub digit_wrong : (n : ℕ) → NoHex ≡ hex_at s at x → refused ≡ scan s (digit h n x) at
+  pub digit_wrong : (n : ℕ) → None ≡ hex_at s at x → refused ≡ scan s (digit h n x) at
   unfolding turn resume
   digit_wrong n e =
       sym (scan_turn s (digit h n x) at ∙ ap (resume s (step s at)) (bad n (octet_at s at) (hex_wrong s at x e)))
@@ -147,7 +148,7 @@ module _ (s : List ℕ) (h : Bool) (x at : ℕ) where
       bad zero c f = simp f
       bad (suc n) c f = simp f
 
-  module _ (p : Position) (y : ℕ) (e : More p y ≡ hex_at s at x) where
+  module _ (p : Position) (y : ℕ) (e : more p y ≡ hex_at s at x) where
     pub digit_more : (n : ℕ) → scan s (digit h n y) p.at ≡ scan s (digit h (suc n) x) at
     unfolding turn resume
     digit_more n =
@@ -288,21 +289,21 @@ skip_first p s at = pass_first p (drop at s) at
 -- The code's digit
 
 module _ (s : List ℕ) (at x : ℕ) where
-  pub hex_no : is_hex (octet_at s at) ≡ false → NoHex ≡ hex_at s at x
+  pub hex_no : is_hex (octet_at s at) ≡ false → None ≡ hex_at s at x
   unfolding hex_at
-  hex_no f = sym (ap (λ (b : Bool). cond b (More (record { at = step s at }) (hex_more x (octet_at s at))) NoHex) f)
+  hex_no f = sym (ap (λ (b : Bool). cond b (more (record { at = step s at }) (hex_more x (octet_at s at))) None) f)
 
   pub hex_yes : (q v : ℕ) → is_hex (octet_at s at) ≡ true → q ≡ step s at → v ≡ hex_digit (octet_at s at)
-      → More (record { at = q }) (x * 16 + v) ≡ hex_at s at x
+      → more (record { at = q }) (x * 16 + v) ≡ hex_at s at x
   unfolding hex_at
   hex_yes q v f e d =
-      ap₂ (λ (n m : ℕ). More (record { at = n }) (x * 16 + m)) e d
-      ∙ sym (ap (λ (b : Bool). cond b (More (record { at = step s at }) (hex_more x (octet_at s at))) NoHex) f)
+      ap₂ (λ (n m : ℕ). more (record { at = n }) (x * 16 + m)) e d
+      ∙ sym (ap (λ (b : Bool). cond b (more (record { at = step s at }) (hex_more x (octet_at s at))) None) f)
 
 -- beyond a later position is beyond an earlier one
-pub farther : (at q : ℕ) (e : Escape) → at ≤ q → Beyond q e → Beyond at e
-farther at q (Next p waits) l b = omega (arith, l, b)
-farther at q Wrong l b = tt
+pub farther : (at q : ℕ) (e : std.Option Escape) → at ≤ q → Beyond q e → Beyond at e
+farther at q (Some e) l b = omega (arith, l, b)
+farther at q None l b = tt
 
 -- The code's test for the end of a run, over all octets
 pub stop_test : (c : ℕ) → c < 256 → ((ltb c 32 || eqb c 34) || eqb c 92) ≡ not (is_unescaped c)

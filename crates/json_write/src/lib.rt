@@ -9,6 +9,7 @@ ghost use Rattle.prelude.specs.Refusals.{as_stage};
 ghost use Rattle.json_write.specs.Answers.{WritesJson};
 
 use jose::Sizes;
+use json_put::message::Message;
 use prelude::refusal::Refusal;
 use prelude::limits::{LONGEST, MOST_RECIPIENTS};
 
@@ -48,9 +49,16 @@ pub fn write(
     if most_for(general) < n {
         return Err(Refusal::RecipientTable);
     }
-    let size = json_put::text_length(
-        general, protected, shared, aad, iv, ciphertext, tag, recipients,
-    );
+    let message = Message {
+        protected,
+        shared,
+        aad,
+        iv,
+        ciphertext,
+        tag,
+        recipients,
+    };
+    let size = json_put::text_length(general, &message);
     if LONGEST < size {
         return json_judge::judge_over(protected, shared, recipients, n);
     }
@@ -64,7 +72,5 @@ pub fn write(
     if out.len() < size {
         return Err(Refusal::ShortOutput);
     }
-    Ok(json_put::put_text(
-        general, protected, shared, aad, iv, ciphertext, tag, recipients, out,
-    ))
+    Ok(json_put::put_text(general, &message, out))
 }

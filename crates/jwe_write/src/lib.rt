@@ -16,7 +16,6 @@ ghost use Rattle.jwe_write.specs.Write.{raw, compact_text, parameters_order};
 ghost use Rattle.jwe_write.specs.Answers.{WritesCompact};
 
 use jose::Sizes;
-use json_read::Found;
 use prelude::refusal::Refusal;
 use prelude::limits::{HEADER_ROOM, LEVELS, LONGEST};
 use rows::table::{Entries, Headers, Texts};
@@ -30,8 +29,7 @@ fn text(header: &[u8]) -> Result<usize, Refusal>
     if HEADER_ROOM < header.len() {
         return Err(Refusal::LongHeader);
     }
-    let judged = json_read::judge(header, LEVELS);
-    let Found::Value(_, _) = judged else {
+    let Some(_) = json_read::judge(header, LEVELS) else {
         return Err(Refusal::Unread);
     };
     Ok(header.len())

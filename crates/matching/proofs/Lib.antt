@@ -1,3 +1,1 @@
-pub mod Sides
-pub mod Kept
 pub mod Partners

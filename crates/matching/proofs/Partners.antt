@@ -11,8 +11,7 @@ use Rattle.rows.specs.Rows.{Entry, Texts, name_says}
 use Rattle.rows.specs.Tables.{first_of, entries_of, width}
 use Rattle.rows.proofs.Entries.{entry_at, entries_done}
 use Rattle.matching.specs.Matching.{partner}
-use Rattle.matching.specs.Inner.Places.{nth, MatchedAt, Matched}
-use Rattle.matching.proofs.Kept.{Below}
+use Rattle.matching.specs.Inner.Places.{nth, EntryReads, EachReads}
 
 -- The k-th entry, by what stands from it on.
 
@@ -87,19 +86,11 @@ module _ (ts : Texts) (w : List ℕ) (answer : Option Entry) (count j : ℕ) (t 
     partner_found e = sym here ∙ ap turn e ∙ sym (nth_at j count t h)
 
   -- There are no more.
-  pub partner_done : count ≤ j → answer ≡ nth (entries_of count t) count
+  pub partner_done : count ≤ j → answer ≡ none
   unfolding partner
-  partner_done h =
-      sym so ∙ ap (partner ts w) (entries_done j count t h) ∙ sym (nth_none count count t (omega arith))
+  partner_done h = sym so ∙ ap (partner ts w) (entries_done j count t h)
 
--- Partners of all the first entries, one after the other.
-module _ (ts us : Texts) (es fs : List Entry) where
-  abbrev pub Found : ℕ → ℕ → Type 0
-  Found k j = (e : Entry) → nth es k ≡ some e → MatchedAt ts us fs e j
-
-  -- The k-th entry is the one for which it was found.
-  pub found_at : (k j : ℕ) (e : Entry) → nth es k ≡ some e → MatchedAt ts us fs e j → Found k j
-  found_at k j e is m f p = subst (λ (x : Entry). MatchedAt ts us fs x j) (some_is (sym is ∙ p)) m
-
-  pub matched_all : (n : ℕ) (numbers : List ℕ) → length es ≤ n → Below Found n numbers → Matched ts us es fs numbers
-  matched_all n numbers h m k e p = m k (omega (arith, nth_below es k e p)) e p
+-- An entry of a table whose entries read.
+pub each_at : (ts : Texts) (k count : ℕ) (t : List ℕ) → k < count → EachReads ts (entries_of count t) →
+    EntryReads ts (first_of (drop (k * width) t))
+each_at ts k count t h all = all k _ (nth_at k count t h)

@@ -1,2 +1,3 @@
 -- What only contracts inside cite.
 pub mod Places
+pub mod Sides

@@ -1,124 +1,117 @@
 -- What was kept of the entries that are all recipients' serves each recipient: a partner among the first entries is the partner among
 -- all, and where there is none, it is among the others.
-use mathlib.Core.Path.{◌≡◌, refl, ap, sym, ◌∙◌}
-use mathlib.Core.Bool.{Bool, true, false, cond}
-use mathlib.Core.List.{List, [], ◌∷◌, ◌++◌, flat_map, append_assoc, append-nil}
-use mathlib.Core.Option.{Option, none, some}
-use Prim.Native.Nat.{ℕ, zero, suc, ◌+◌, ◌-◌, ◌*◌, ◌≤◌, ◌<◌}
-use native.Mathlib.Numerals.{add-one}
-use native.Mathlib.Omega.{arith}
-use lib.ListN.{take, drop}
-use lib.Dec.{eqb}
-use lib.Seq.{take_all}
-use Rattle.rows.specs.Rows.{Entry, Texts, name_in}
-use Rattle.rows.specs.Tables.{first_of, entries_of, width}
+use Rattle.std.proofs.Common.{◌≡◌, refl, ap, sym, ◌∙◌, subst, Bool, true, false, not, ◌||◌, List, ◌++◌, Option, None, Some, IfSome, ℕ, ◌-◌, ◌*◌, ◌+◌, ◌≤◌, ◌<◌, length, drop, arith}
+use Rattle.std.specs.Option.{is_some}
+use mathlib.Core.Option as lists
+use Rattle.grammar.specs.Places.{Element}
+use Rattle.rows.specs.Rows.{Entry, Texts, text_of, name_in}
+use Rattle.rows.specs.Tables.{entries_of}
 use Rattle.rows.proofs.Entries.{drop_entries, entries_split, entries_length}
-use Rattle.matching.specs.Matching.{partner}
-use Rattle.matching.specs.Inner.Places.{nth}
-use Rattle.matching.proofs.Partners.{nth_at, nth_none, some_is, or_else, partner_append}
-use Rattle.parameters.specs.Lines.{missing, Line, line}
-use Rattle.parameters.specs.Parameters.{side_of, other_value, pair_lines, left_lines, only_right, right_lines}
+use Rattle.same.specs.Same.{depth, same_at}
+use Rattle.same.specs.Inner.Walking.{Reads}
+use Rattle.matching.specs.declared.Side.{Side}
+use Rattle.matching.specs.Matching.{partner, value_of}
+use Rattle.matching.specs.Inner.Places.{nth, found}
+use Rattle.matching.specs.Inner.Sides.{texts, entries, common, entry_at}
+use Rattle.matching.proofs.Partners.{nth_at, nth_below, some_is, or_else, partner_append, each_at}
+use Rattle.parameters.specs.Parameters.{other_value}
+use Rattle.parameters.specs.Inner.Kept.{there, Pairs}
+use Rattle.parameters.specs.declared.Pair.{Pair}
 
--- The first entries, and the others.
-front_split : (front count : ℕ) (t : List ℕ) → front ≤ count →
-    entries_of count t ≡ entries_of front t ++ drop front (entries_of count t)
-front_split front count t h =
-    let sum : count ≡ front + (count - front) = omega arith in
-    ap (λ (n : ℕ). entries_of n t) sum ∙ entries_split front (count - front) t
-    ∙ ap (λ (l : List Entry). entries_of front t ++ l) (sym (drop_entries front count t))
+-- What holds of each entry of a side by its number.
+pub by_number : (s : Side) (P : ℕ → Entry → Type 0) → ((i : ℕ) → i < s.count → P i (entry_at s i)) → (i : ℕ) (e : Entry) →
+    nth (entries s) i ≡ lists.some e → P i e
+by_number s P h i e p =
+    let below : i < s.count = omega (arith, nth_below (entries s) i e p, entries_length s.count s.table.now) in
+    subst (P i) (some_is (sym (nth_at i s.count s.table.now below) ∙ p)) (h i below)
 
-module _ (ts : Texts) (w : List ℕ) (front count : ℕ) (t : List ℕ) (few : front ≤ count) where
-  partner_split : partner ts w (entries_of count t)
-      ≡ or_else (partner ts w (entries_of front t)) (partner ts w (drop front (entries_of count t)))
-  partner_split =
-      ap (partner ts w) (front_split front count t few)
-      ∙ partner_append ts w (entries_of front t) (drop front (entries_of count t))
+-- The value of an entry reads where the code has found it.
+pub reads_at : (s : Side) (i : ℕ) → i < s.count → {x : List ℕ} {a : Element} → x ≡ text_of (texts s) (entry_at s i).origin →
+    a ≡ value_of (entry_at s i) → Reads x a
+reads_at s i h {x} {a} e f =
+    let r : Reads (text_of (texts s) (entry_at s i).origin) (value_of (entry_at s i)) =
+    (each_at (texts s) i s.count s.table.now h s.reads).reads in
+    subst (λ (b : Element). Reads x b) (sym f) (subst (λ (t : List ℕ). Reads t (value_of (entry_at s i))) (sym e) r)
 
-  -- It is among the first ones.
-  pub partner_front : (j : ℕ) → j < front → partner ts w (entries_of front t) ≡ nth (entries_of front t) j →
-      partner ts w (entries_of count t) ≡ nth (entries_of count t) j
-  partner_front j h p =
-      let here : partner ts w (entries_of front t) ≡ some (first_of (drop (j * width) t)) = p ∙ nth_at j front t h in
-      partner_split ∙ ap (λ (x : Option Entry). or_else x (partner ts w (drop front (entries_of count t)))) here
-      ∙ sym (nth_at j count t (omega arith))
+-- Two values that the code has found and compared.
+pub compared : (l r : Side) (i j : ℕ) → j < r.count → {s t : List ℕ} {a b : Element} {same : Bool} →
+    s ≡ text_of (texts l) (entry_at l i).origin → t ≡ text_of (texts r) (entry_at r j).origin → a ≡ value_of (entry_at l i) →
+    b ≡ value_of (entry_at r j) → same ≡ same_at depth s t a b →
+    not same ≡ other_value (texts l) (texts r) (entry_at l i) (nth (entries r) j)
+unfolding other_value
+compared l r i j h {s} {t} {a} {b} {same} e f g k is =
+    let values : same_at depth s t a b
+    ≡ same_at depth (text_of (texts l) (entry_at l i).origin) (text_of (texts r) (entry_at r j).origin) (value_of (entry_at l i)) (value_of (entry_at r j)) = cc in
+    ap not (is ∙ values) ∙ sym (ap (other_value (texts l) (texts r) (entry_at l i)) (nth_at j r.count r.table.now h))
 
-  -- It is not.
-  pub partner_rest : (j : ℕ) → front ≤ j → partner ts w (entries_of front t) ≡ nth (entries_of front t) j →
-      partner ts w (drop front (entries_of count t)) ≡ partner ts w (entries_of count t)
-  partner_rest j h p =
-      let gone : partner ts w (entries_of front t) ≡ none = p ∙ nth_none j front t h in
-      sym (partner_split ∙ ap (λ (x : Option Entry). or_else x (partner ts w (drop front (entries_of count t)))) gone)
+there_or : (x y : lists.Option Entry) → there (or_else x y) ≡ there x || there y
+there_or lists.none y = refl
+there_or (lists.some e) y = refl
 
-bit_is : (b : Bool) → eqb (cond b 1 0) 1 ≡ b
-bit_is true = refl
-bit_is false = refl
+module _ (s : Side) where
+  -- The first entries, and the others.
+  front_split : entries s ≡ common s ++ drop s.common (entries s)
+  front_split =
+      let few : s.common ≤ s.count = s.few in
+      let sum : s.count ≡ s.common + (s.count - s.common) = omega arith in
+      ap (λ (n : ℕ). entries_of n s.table.now) sum ∙ entries_split s.common (s.count - s.common) s.table.now
+      ∙ ap (λ (l : List Entry). common s ++ l) (sym (drop_entries s.common s.count s.table.now))
 
-module _ (ls rs : Texts) (n : ℕ) (e : Entry) (front count : ℕ) (t : List ℕ) (few : front ≤ count) where
-  -- The lines of an entry on the left whose partner was kept.
-  pub kept_lines : (j v : ℕ) → j < front → partner rs (name_in ls e) (entries_of front t) ≡ nth (entries_of front t) j →
-      v ≡ cond (other_value ls rs e (nth (entries_of front t) j)) 1 0 →
-      pair_lines n e (eqb v 1) (nth (entries_of count t) j) ≡ left_lines ls rs (entries_of count t) n e
-  unfolding left_lines
-  kept_lines j v h p o =
-      let same : nth (entries_of front t) j ≡ nth (entries_of count t) j =
-      nth_at j front t h ∙ sym (nth_at j count t (omega arith)) in
-      let other : eqb v 1 ≡ other_value ls rs e (nth (entries_of count t) j) =
-      ap (λ (x : ℕ). eqb x 1) o ∙ bit_is (other_value ls rs e (nth (entries_of front t) j)) ∙ ap (other_value ls rs e) same in
-      ap (λ (b : Bool). pair_lines n e b (nth (entries_of count t) j)) other
-      ∙ sym (ap (λ (x : Option Entry). pair_lines n e (other_value ls rs e x) x)
-      (partner_front rs (name_in ls e) front count t few j h p))
+  partner_split : (w : List ℕ) →
+      partner (texts s) w (entries s) ≡ or_else (partner (texts s) w (common s)) (partner (texts s) w (drop s.common (entries s)))
+  partner_split w = ap (partner (texts s) w) front_split ∙ partner_append (texts s) w (common s) (drop s.common (entries s))
 
-  -- Of one whose partner is not among the first ones.
-  pub rest_lines : (j : ℕ) → front ≤ j → partner rs (name_in ls e) (entries_of front t) ≡ nth (entries_of front t) j →
-      left_lines ls rs (drop front (entries_of count t)) n e ≡ left_lines ls rs (entries_of count t) n e
-  unfolding left_lines
-  rest_lines j h p =
-      ap (λ (x : Option Entry). pair_lines n e (other_value ls rs e x) x)
-      (partner_rest rs (name_in ls e) front count t few j h p)
+  -- Whether there is one, by what was found.
+  pub there_found : (o : Option ℕ) {x : lists.Option Entry} {b : Bool} → IfSome o (λ j. j < s.count) → x ≡ found (entries s) o →
+      b ≡ is_some o → b ≡ there x
+  there_found None h p e = e ∙ sym (ap there p)
+  there_found (Some j) h p e = e ∙ sym (ap there (p ∙ nth_at j s.count s.table.now h))
 
-  -- The same of an entry on the right.
+  -- Among the first ones, and where there is none, among the others.
 
-  pub kept_right : (j : ℕ) → j < front → partner ls (name_in rs e) (entries_of front t) ≡ nth (entries_of front t) j →
-      [] ≡ right_lines ls rs (entries_of count t) n e
-  unfolding right_lines
-  kept_right j h p =
-      sym (ap (only_right n e)
-      (partner_front ls (name_in rs e) front count t few j h p ∙ nth_at j count t (omega arith)))
+  pub there_front : (w : List ℕ) (b : Bool) → b ≡ there (partner (texts s) w (common s)) → b ≡ true → b ≡ there (partner (texts s) w (entries s))
+  there_front w b e t =
+      t ∙ sym (ap there (partner_split w) ∙ there_or (partner (texts s) w (common s)) (partner (texts s) w (drop s.common (entries s)))
+      ∙ ap (λ (x : Bool). x || there (partner (texts s) w (drop s.common (entries s)))) (sym e ∙ t))
 
-  pub rest_right : (j : ℕ) → front ≤ j → partner ls (name_in rs e) (entries_of front t) ≡ nth (entries_of front t) j →
-      right_lines ls rs (drop front (entries_of count t)) n e ≡ right_lines ls rs (entries_of count t) n e
-  unfolding right_lines
-  rest_right j h p = ap (only_right n e) (partner_rest ls (name_in rs e) front count t few j h p)
+  pub there_rest : (w : List ℕ) (b : Bool) {c : Bool} → b ≡ there (partner (texts s) w (common s)) → b ≡ false →
+      c ≡ there (partner (texts s) w (drop s.common (entries s))) → c ≡ there (partner (texts s) w (entries s))
+  there_rest w b e f p =
+      p ∙ sym (ap there (partner_split w) ∙ there_or (partner (texts s) w (common s)) (partner (texts s) w (drop s.common (entries s)))
+      ∙ ap (λ (x : Bool). x || there (partner (texts s) w (drop s.common (entries s)))) (sym e ∙ f))
 
--- The line of an entry on the right, by the number at which its partner was found.
-module _ (ls rs : Texts) (n : ℕ) (e : Entry) (es : List Entry) (count j : ℕ) (t : List ℕ)
-    (p : partner ls (name_in rs e) es ≡ nth (entries_of count t) j) where
-  pub right_found : j < count → [] ≡ right_lines ls rs es n e
-  unfolding right_lines
-  right_found h = sym (ap (only_right n e) (p ∙ nth_at j count t h))
+  module _ (ls : Texts) (e : Entry) where
+    abbrev name : List ℕ
+    name = name_in ls e
 
-  pub right_alone : count ≤ j → line 9 n missing (side_of e) ∷ [] ≡ right_lines ls rs es n e
-  unfolding right_lines
-  right_alone h = sym (ap (only_right n e) (p ∙ nth_none j count t h))
+    -- A pair that was kept.
+    pub kept_pair : {q : Option Pair} (p : Pair) → q ≡ Some p → Pairs ls (texts s) e (common s) (common s) q →
+        Pairs ls (texts s) e (entries s) (entries s) (Some p)
+    kept_pair {q} p is kept =
+        let k : Pairs ls (texts s) e (common s) (common s) (Some p) = subst (Pairs ls (texts s) e (common s) (common s)) is kept in
+        let few : s.common ≤ s.count = s.few in
+        let low : p.at < length (common s) = k.fits in
+        let front : p.at < s.common = omega (arith, entries_length s.common s.table.now) in
+        let below : p.at < s.count = omega arith in
+        let one = nth_at p.at s.common s.table.now front in
+        let all = nth_at p.at s.count s.table.now below in
+        record {
+          fits = omega (arith, entries_length s.count s.table.now);
+          is =
+              partner_split name ∙ ap (λ (x : lists.Option Entry). or_else x (partner (texts s) name (drop s.common (entries s)))) (k.is ∙ one)
+              ∙ sym all;
+          other = k.other ∙ ap (other_value ls (texts s) e) (one ∙ sym all);
+        }
 
--- Lines of one entry after the other.
-module _ (g : Entry → List Line) where
-  flat_next : (es : List Entry) (i : ℕ) (e : Entry) → nth es i ≡ some e →
-      flat_map g (take (suc i) es) ≡ flat_map g (take i es) ++ g e
-  unfolding nth flat_map
-  flat_next [] i e p = let z : ◌≡◌ {A = ℕ} 0 1 = cc in absurd (omega arith)
-  flat_next (x ∷ es) zero e p = append-nil (g x) ∙ ap g (some_is p)
-  flat_next (x ∷ es) (suc i) e p =
-      ap (λ (l : List Line). g x ++ l) (flat_next es i e p) ∙ sym (append_assoc (g x) (flat_map g (take i es)) (g e))
-
-  pub lines_next : (i count : ℕ) (t : List ℕ) → i < count →
-      flat_map g (take i (entries_of count t)) ++ g (first_of (drop (i * width) t))
-      ≡ flat_map g (take (i + 1) (entries_of count t))
-  lines_next i count t h =
-      sym (ap (λ (k : ℕ). flat_map g (take k (entries_of count t))) (add-one i)
-      ∙ flat_next (entries_of count t) i _ (nth_at i count t h))
-
-  pub lines_all : (i count : ℕ) (t : List ℕ) → count ≤ i →
-      flat_map g (take i (entries_of count t)) ≡ flat_map g (entries_of count t)
-  lines_all i count t h =
-      ap (flat_map g) (take_all i (entries_of count t) (omega (arith, entries_length count t)))
+    -- None was: it is among the others.
+    pub rest_pair : {q p : Option Pair} → q ≡ None → Pairs ls (texts s) e (common s) (common s) q →
+        Pairs ls (texts s) e (drop s.common (entries s)) (entries s) p → Pairs ls (texts s) e (entries s) (entries s) p
+    rest_pair {q} {p} is kept rest =
+        let k : Pairs ls (texts s) e (common s) (common s) None = subst (Pairs ls (texts s) e (common s) (common s)) is kept in
+        record {
+          fits = rest.fits;
+          is =
+              partner_split name ∙ ap (λ (x : lists.Option Entry). or_else x (partner (texts s) name (drop s.common (entries s)))) k.is
+              ∙ rest.is;
+          other = rest.other;
+        }

@@ -1,4 +1,4 @@
-pub mod Appending
-pub mod Comparing
-pub mod Pairs
+pub mod Below
+pub mod Laying
 pub mod Keeping
+pub mod Appending

@@ -1,2 +1,3 @@
 -- What only contracts inside cite.
-pub mod Putting
+pub mod Puts
+pub mod Kept

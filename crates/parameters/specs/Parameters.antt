@@ -4,17 +4,13 @@
 use mathlib.Core.List.{List, [], ◌∷◌, ◌++◌, flat_map}
 use Rattle.std.specs.Prelude.{Bool, false, not, ℕ, eqb}
 use Rattle.std.proofs.Math.Option.{Option, none, some}
-use Rattle.grammar.specs.Places.{Element}
 use Rattle.rows.specs.Rows.{Entry, Texts, text_of, name_in}
 use Rattle.same.specs.Same.{depth, same_at}
+pub use Rattle.matching.specs.Matching.{value_of}
 use Rattle.matching.specs.Matching.{partner}
 use Rattle.parameters.specs.Lines.{Side, missing, Line, line, line_if}
 
--- The value of a parameter, by its place and kind; and its side of a line.
-
-abbrev pub value_of : Entry → Element
-value_of e = record { start = e.member.value_start; size = e.member.value_size; kind = e.member.kind }
-
+-- The side of a parameter in a line.
 abbrev pub side_of : Entry → Side
 side_of e = record { origin = e.origin; start = e.member.value_start; size = e.member.value_size }
 

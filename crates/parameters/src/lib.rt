@@ -1,283 +1,147 @@
-// The parameters of a recipient in two messages compared: the lines that their differences give. A side is a decoded protected header, a
-// message and a table of entries of both; of the entries the first ones are all recipients', and what was found of these is kept, so that
-// it is found once for all recipients. What each function puts stands in specs/Parameters.
+// The parameters of a recipient in two messages compared: the lines that their differences give. Of a side's entries the first ones are
+// all recipients', and what was found of these is kept, so that it is found once for all recipients. What each function puts stands in
+// specs/Parameters.
 #![tactic(auto)]
 
-ghost use Rattle.std.specs.Prelude.{◌≡◌, cond, ◌+◌, ◌*◌, ◌≤◌, ◌<◌, length, drop};
-ghost use Rattle.rows.specs.Rows.{read_texts};
-ghost use Rattle.rows.specs.Tables.{first_of, entries_of, width};
-ghost use Rattle.rows.specs.Inner.Prints.{HasPrint, Printed};
-ghost use Rattle.same.specs.Inner.Walking.{work_room, element_of};
-ghost use Rattle.matching.specs.Inner.Places.{nth};
-ghost use Rattle.parameters.specs.Lines.{line_width};
-ghost use Rattle.parameters.specs.Parameters.{value_of, other_value, pair_lines, left_lines, parameter_lines};
-ghost use Rattle.parameters.specs.Inner.Putting.{Appends, EntryReads, EachReads, Valued, Comparable, KeptLeft, KeptRight};
+ghost use Rattle.std.specs.Prelude.{◌≡◌, ◌++◌, ◌+◌, ◌*◌, ◌≤◌, ◌<◌, length, drop, IfSome};
+ghost use Rattle.prelude.specs.Limits.{most_members};
+ghost use Rattle.rows.specs.Rows.{name_in};
+ghost use Rattle.same.specs.Inner.Walking.{work_room};
+ghost use Rattle.matching.specs.Matching.{partner};
+ghost use Rattle.matching.specs.Inner.Sides.{texts, entries, common, entry_at};
+ghost use Rattle.parameters.specs.Lines.{line};
+ghost use Rattle.parameters.specs.Parameters.{side_of, pair_lines, left_lines, right_lines, parameter_lines};
+ghost use Rattle.parameters.specs.Inner.Puts.{most_lines, half_is};
+ghost use Rattle.parameters.specs.Inner.Kept.{Pairs, Keeps, partner_of, differs, there};
 
-use rows::ask::field;
-use rows::layout;
-use same::Value;
+use lines::{Half, Kind, Lines, missing};
+use matching::Side;
+use prelude::limits::MOST_MEMBERS;
+use rows::{ask, layout};
 
-mod left;
 pub mod lines;
-mod right;
 
-// The value of an entry, by its place and kind.
-fn value(table: &[u32], i: usize) -> Value
-    requires width_in_bounds { i * width + width ≤ length table.now }
-    requires table_bound { (first_of (drop (i * width) table.now)).member.kind < 256 }
-    ensures { element_of result ≡ value_of (first_of (drop (i * width) table.now)) }
+// The number of a parameter's partner on the other side, and whether their values differ.
+#[derive(Clone, Copy)]
+pub struct Pair {
+    pub at: usize,
+    pub other: bool,
+}
+
+// What is kept of the parameters that are all recipients': the partners of those on the left, and which of those on the right have one.
+#[derive(Drop)]
+pub struct Kept {
+    pub pairs: [Option<Pair>; 2 * MOST_MEMBERS],
+    pub paired: [bool; 2 * MOST_MEMBERS],
+}
+
+// The side of an entry in a line.
+fn half(side: &Side<'_, '_>, i: usize) -> Half
+    requires { i < side.now.count }
+    ensures { half_is result ≡ side_of (entry_at side.now i) }
 {
-    Value {
-        start: field(table, i, layout::VALUE_START),
-        len: field(table, i, layout::VALUE_SIZE),
-        kind: field(table, i, layout::KIND) as u8,
+    let from = i * layout::WIDTH;
+    Half {
+        origin: side.table[from + layout::ORIGIN],
+        start: side.table[from + layout::VALUE_START],
+        len: side.table[from + layout::VALUE_SIZE],
     }
 }
 
-// Whether the value of entry i on the left is another than that of entry j on the right; where there is no entry j, it is not.
-fn other<'a, 'b>(
-    left_header: &'a [u8],
-    left_message: &'a [u8],
-    left_table: &[u32],
-    i: usize,
-    right_header: &'b [u8],
-    right_message: &'b [u8],
-    right_table: &[u32],
-    j: usize,
-    right: usize,
-    work: &mut [u32],
-) -> bool
-    requires width_in_bounds { i * width + width ≤ length left_table.now }
-    requires width_in_bounds_2 { right * width ≤ length right_table.now }
-    requires entry_reads { EntryReads (read_texts left_header.now left_message.now) (first_of (drop (i * width) left_table.now)) }
-    requires each_reads { EachReads (read_texts right_header.now right_message.now) (entries_of right right_table.now) }
+// The pair of entry i on the left, whose partner is sought from an entry on.
+fn find(left: &Side<'_, '_>, i: usize, right: &Side<'_, '_>, from: usize, work: &mut [u32]) -> Option<Pair>
+    requires i_lt_count { i < left.now.count }
+    requires from_le_count { from ≤ right.now.count }
     requires work_room_in_bounds { work_room ≤ length work.old }
-    ensures { result ≡ other_value (read_texts left_header.now left_message.now)
-        (read_texts right_header.now right_message.now)
-        (first_of (drop (i * width) left_table.now)) (nth (entries_of right right_table.now) j) }
+    ensures { Pairs (texts left.now) (texts right.now) (entry_at left.now i) (drop from (entries right.now)) (entries right.now) result }
 {
-    if right <= j {
-        return false;
-    }
-    let s = matching::text(left_header, left_message, left_table, i);
-    let t = matching::text(right_header, right_message, right_table, j);
-    !same::same(s, t, value(left_table, i), value(right_table, j), 12, work)
+    let at = right.seek(from, left, i)?;
+    let s = left.text(i);
+    let t = right.text(at);
+    let other = !same::same(s, t, left.value(i), right.value(at), 12, work);
+    Some(Pair { at, other })
 }
 
-// A truth as a number.
-fn bit(b: bool) -> u32
-    ensures { result ≡ cond b 1 0 }
-{
-    if b { 1 } else { 0 }
-}
-
-// For each of the first entries on the left whether its value is another than that of its partner among the first ones on the right.
-pub fn compare_all<'a, 'b>(
-    left_header: &'a [u8],
-    left_message: &'a [u8],
-    left_table: &[u32],
-    left: usize,
-    right_header: &'b [u8],
-    right_message: &'b [u8],
-    right_table: &[u32],
-    right: usize,
-    partners: &[usize],
-    others: &mut [u32],
-    work: &mut [u32],
-)
-    requires width_in_bounds { left * width ≤ length left_table.now }
-    requires width_in_bounds_2 { right * width ≤ length right_table.now }
-    requires each_reads { EachReads (read_texts left_header.now left_message.now) (entries_of left left_table.now) }
-    requires each_reads_2 { EachReads (read_texts right_header.now right_message.now) (entries_of right right_table.now) }
-    requires left_in_bounds { left ≤ length partners.now }
-    requires left_in_bounds_2 { left ≤ length others.old }
+// What is kept of two sides that have only what is all recipients'.
+pub fn keep(left: &Side<'_, '_>, right: &Side<'_, '_>, work: &mut [u32]) -> Kept
+    requires left_few { left.now.count ≤ 2 * most_members }
+    requires right_few { right.now.count ≤ 2 * most_members }
     requires work_room_in_bounds { work_room ≤ length work.old }
-    ensures { Valued (read_texts left_header.now left_message.now)
-        (read_texts right_header.now right_message.now)
-        (entries_of left left_table.now) (entries_of right right_table.now)
-        partners.now others.new }
+    ensures { Keeps (texts left.now) (texts right.now) (entries left.now) (entries right.now) result }
 {
-    let mut i: usize = 0;
-    while i < left {
-        let differs = other(
-            left_header,
-            left_message,
-            left_table,
-            i,
-            right_header,
-            right_message,
-            right_table,
-            partners[i],
-            right,
-            work,
-        );
-        others[i] = bit(differs);
-        i += 1;
+    let mut pairs = [None; 2 * MOST_MEMBERS];
+    for i in 0..left.count {
+        pairs[i] = find(left, i, right, 0, work);
+    }
+    let mut paired = [false; 2 * MOST_MEMBERS];
+    for j in 0..right.count {
+        paired[j] = left.seek(0, right, j).is_some();
+    }
+    Kept { pairs, paired }
+}
+
+// The pair of entry i on the left. Of one that is all recipients' a partner among those on the right is kept; else its partner is among
+// the recipient's own.
+fn pair_of(left: &Side<'_, '_>, i: usize, right: &Side<'_, '_>, kept: &Kept, work: &mut [u32]) -> Option<Pair>
+    requires i_lt_count { i < left.now.count }
+    requires keeps { Keeps (texts left.now) (texts right.now) (common left.now) (common right.now) kept.now }
+    requires work_room_in_bounds { work_room ≤ length work.old }
+    ensures { Pairs (texts left.now) (texts right.now) (entry_at left.now i) (entries right.now) (entries right.now) result }
+{
+    if left.common <= i {
+        return find(left, i, right, 0, work);
+    }
+    match kept.pairs[i] {
+        Some(pair) => Some(pair),
+        None => find(left, i, right, right.common, work),
     }
 }
 
-// The lines of entry i on the left and entry j on the right, its partner; where there is no entry j, it has none.
-fn put_pair(
-    left_table: &[u32],
-    i: usize,
-    right_table: &[u32],
-    j: usize,
-    right: usize,
-    differs: bool,
-    recipient: u32,
-    lines: &mut [u32],
-    at: usize,
-) -> usize
-    requires width_in_bounds { i * width + width ≤ length left_table.now }
-    requires width_in_bounds_2 { right * width ≤ length right_table.now }
-    requires line_width_in_bounds { (at + 2) * line_width ≤ length lines.old }
-    ensures appends { Appends at lines.old result lines.new
-        (pair_lines recipient (first_of (drop (i * width) left_table.now)) differs (nth (entries_of right right_table.now) j)) }
-    ensures upper_bound { result ≤ at + 2 }
+// The lines of entry i on the left and of its partner, if it has one.
+fn put_pair(left: &Side<'_, '_>, i: usize, right: &Side<'_, '_>, pair: Option<Pair>, recipient: u32, lines: &mut Lines)
+    requires i_lt_count { i < left.now.count }
+    requires pair_in_bounds { IfSome pair (λ p. p.at < right.now.count) }
+    requires room { length lines.old + 2 ≤ most_lines }
+    ensures { lines.new ≡ lines.old ++ pair_lines recipient (entry_at left.now i) (differs pair) (partner_of (entries right.now) pair) }
 {
-    let mine = lines::side_of(left_table, i);
-    if right <= j {
-        return lines::put(lines, at, 8, recipient, mine, lines::missing());
-    }
-    let yours = lines::side_of(right_table, j);
+    let mine = half(left, i);
+    let Some(pair) = pair else {
+        lines.put(Kind::OnlyLeft, recipient, mine, missing());
+        return;
+    };
+    let yours = half(right, pair.at);
     let moved = mine.origin != yours.origin;
-    let more = lines::put_if(moved, lines, at, 10, recipient, mine, yours);
-    lines::put_if(differs, lines, more, 11, recipient, mine, yours)
+    lines.put_if(moved, Kind::Moved, recipient, mine, yours);
+    lines.put_if(pair.other, Kind::Value, recipient, mine, yours);
 }
 
-// The lines of entry i on the left, whose partner is sought from an entry on.
-fn put_sought<'a, 'b>(
-    left_header: &'a [u8],
-    left_message: &'a [u8],
-    left_table: &[u32],
-    i: usize,
-    right_header: &'b [u8],
-    right_message: &'b [u8],
-    right_table: &[u32],
-    from: usize,
-    right: usize,
-    recipient: u32,
-    lines: &mut [u32],
-    at: usize,
-    work: &mut [u32],
-) -> usize
-    requires width_in_bounds { i * width + width ≤ length left_table.now }
-    requires has_print { HasPrint (read_texts left_header.now left_message.now) (drop (i * width) left_table.now) }
-    requires entry_reads { EntryReads (read_texts left_header.now left_message.now) (first_of (drop (i * width) left_table.now)) }
-    requires from_le_right { from ≤ right }
-    requires width_in_bounds_2 { right * width ≤ length right_table.now }
-    requires printed { Printed (read_texts right_header.now right_message.now) right right_table.now }
-    requires each_reads { EachReads (read_texts right_header.now right_message.now) (entries_of right right_table.now) }
-    requires line_width_in_bounds { (at + 2) * line_width ≤ length lines.old }
-    requires work_room_in_bounds { work_room ≤ length work.old }
-    ensures appends { Appends at lines.old result lines.new
-        (left_lines (read_texts left_header.now left_message.now)
-        (read_texts right_header.now right_message.now)
-        (drop from (entries_of right right_table.now)) recipient (first_of (drop (i * width) left_table.now))) }
-    ensures upper_bound { result ≤ at + 2 }
+// Whether entry j on the right has a partner on the left. Of one that is all recipients' it is kept whether it has one among those on the
+// left; else its partner is among the recipient's own.
+fn has_partner(left: &Side<'_, '_>, right: &Side<'_, '_>, j: usize, kept: &Kept) -> bool
+    requires j_lt_count { j < right.now.count }
+    requires keeps { Keeps (texts left.now) (texts right.now) (common left.now) (common right.now) kept.now }
+    ensures { result ≡ there (partner (texts left.now) (name_in (texts right.now) (entry_at right.now j)) (entries left.now)) }
 {
-    let j = matching::seek(
-        left_header,
-        left_message,
-        left_table,
-        i,
-        right_header,
-        right_message,
-        right_table,
-        from,
-        right,
-    );
-    let differs = other(
-        left_header,
-        left_message,
-        left_table,
-        i,
-        right_header,
-        right_message,
-        right_table,
-        j,
-        right,
-        work,
-    );
-    put_pair(
-        left_table,
-        i,
-        right_table,
-        j,
-        right,
-        differs,
-        recipient,
-        lines,
-        at,
-    )
+    if right.common <= j {
+        return left.seek(0, right, j).is_some();
+    }
+    kept.paired[j] || left.seek(left.common, right, j).is_some()
 }
 
-// The lines of a recipient's parameters, put behind the first ones; how many there are then.
-pub fn put_recipient<'a, 'b>(
-    left_header: &'a [u8],
-    left_message: &'a [u8],
-    left_table: &[u32],
-    left_common: usize,
-    left: usize,
-    right_header: &'b [u8],
-    right_message: &'b [u8],
-    right_table: &[u32],
-    right_common: usize,
-    right: usize,
-    partners: &[usize],
-    others: &[u32],
-    back: &[usize],
-    recipient: u32,
-    lines: &mut [u32],
-    at: usize,
-    work: &mut [u32],
-) -> usize
-    requires comparable { Comparable (read_texts left_header.now left_message.now) left_common left left_table.now }
-    requires comparable_2 { Comparable (read_texts right_header.now right_message.now) right_common right right_table.now }
-    requires kept_left { KeptLeft (read_texts left_header.now left_message.now) (read_texts right_header.now right_message.now)
-        (entries_of left_common left_table.now) (entries_of right_common right_table.now) partners.now others.now }
-    requires kept_right { KeptRight (read_texts left_header.now left_message.now) (read_texts right_header.now right_message.now)
-        (entries_of left_common left_table.now) (entries_of right_common right_table.now) back.now }
-    requires line_width_in_bounds { (at + (2 * left + right)) * line_width ≤ length lines.old }
+// The lines of a recipient's parameters, put behind the first ones.
+pub fn put_recipient(left: &Side<'_, '_>, right: &Side<'_, '_>, kept: &Kept, recipient: u32, lines: &mut Lines, work: &mut [u32])
+    requires keeps { Keeps (texts left.now) (texts right.now) (common left.now) (common right.now) kept.now }
+    requires room { length lines.old + (2 * left.now.count + right.now.count) ≤ most_lines }
     requires work_room_in_bounds { work_room ≤ length work.old }
-    ensures appends { Appends at lines.old result lines.new
-        (parameter_lines (read_texts left_header.now left_message.now)
-        (read_texts right_header.now right_message.now)
-        (entries_of left left_table.now) (entries_of right right_table.now) recipient) }
-    ensures upper_bound { result ≤ at + (2 * left + right) }
+    ensures lines { lines.new ≡ lines.old ++ parameter_lines (texts left.now) (texts right.now) (entries left.now) (entries right.now) recipient }
+    ensures upper_bound { length lines.new ≤ length lines.old + (2 * left.now.count + right.now.count) }
 {
-    let more = left::put_all(
-        left_header,
-        left_message,
-        left_table,
-        left_common,
-        left,
-        right_header,
-        right_message,
-        right_table,
-        right_common,
-        right,
-        partners,
-        others,
-        recipient,
-        lines,
-        at,
-        work,
-    );
-    right::put_all(
-        left_header,
-        left_message,
-        left_table,
-        left_common,
-        left,
-        right_header,
-        right_message,
-        right_table,
-        right_common,
-        right,
-        back,
-        recipient,
-        lines,
-        more,
-    )
+    for i in 0..left.count {
+        let pair = pair_of(left, i, right, kept, work);
+        put_pair(left, i, right, pair, recipient, lines);
+    }
+    for j in 0..right.count {
+        let alone = !has_partner(left, right, j, kept);
+        lines.put_if(alone, Kind::OnlyRight, recipient, missing(), half(right, j));
+    }
 }

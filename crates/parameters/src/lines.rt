@@ -1,95 +1,177 @@
 // Lines of a list of differences, put one behind the other.
-ghost use Rattle.std.specs.Prelude.{◌≡◌, ◌∷◌, [], ◌+◌, ◌*◌, ◌≤◌, length, drop};
+ghost use Rattle.std.specs.Prelude.{◌≡◌, ◌∷◌, [], ◌++◌, ◌+◌, ◌*◌, ◌≤◌, ◌<◌, length};
 ghost use Rattle.prelude.specs.Buffer.{written};
-ghost use Rattle.rows.specs.Tables.{first_of, width};
-ghost use Rattle.parameters.specs.Lines.{missing, line, line_if, line_numbers, line_width};
-ghost use Rattle.parameters.specs.Parameters.{side_of};
-ghost use Rattle.parameters.specs.Inner.Putting.{side_is, Appends};
+ghost use Rattle.parameters.specs.Lines.{missing, line, line_if, line_width, line_numbers, laid};
+ghost use Rattle.parameters.specs.Inner.Puts.{most_lines, kind_number, half_is, line_is};
 
-use rows::layout;
+use prelude::limits::{MOST_MEMBERS, MOST_RECIPIENTS};
+use std::marker::Model;
 
-// How many numbers a line has.
+// How many numbers a line has in a list.
 pub const WIDTH: usize = 8;
+
+// Lines are at most so many: seven of the whole message, one for each key, and for each recipient two for each of 96 parameters on the left
+// and one for each on the right.
+pub const MOST: usize = 7 + MOST_RECIPIENTS + MOST_RECIPIENTS * (9 * MOST_MEMBERS);
+
+// What a line says (specs/Lines).
+#[derive(Clone, Copy)]
+#[repr(u8)]
+pub enum Kind {
+    Form,
+    Recipients,
+    Header,
+    Iv,
+    Aad,
+    Ciphertext,
+    Tag,
+    Key,
+    OnlyLeft,
+    OnlyRight,
+    Moved,
+    Value,
+}
+
+impl Kind {
+    // Its number in a list.
+    fn number(self) -> u32
+        ensures { result ≡ kind_number self }
+    {
+        match self {
+            Kind::Form => 0,
+            Kind::Recipients => 1,
+            Kind::Header => 2,
+            Kind::Iv => 3,
+            Kind::Aad => 4,
+            Kind::Ciphertext => 5,
+            Kind::Tag => 6,
+            Kind::Key => 7,
+            Kind::OnlyLeft => 8,
+            Kind::OnlyRight => 9,
+            Kind::Moved => 10,
+            Kind::Value => 11,
+        }
+    }
+}
 
 // One side of a line: a parameter's origin, and the start and the length of its value.
 #[derive(Clone, Copy)]
-pub struct Side {
+pub struct Half {
     pub origin: u32,
     pub start: u32,
     pub len: u32,
 }
 
 // A side that is missing.
-pub fn missing() -> Side
-    ensures { side_is result ≡ missing }
+pub fn missing() -> Half
+    ensures { half_is result ≡ missing }
 {
-    Side {
+    Half {
         origin: 0,
         start: 0,
         len: 0,
     }
 }
 
-// The side of an entry.
-pub(crate) fn side_of(table: &[u32], i: usize) -> Side
-    requires { i * width + width ≤ length table.now }
-    ensures { side_is result ≡ side_of (first_of (drop (i * width) table.now)) }
-{
-    let from = i * layout::WIDTH;
-    Side {
-        origin: table[from + layout::ORIGIN],
-        start: table[from + layout::VALUE_START],
-        len: table[from + layout::VALUE_SIZE],
-    }
+#[derive(Clone, Copy)]
+struct Line {
+    kind: Kind,
+    recipient: u32,
+    left: Half,
+    right: Half,
 }
 
 // The eight numbers of a line, written from a position on.
-fn put_numbers(lines: &mut [u32], from: usize, kind: u32, recipient: u32, left: Side, right: Side)
-    requires { from + line_width ≤ length lines.old }
-    ensures { lines.new ≡ written from (line_numbers (line kind recipient (side_is left) (side_is right))) lines.old }
+fn put_numbers(list: &mut [u32], from: usize, l: Line)
+    requires { from + line_width ≤ length list.old }
+    ensures { list.new ≡ written from (line_numbers (line_is l)) list.old }
 {
-    lines[from] = kind;
-    lines[from + 1] = recipient;
-    lines[from + 2] = left.origin;
-    lines[from + 3] = left.start;
-    lines[from + 4] = left.len;
-    lines[from + 5] = right.origin;
-    lines[from + 6] = right.start;
-    lines[from + 7] = right.len;
+    list[from] = l.kind.number();
+    list[from + 1] = l.recipient;
+    list[from + 2] = l.left.origin;
+    list[from + 3] = l.left.start;
+    list[from + 4] = l.left.len;
+    list[from + 5] = l.right.origin;
+    list[from + 6] = l.right.start;
+    list[from + 7] = l.right.len;
 }
 
-// A line put behind the first ones; how many there are then.
-pub fn put(
-    lines: &mut [u32],
-    at: usize,
-    kind: u32,
-    recipient: u32,
-    left: Side,
-    right: Side,
-) -> usize
-    requires { at * line_width + line_width ≤ length lines.old }
-    ensures { Appends at lines.old result lines.new (line kind recipient (side_is left) (side_is right) ∷ []) }
-{
-    put_numbers(lines, at * WIDTH, kind, recipient, left, right);
-    at + 1
+// The lines that have been put.
+#[derive(Drop)]
+pub struct Lines {
+    lines: [Line; MOST],
+    count: usize,
 }
 
-// The same where something holds; none where it does not.
-pub fn put_if(
-    test: bool,
-    lines: &mut [u32],
-    at: usize,
-    kind: u32,
-    recipient: u32,
-    left: Side,
-    right: Side,
-) -> usize
-    requires { at * line_width + line_width ≤ length lines.old }
-    ensures appends { Appends at lines.old result lines.new (line_if test (line kind recipient (side_is left) (side_is right))) }
-    ensures upper_bound { result ≤ at + 1 }
-{
-    if test {
-        return put(lines, at, kind, recipient, left, right);
+impl Model for Lines {
+    ghost use Rattle.std.specs.Prelude.{◌≡◌, List, map, take, ◌≤◌, length};
+    ghost use Rattle.parameters.specs.Lines.{Line};
+
+    ghost Value = { List Line };
+
+    ghost use Rattle.parameters.specs.Inner.Puts.{most_lines, line_is};
+
+    ghost view = { λ a. map line_is (take a.count a.lines) };
+
+    ghost invariant = { λ a. (a.count ≤ most_lines) × (length a.lines ≡ most_lines) };
+}
+
+impl Lines {
+    #[inline]
+    pub fn new() -> Self
+        ensures { result ≡ [] }
+    {
+        let none = Line {
+            kind: Kind::Form,
+            recipient: 0,
+            left: missing(),
+            right: missing(),
+        };
+        Lines {
+            lines: [none; MOST],
+            count: 0,
+        }
     }
-    at
+
+    // How many there are.
+    pub fn len(&self) -> usize
+        ensures { result ≡ length self.now }
+    {
+        self.count
+    }
+
+    // A line put behind the first ones.
+    pub fn put(&mut self, kind: Kind, recipient: u32, left: Half, right: Half)
+        requires { length self.old < most_lines }
+        ensures { self.new ≡ self.old ++ line (kind_number kind) recipient (half_is left) (half_is right) ∷ [] }
+    {
+        let Lines { lines, count } = self;
+        lines[*count] = Line {
+            kind,
+            recipient,
+            left,
+            right,
+        };
+        *count += 1;
+    }
+
+    // The same where something holds; none where it does not.
+    pub fn put_if(&mut self, test: bool, kind: Kind, recipient: u32, left: Half, right: Half)
+        requires { length self.old < most_lines }
+        ensures { self.new ≡ self.old ++ line_if test (line (kind_number kind) recipient (half_is left) (half_is right)) }
+    {
+        if test {
+            self.put(kind, recipient, left, right);
+        }
+    }
+
+    // Their numbers at the start of a list, whose rest is unchanged.
+    pub fn hand_out(&self, list: &mut [u32])
+        requires { length self.now * line_width ≤ length list.old }
+        ensures { list.new ≡ written 0 (laid self.now) list.old }
+    {
+        for i in 0..self.count {
+            put_numbers(list, i * WIDTH, self.lines[i]);
+        }
+    }
 }

@@ -9,6 +9,7 @@ ghost use Rattle.recipients.specs.Inner.Answers.{count_answer, body_at};
 use prelude::Place;
 use prelude::limits::MOST_RECIPIENTS;
 
+pub mod bodies;
 pub mod four;
 
 // Where a recipient's header and key stand in the table; either may have length 0.

@@ -18,7 +18,6 @@ ghost use Rattle.shape.specs.Inner.Answers.{starts_order, passed_at, Leaves, Lea
 use crate::held::component;
 use crate::{member, number};
 use json_read::Position;
-use json_read::member::Member;
 use prelude::refusal::Refusal;
 use prelude::limits::{LEVELS, MOST_RECIPIENTS};
 use rows::table::Entries;
@@ -43,14 +42,13 @@ fn some_no_object(message: &[u8], from: Position, turns: usize) -> bool
     let mut p = from;
     let mut left = turns;
     while 0 < left {
-        let found = p.element(message, LEVELS, true);
-        let Member::Here(row, next) = found else {
+        let Some(found) = p.element(message, LEVELS, true) else {
             return false;
         };
-        if row.kind != 0 {
+        if found.row.kind != 0 {
             return true;
         }
-        p = next;
+        p = found.next;
         left -= 1;
     }
     false
@@ -77,22 +75,21 @@ pub(crate) fn walk(message: &[u8], at: usize, starts: &mut [usize]) -> Result<us
     let mut count: usize = 0;
     let mut left = message.len();
     while 0 < left {
-        let found = p.element(message, LEVELS, true);
-        let Member::Here(row, next) = found else {
+        let Some(found) = p.element(message, LEVELS, true) else {
             return counted(count);
         };
-        if row.kind != 0 {
+        if found.row.kind != 0 {
             return Err(Refusal::Shape);
         }
         if count == MOST_RECIPIENTS {
-            if some_no_object(message, next, left - 1) {
+            if some_no_object(message, found.next, left - 1) {
                 return Err(Refusal::Shape);
             }
             return Err(Refusal::ManyRecipients);
         }
-        starts[count] = row.value.start;
+        starts[count] = found.row.value.start;
         count += 1;
-        p = next;
+        p = found.next;
         left -= 1;
     }
     counted(count)

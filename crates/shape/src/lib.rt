@@ -10,7 +10,7 @@ ghost use Rattle.prelude.specs.Refusals.{first, stage_of, as_stage};
 ghost use Rattle.shape.specs.Recipients.{top_entries, top_order, elements_order, recipients_in};
 ghost use Rattle.shape.specs.Inner.Answers.{top_table, flat_recipients, written_in, recipients_room};
 
-use json_read::{Found, Position};
+use json_read::Position;
 use prelude::refusal::Refusal;
 use prelude::limits::{LEVELS, MOST_RECIPIENTS};
 use rows::table::Entries;
@@ -46,8 +46,7 @@ pub fn top(message: &[u8], table: &mut [u32]) -> Result<usize, Refusal>
     ensures value { as_stage result ≡ stage_of (first (top_order message.now)) (length (top_entries message.now)) }
     ensures table_after { table.new ≡ top_table message.now table.old }
 {
-    let judged = json_read::judge(message, LEVELS);
-    let Found::Value(_, _) = judged else {
+    let Some(_) = json_read::judge(message, LEVELS) else {
         return Err(Refusal::Unread);
     };
     let list = MEMBERS;

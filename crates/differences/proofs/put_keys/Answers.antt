@@ -1,56 +1,25 @@
 -- `put_keys` puts the line of one recipient's keys after the other.
-use mathlib.Core.Path.{◌≡◌, ap}
-use native.Mathlib.Omega.{arith}
-use Rattle.parameters.proofs.Appending.{appends_none, appends_then, appends_as}
-use Rattle.differences.specs.Differences.{up_to}
-use Rattle.differences.specs.Inner.Opened.{key_line}
-use Rattle.differences.proofs.Recipients.{up_next, key_line_lem}
+use Rattle.std.proofs.Common.{ap, sym, length, length-append, append-nil, arith}
+use Rattle.parameters.specs.Lines.{line, line_if}
+use Rattle.parameters.specs.Inner.Puts.{half_is}
+use Rattle.parameters.proofs.Appending.{few_if}
+use Rattle.differences.specs.Differences.{compared, key_lines, up_to}
+use Rattle.differences.proofs.Putting.{up_added, key_put}
 use Rattle.differences.proofs.put_keys.Goals as goal
 
 pub loop-n-init : goal.loop-n-init
 unfolding up_to
-loop-n-init c =
-    (omega arith, (omega arith, appends_none c.args.at c.args.lines.now))
-
-pub key-q-requires : goal.key-q-requires
-key-q-requires c = omega (arith, c.requires.recipient_width_in_bounds, c.loop-n-test.true)
-
-pub key-p-requires : goal.key-p-requires
-key-p-requires c =
-    omega (arith, c.requires.recipient_width_in_bounds_2, c.loop-n-test.true)
-
-pub overflow_cast-n : goal.overflow_cast-n
-overflow_cast-n c =
-    omega (arith, c.requires.both_le_most_recipients, c.loop-n-test.true)
-
-pub put_if-m-requires : goal.put_if-m-requires
-put_if-m-requires c =
-    omega (arith, c.requires.line_width_in_bounds, c.loop-n.invariant.1.0, c.loop-n.invariant.1.1.same, c.loop-n-test.true)
+loop-n-init c = (omega arith, sym (append-nil c.args.lines.now))
 
 pub loop-n-preserved : goal.loop-n-preserved
 loop-n-preserved c =
-    let args = c.args in
+    let left = c.args.left.now.message.now in
+    let right = c.args.right.now.message.now in
     let n = c.loop-n.n in
-    let f = key_line args.left.now args.left_of.now args.right.now args.right_of.now in (
-      omega (arith, c.loop-n-test.true),
-      (
-        omega (arith, c.loop-n.invariant.1.0, c.put_if-m.ensures.upper_bound),
-        appends_as (up_next f n)
-            (appends_then c.loop-n.invariant.1.1
-            (appends_as (key_line_lem args.left.now args.left_of.now args.right.now args.right_of.now n
-            c.key-q.ensures c.key-p.ensures c.other-differs.ensures c.missing.ensures c.missing-in-loop-n.ensures) c.put_if-m.ensures.appends)),
-      ),
+    let b = c.other-differs.result in
+    let l = line 7 n (half_is c.missing.result) (half_is c.missing-in-loop-n.result) in (
+      omega (arith, ap length c.put_if.ensures, length-append c.loop-n.lines (line_if b l), few_if b l, c.loop-n.invariant.0),
+      up_added (key_lines (compared left) (compared right)) n c.args.lines.now c.loop-n.invariant.1
+          (key_put left right n c.key.ensures c.key-in-loop-n.ensures c.other-differs.ensures c.missing.ensures c.missing-in-loop-n.ensures)
+          c.put_if.ensures,
     )
-
-pub shape_of-lines : goal.shape_of-lines
-shape_of-lines c = c.loop-n.invariant.1.1.same
-
-pub returns : goal.returns
-returns c =
-    let args = c.args in
-    let f = key_line args.left.now args.left_of.now args.right.now args.right_of.now in
-    let all : c.loop-n.n ≡ args.both = omega (arith, c.loop-n.invariant.0, c.loop-n-test.false) in
-    record {
-      appends = appends_as (ap (up_to f) all) c.loop-n.invariant.1.1;
-      upper_bound = omega (arith, c.loop-n.invariant.0, c.loop-n.invariant.1.0);
-    }

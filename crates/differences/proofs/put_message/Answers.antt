@@ -1,30 +1,17 @@
--- `put_message` puts a line for form, recipient count and header, and those of the components.
-use mathlib.Core.Path.{ap}
-use mathlib.Core.Bool.{Bool, not}
-use native.Mathlib.Omega.{arith}
-use Rattle.parameters.specs.Lines.{line_if}
-use Rattle.parameters.proofs.Appending.{appends_as, appends_then}
-use Rattle.differences.specs.Differences.{whole}
-use Rattle.differences.specs.Inner.Opened.{whole_lines}
+-- `put_message` puts one line after the other.
+use Rattle.std.proofs.Common.{ap, ◌++◌, List, append_assoc}
 use Rattle.same.proofs.SameOctets.{decided}
+use Rattle.parameters.specs.Lines.{Line}
+use Rattle.differences.proofs.Putting.{message_put}
 use Rattle.differences.proofs.put_message.Goals as goal
 
-pub put_whole-three-requires : goal.put_whole-three-requires
-put_whole-three-requires c =
-    omega (arith, c.requires, c.put_whole-one.ensures.upper_bound, c.put_whole-two.ensures.upper_bound, c.put_whole-one.ensures.appends.same, c.put_whole-two.ensures.appends.same)
-
-pub put_components-requires : goal.put_components-requires
-put_components-requires c =
-    omega (arith, c.requires, c.put_whole-one.ensures.upper_bound, c.put_whole-two.ensures.upper_bound, c.put_whole-three.ensures.upper_bound, c.put_whole-one.ensures.appends.same, c.put_whole-two.ensures.appends.same, c.put_whole-three.ensures.appends.same)
-
-pub returns : goal.returns
-unfolding whole_lines
-returns c =
-    let args = c.args in
-    let header = ap (λ (b : Bool). line_if (not b) (whole 2)) (decided c.equal-same.result _ _ c.equal-same.ensures) in
-    record {
-      appends = appends_then c.put_whole-one.ensures.appends
-          (appends_then c.put_whole-two.ensures.appends
-          (appends_then (appends_as header c.put_whole-three.ensures.appends) c.put_components.ensures.appends));
-      upper_bound = omega (arith, c.put_whole-one.ensures.upper_bound, c.put_whole-two.ensures.upper_bound, c.put_whole-three.ensures.upper_bound, c.put_components.ensures.upper_bound);
-    }
+pub returns-clause-lines : goal.returns-clause-lines
+returns-clause-lines c =
+    let left = c.args.left.now in
+    let right = c.args.right.now in
+    let header = decided c.equal.result _ _ c.equal.ensures in
+    rw (c.put_whole-7.ensures.lines, c.put_whole-6.ensures.lines, c.put_whole-5.ensures.lines, c.put_whole-4.ensures.lines,
+    c.put_whole-3.ensures.lines, c.put_whole-2.ensures.lines, c.put_whole.ensures.lines, header, c.other.ensures, c.other-2.ensures,
+    c.other-3.ensures, c.other-4.ensures)
+    (simp append_assoc (ap (λ (l : List Line). c.args.lines.now ++ l)
+    (message_put left.message.now left.header.now left.holds left.judged right.message.now right.header.now right.holds right.judged)))

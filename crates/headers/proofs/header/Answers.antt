@@ -42,14 +42,14 @@ slice_bounds-judge-end-2 c =
     c.in-Ok.n = begun (decodes) _ c.in-Ok.is in
     let b = begins in b.count ∙ sym (ap length b.front)
 
-pub returns-in_default-judged : goal.returns-in_default-judged
-returns-in_default-judged c =
+pub returns-in_default-judge : goal.returns-in_default-judge
+returns-in_default-judge c =
     let decodes : Decoding ((header_text c.args.message.now (place_of c.args.place))) c.args.buffer.now c.decode-decoded.new.out c.decode-decoded.result = decoding c.args.message.now (place_of c.args.place) c.requires.place_value c.args.buffer.now
     c.requires.buffer_len _ _ _ c.part.ensures.octets c.decode-decoded.ensures in
     let begins : Begins ((header_text c.args.message.now (place_of c.args.place))) c.decode-decoded.new.out
     c.in-Ok.n = begun (decodes) _ c.in-Ok.is in
     record {
-      value = refused_7 (begins) c.judge-judged.ensures (ap no_value c.in_default-judged.is);
+      value = refused_7 (begins) c.judge.ensures (ap no_value c.in_default-judge.is);
       buffer_after = (decodes).left;
     }
 
@@ -60,6 +60,6 @@ returns c =
     let begins : Begins ((header_text c.args.message.now (place_of c.args.place))) c.decode-decoded.new.out
     c.in-Ok.n = begun (decodes) _ c.in-Ok.is in
     record {
-      value = passed (begins) c.judge-judged.ensures (ap no_value c.in-Value.is);
+      value = passed (begins) c.judge.ensures (ap no_value c.in-Some.is);
       buffer_after = (decodes).left;
     }

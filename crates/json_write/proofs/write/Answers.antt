@@ -56,15 +56,8 @@ returns-then-most_for-n c =
     (refusal_table (c.args.general) ((raw_json c.args.protected.now c.args.shared.now c.args.aad.now c.args.iv.now c.args.ciphertext.now
     c.args.tag.now c.args.recipients.now)) (c.args.known.now) (length (c.args.out.now)) (sounds) wrong) (omega arith)
 
-pub text_length-size-requires : goal.text_length-size-requires
-text_length-size-requires c =
-    let said : (sound_table ((raw_json c.args.protected.now c.args.shared.now c.args.aad.now c.args.iv.now c.args.ciphertext.now
-    c.args.tag.now c.args.recipients.now)).recipients ≡ true) × (c.in-Some.n ≡ said_count ((raw_json c.args.protected.now c.args.shared.now c.args.aad.now c.args.iv.now c.args.ciphertext.now
-    c.args.tag.now c.args.recipients.now)).recipients) = (let t = ((raw_json c.args.protected.now c.args.shared.now c.args.aad.now c.args.iv.now c.args.ciphertext.now
-    c.args.tag.now c.args.recipients.now)).recipients in
-    let e = sym c.count.ensures ∙ c.in-Some.is in
-    (counted_sound t _ e, counted t _ e)) in
-    (said).0
+pub invariant_of-message : goal.invariant_of-message
+invariant_of-message c = record { sound = counted_sound c.args.recipients.now _ (sym c.count.ensures ∙ c.in-Some.is) }
 
 pub judge_over-requires : goal.judge_over-requires
 judge_over-requires c =
@@ -217,18 +210,9 @@ returns-then-out-size c =
 
 pub put_text-requires : goal.put_text-requires
 put_text-requires c =
-    let said : (sound_table ((raw_json c.args.protected.now c.args.shared.now c.args.aad.now c.args.iv.now c.args.ciphertext.now
-    c.args.tag.now c.args.recipients.now)).recipients ≡ true) × (c.in-Some.n ≡ said_count ((raw_json c.args.protected.now c.args.shared.now c.args.aad.now c.args.iv.now c.args.ciphertext.now
-    c.args.tag.now c.args.recipients.now)).recipients) = (let t = ((raw_json c.args.protected.now c.args.shared.now c.args.aad.now c.args.iv.now c.args.ciphertext.now
-    c.args.tag.now c.args.recipients.now)).recipients in
-    let e = sym c.count.ensures ∙ c.in-Some.is in
-    (counted_sound t _ e, counted t _ e)) in
     let short : length ((written_text (c.args.general) ((raw_json c.args.protected.now c.args.shared.now c.args.aad.now c.args.iv.now c.args.ciphertext.now
     c.args.tag.now c.args.recipients.now)))) ≤ 16777216 = omega (arith, c.text_length-size.ensures, c.if-size-gt-LONGEST.false) in
-    record {
-      table_value = (said).0;
-      table_in_bounds = omega (arith, c.if-out-size.false, c.text_length-size.ensures, short);
-    }
+    omega (arith, c.if-out-size.false, c.text_length-size.ensures, short)
 
 pub returns : goal.returns
 returns c =

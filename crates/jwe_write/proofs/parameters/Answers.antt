@@ -8,7 +8,8 @@ use Rattle.names.specs.Names.{names}
 use Rattle.rows.specs.Rows.{Entry, one_text}
 use Rattle.rows.specs.Inner.Prints.{collected_table}
 use Rattle.rows.proofs.Printing.{stand_in_one, printed_at}
-use Rattle.prelude.specs.Refusals.{first, stage_of, as_stage, number_of, Passed}
+use Rattle.prelude.specs.Refusals.{first, stage_of}
+use Rattle.prelude.specs.declared.Stage.TheVariants.{Passed}
 use Rattle.prelude.proofs.Refusals.{first_skip}
 use Rattle.jose.specs.HeaderRules.{mode_in}
 use Rattle.headers.specs.Headers.{protected_entries, object_order}
@@ -28,10 +29,9 @@ pub returns-in_err-count : goal.returns-in_err-count
 returns-in_err-count c =
     let header = c.args.header.now in
     let es = protected_entries header in
-    let n = number_of c.in_err-count.field-0.0 in
-    let r = refused_is n _ _ (sym (ap as_stage c.in_err-count.was) ∙ c.protected_entries.ensures.value) in
-    let all = stopped (object_order header es) _ (object_nonzero header es) n r.0 r.1 in
-    ap as_stage c.in_err-count.was ∙ refuses _ r.1 ∙ ap (λ (n : ℕ). stage_of n (mode_in (one_text header) es)) (sym all)
+    let r = refused_is (number_of c.in_err-count.field-0.0) _ _ (sym (ap as_stage c.in_err-count.was) ∙ c.protected_entries.ensures.value) in
+    let all = stopped (object_order header es) _ (object_nonzero header es) (number_of c.in_err-count.field-0.0) r.0 r.1 in
+    (ap as_stage c.in_err-count.was) ∙ refuses _ r.1 ∙ ap (λ (n : ℕ). stage_of n (mode_in (one_text header) es)) (sym all)
 
 pub invariant_of-entries : goal.invariant_of-entries
 invariant_of-entries c =

@@ -27,7 +27,7 @@ use Rattle.shape.proofs.top.Goals as goal
 pub returns-in_default : goal.returns-in_default
 returns-in_default c =
     let args = c.args in
-    let none = unread_is args.message.now c.judge-judged.result c.judge-judged.ensures
+    let none = unread_is args.message.now c.judge.result c.judge.ensures
     ∙ ap no_value c.in_default.is in
     record {
       value = top_unread args.message.now _ none;
@@ -37,8 +37,8 @@ returns-in_default c =
 pub object-requires : goal.object-requires
 unfolding filled total
 object-requires c =
-    let reads = unread_is (c.args.message.now) c.judge-judged.result c.judge-judged.ensures
-    ∙ ap no_value c.in-Value.is in
+    let reads = unread_is (c.args.message.now) c.judge.result c.judge.ensures
+    ∙ ap no_value c.in-Some.is in
     let known = top_object (c.args.message.now) reads in
     record {
       s_len_bound = search rules;
@@ -55,8 +55,8 @@ returns-in_err-count c =
     (length (top_entries (c.args.message.now))) = object_answer (c.args.message.now) _ _ _
     (top_entries_lem (c.args.message.now) _ (names_of_lem member_names) c.skip_space-at.result.at c.skip_space-at.ensures) _
     c.object.ensures.value in
-    let is_read : unread (c.args.message.now) ≡ false = unread_is (c.args.message.now) c.judge-judged.result c.judge-judged.ensures
-    ∙ ap no_value c.in-Value.is in
+    let is_read : unread (c.args.message.now) ≡ false = unread_is (c.args.message.now) c.judge.result c.judge.ensures
+    ∙ ap no_value c.in-Some.is in
     let left : c.object.new.table
     ≡ collected_table 0 (c.args.message.now) (top_entries (c.args.message.now)) c.args.table.now = object_table_lem _ _ _ c.args.table.now _
     (top_entries_lem (c.args.message.now) _ (names_of_lem member_names) c.skip_space-at.result.at c.skip_space-at.ensures)
@@ -102,8 +102,8 @@ returns-then-wrong_top c =
     let holds : Entered (top_entries (c.args.message.now)) c.object.new.table
     c.in_ok-count.count = entered _ _ _ _ (left) c.requires.header_table_in_bounds _ (answer) c.in_ok-count.count
     (ap as_stage c.in_ok-count.was) in
-    let is_read : unread (c.args.message.now) ≡ false = unread_is (c.args.message.now) c.judge-judged.result c.judge-judged.ensures
-    ∙ ap no_value c.in-Value.is in
+    let is_read : unread (c.args.message.now) ≡ false = unread_is (c.args.message.now) c.judge.result c.judge.ensures
+    ∙ ap no_value c.in-Some.is in
     let whole : c.object.new.table ≡ top_table (c.args.message.now) c.args.table.now = left ∙ sym (top_collected (c.args.message.now) c.args.table.now (is_read)) in
     let s = c.args.message.now in
     let wrong = sym (ap (wrong_top s) (holds).entries)
@@ -128,8 +128,8 @@ returns c =
     let holds : Entered (top_entries (c.args.message.now)) c.object.new.table
     c.in_ok-count.count = entered _ _ _ _ (left) c.requires.header_table_in_bounds _ (answer) c.in_ok-count.count
     (ap as_stage c.in_ok-count.was) in
-    let is_read : unread (c.args.message.now) ≡ false = unread_is (c.args.message.now) c.judge-judged.result c.judge-judged.ensures
-    ∙ ap no_value c.in-Value.is in
+    let is_read : unread (c.args.message.now) ≡ false = unread_is (c.args.message.now) c.judge.result c.judge.ensures
+    ∙ ap no_value c.in-Some.is in
     let whole : c.object.new.table ≡ top_table (c.args.message.now) c.args.table.now = left ∙ sym (top_collected (c.args.message.now) c.args.table.now (is_read)) in
     let s = c.args.message.now in
     let right = sym (ap (wrong_top s) (holds).entries)
