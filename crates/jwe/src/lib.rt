@@ -164,13 +164,12 @@ pub fn hold(
         table.new of.new own.new counts.new) }
 {
     if LONGEST < message.len() {
-        return Err(Refusal::LongMessage);
+        Err(Refusal::LongMessage)
+    } else if !names::sound(known) {
+        Err(Refusal::KnownNames)
+    } else if json_read::opens_object(message) {
+        general::hold(message, known, text, table, of, own, counts)
+    } else {
+        compact::hold(message, known, text, table, of, counts)
     }
-    if !names::sound(known) {
-        return Err(Refusal::KnownNames);
-    }
-    if json_read::opens_object(message) {
-        return general::hold(message, known, text, table, of, own, counts);
-    }
-    compact::hold(message, known, text, table, of, counts)
 }

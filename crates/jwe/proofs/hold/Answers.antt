@@ -53,8 +53,8 @@ returns-then-opens_object c =
       fact = λ z. k.holds (sym k.number ∙ z);
     }
 
-pub hold-requires-2 : goal.hold-requires-2
-hold-requires-2 c =
+pub hold-requires-else-opens_object : goal.hold-requires-else-opens_object
+hold-requires-else-opens_object c =
     record {
       message_len_bound = c.if-message-gt-LONGEST.false;
       known_value = sound_filled _ (sym c.sound.ensures ∙ c.if-not-sound.false);
@@ -64,14 +64,14 @@ hold-requires-2 c =
       counts_len = c.requires.counts_len;
     }
 
-pub returns : goal.returns
-returns c =
+pub returns-else-opens_object : goal.returns-else-opens_object
+returns-else-opens_object c =
     let m = c.args.message.now in
     let known = names c.args.known.now in
     let judged = refusal_judged ((call c.args.message.now c.args.known.now 0 header_room list_room)) (omega arith) (omega arith) c.if-message-gt-LONGEST.false
     (sym c.sound.ensures ∙ c.if-not-sound.false) in
-    let k = holds_as m known false (sym c.opens_object.ensures ∙ c.if-opens_object.false) (as_holding c.hold-2.result) _ _ _ _ _
-    (c.hold-2.ensures c.args.own.now) in
+    let k = holds_as m known false (sym c.opens_object.ensures ∙ c.if-opens_object.false) (as_holding c.hold-else-opens_object.result) _ _ _ _ _
+    (c.hold-else-opens_object.ensures c.args.own.now) in
     record {
       number_value = k.number ∙ sym judged;
       fact = λ z. k.holds (sym k.number ∙ z);
