@@ -64,7 +64,7 @@ module _ (p : ℕ → Bool) where
         ∙ ap (λ (b : Bool). b || list_any p (drop at s)) before
 
     -- none stands before a position, and one there, unless it is the end
-    pub first_is : (at i : ℕ) → at ≤ i → i ≤ length s → AllWithin (λ c. p c ≡ false) s at i
+    first_is : (at i : ℕ) → at ≤ i → i ≤ length s → AllWithin (λ c. p c ≡ false) s at i
         → (i < length s → p (get_or s i 0) ≡ true) → i ≡ at + position_or_len p (drop at s)
     first_is at i low high none there =
         let q : at + (i - at) ≡ i = omega arith in
@@ -73,3 +73,13 @@ module _ (p : ℕ → Bool) where
         (λ h. ap p (get_or-drop at s (i - at) 0) ∙ ap (λ (m : ℕ). p (get_or s m 0)) q
         ∙ there (omega (arith, h, length-drop at s))) in
         omega (arith, first)
+
+    -- what the code finds: one there ..
+    pub first_there : (at i : ℕ) → at ≤ i → i < length s → AllWithin (λ c. p c ≡ false) s at i
+        → (found : Bool) → found ≡ p (get_or s i 0) → found ≡ true → i ≡ at + position_or_len p (drop at s)
+    first_there at i low high none found tested holds = first_is at i low (omega arith) none (λ h. sym tested ∙ holds)
+
+    -- .. or the text's end
+    pub first_end : (at i : ℕ) → at ≤ i → i ≡ length s → AllWithin (λ c. p c ≡ false) s at i
+        → i ≡ at + position_or_len p (drop at s)
+    first_end at i low end none = first_is at i low (omega arith) none (λ h. absurd (omega arith))

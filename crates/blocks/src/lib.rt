@@ -1,5 +1,5 @@
-// Octets of a kind sought in a text, at memory speed. What a kind is, each caller says; what the functions answer is said
-// in std's words on lists.
+// Octets of a kind sought in a text, at memory speed: in blocks of N octets, so few that an octet counts them. What a kind
+// is, each caller says; what the functions answer is said in std's words on lists.
 #![tactic(auto)]
 
 ghost use Rattle.std.specs.Prelude.{◌≡◌, ℕ, ◌+◌, ◌-◌, ◌<◌, ◌≤◌, Bool, false, length, take, drop};

@@ -6,12 +6,14 @@ use Prim.Native.Nat.{ℕ, zero, suc, ◌+◌, ◌-◌, ◌≤◌, ◌<◌, suc-l
 use native.Mathlib.Nat.{le_of_suc-le-suc, not-suc-le-zero}
 use native.Mathlib.Omega.{arith}
 use lib.ListN.{length, take, drop, get_or, length-append, length-take, length-drop}
-use lib.Seq.{take-append_seam, drop-append_seam, get_or-drop}
+use lib.Seq.{take-append_seam, drop-append_seam, get_or-drop, get_or-take}
 use lib.Dec.{leb, ltb, eqb}
-use borrow.Author.Tests.{le-leb, lt-leb, eq-eqb, ne_eqb, ltb-true, ltb-false}
+use borrow.Author.Tests.{le-leb, lt-leb, eq-eqb, ne_eqb, eqb-true, eqb-false, ltb-true, ltb-false}
 use Rattle.prelude.specs.Buffer.{AllBelow}
 use Rattle.prelude.proofs.Lists.{below_part, drop_next}
 use denote.Ref.{Bor}
+use Rattle.std.specs.List.{position_or_len}
+use Rattle.std.proofs.lemmas.List.Sums.{fails_before_first, passes_at_first}
 use Rattle.parts.specs.Parts.{part, part_at, seek_in, seek, holds}
 use Rattle.parts.proofs.Seeking as seeking
 
@@ -58,6 +60,27 @@ part_between p a b =
     part_fits (p ++ (a ++ b)) (length p) (length a) (omega (arith, length-append p (a ++ b), length-append a b))
     ∙ ap (take (length a)) (drop-append_seam p (a ++ b)) ∙ take-append_seam a b
 
+-- Whether an octet stands in a text
+
+module _ (c : ℕ) where
+  pub absent_at : (s : List ℕ) → holds c s ≡ false → (k : ℕ) → k < length s → get_or s k 0 ≡ c → ⊥
+  unfolding holds
+  absent_at [] none k h e = not-suc-le-zero h
+  absent_at (x ∷ s) none zero h e =
+      true≢false (sym (ap (λ (t : Bool). t || holds c s) (eq-eqb x c e)) ∙ none)
+  absent_at (x ∷ s) none (suc k) h e = absent_at s (right (eqb x c) none) k (le_of_suc-le-suc h) e
+    where
+      right : (t : Bool) → (t || holds c s) ≡ false → holds c s ≡ false
+      right true none = absurd (true≢false none)
+      right false none = none
+
+  pub absent : (s : List ℕ) → ((k : ℕ) → k < length s → get_or s k 0 ≡ c → ⊥) → holds c s ≡ false
+  unfolding holds
+  absent [] differ = refl
+  absent (x ∷ s) differ =
+      ap (λ (t : Bool). t || holds c s) (ne_eqb x c (differ 0 (omega arith)))
+      ∙ absent s (λ k h. differ (suc k) (suc-le-suc h))
+
 -- Seeking
 
 module _ (c : ℕ) (s : List ℕ) (at : ℕ) where
@@ -66,20 +89,24 @@ module _ (c : ℕ) (s : List ℕ) (at : ℕ) where
   seek_bounds = seeking.bounds c s at
 
   module _ (e : ℕ) (found : e ≡ seek c s at) where
-    reached : seek_in c (drop at s) at ≡ at + (e - at)
-    unfolding seek
-    reached = omega (arith, found, seek_bounds)
+    -- how far c is
+    size : position_or_len (λ x. eqb x c) (drop at s) ≡ e - at
+    size = omega (arith, found, seeking.seek_is c s at)
 
     -- c does not stand before the place found ..
     pub seek_before : holds c (take (e - at) (drop at s)) ≡ false
-    seek_before = (seeking.stops c (drop at s) at (e - at) reached).before
+    seek_before = absent c (take (e - at) (drop at s)) (λ k h is.
+        let l : k < e - at = omega (arith, h, length-take (e - at) (drop at s)) in
+        let none = fails_before_first (λ x. eqb x c) (drop at s) k 0 (omega (arith, l, size)) in
+        eqb-false (get_or (drop at s) k 0) c none (sym (get_or-take (e - at) (drop at s) k 0 l) ∙ is))
 
     -- .. and stands there, unless that is the text's end
     pub seek_there : e < length s → get_or s e 0 ≡ c
     seek_there h =
-        let place : at + (e - at) ≡ e = omega (arith, found, seek_bounds.0) in
-        ap (λ (k : ℕ). get_or s k 0) (sym place) ∙ sym (get_or-drop at s (e - at) 0)
-        ∙ (seeking.stops c (drop at s) at (e - at) reached).there (omega (arith, length-drop at s))
+        let n = position_or_len (λ x. eqb x c) (drop at s) in
+        let place : at + n ≡ e = omega (arith, size, found, seek_bounds.0) in
+        let here = passes_at_first (λ x. eqb x c) (drop at s) 0 (omega (arith, place, h, length-drop at s)) in
+        ap (λ (k : ℕ). get_or s k 0) (sym place) ∙ sym (get_or-drop at s n 0) ∙ eqb-true (get_or (drop at s) n 0) c here
 
     pub seek_split : (holds c (take (e - at) (drop at s)) ≡ false) × (e < length s → get_or s e 0 ≡ c)
     seek_split = (seek_before, seek_there)
@@ -117,7 +144,7 @@ module _ (c : ℕ) (a : List ℕ) (none : holds c a ≡ false) where
       ap (λ (t : List ℕ). seek_in c t (length p)) (drop-append_seam p a ∙ sym (append-nil a))
       ∙ seeking.passed c a [] (length p) none
 
--- Whether an octet stands in a text
+-- Whether an octet stands in a text, by seeking and by parts
 
 module _ (c : ℕ) where
   pub holds_seek : (s : List ℕ) → ltb (seek c s 0) (length s) ≡ holds c s
@@ -135,21 +162,3 @@ module _ (c : ℕ) where
           → (t || holds c (a ++ b)) ≡ ((t || holds c a) || holds c b)
       cases true later = refl
       cases false later = later
-
-  pub absent_at : (s : List ℕ) → holds c s ≡ false → (k : ℕ) → k < length s → get_or s k 0 ≡ c → ⊥
-  unfolding holds
-  absent_at [] none k h e = not-suc-le-zero h
-  absent_at (x ∷ s) none zero h e =
-      true≢false (sym (ap (λ (t : Bool). t || holds c s) (eq-eqb x c e)) ∙ none)
-  absent_at (x ∷ s) none (suc k) h e = absent_at s (right (eqb x c) none) k (le_of_suc-le-suc h) e
-    where
-      right : (t : Bool) → (t || holds c s) ≡ false → holds c s ≡ false
-      right true none = absurd (true≢false none)
-      right false none = none
-
-  pub absent : (s : List ℕ) → ((k : ℕ) → k < length s → get_or s k 0 ≡ c → ⊥) → holds c s ≡ false
-  unfolding holds
-  absent [] differ = refl
-  absent (x ∷ s) differ =
-      ap (λ (t : Bool). t || holds c s) (ne_eqb x c (differ 0 (omega arith)))
-      ∙ absent s (λ k h. differ (suc k) (suc-le-suc h))

@@ -2,14 +2,13 @@
 use mathlib.Core.Path.{◌≡◌, refl, ap, sym, ◌∙◌}
 use mathlib.Core.Bool.{Bool, true, false, not, ◌||◌, cond, true≢false}
 use mathlib.Core.List.{List, [], ◌∷◌, ◌++◌}
-use Prim.Native.Nat.{ℕ, zero, suc, ◌+◌, ◌-◌, ◌≤◌, ◌<◌, max}
-use native.Mathlib.Nat.{le_of_suc-le-suc, not-suc-le-zero}
+use Prim.Native.Nat.{ℕ, suc, ◌+◌, ◌-◌, ◌≤◌, ◌<◌, max}
 use native.Mathlib.Omega.{arith}
 use lib.ListN.{length, take, drop, get_or, length-take, length-drop, drop_of_length-le}
-use lib.Seq.{take-nil}
 use lib.Dec.{eqb, ltb}
-use borrow.Author.Tests.{eq-eqb, eqb-true, lt-ltb, le-ltb}
+use borrow.Author.Tests.{eq-eqb, lt-ltb, le-ltb}
 use Rattle.std.specs.List.{position_or_len}
+use Rattle.std.proofs.lemmas.List.Sums.{prefix_len-le-length}
 use Rattle.prelude.proofs.Lists.{drop_next, split_drop}
 use Rattle.parts.specs.Parts.{seek_in, seek, holds}
 
@@ -67,50 +66,17 @@ module _ (c : ℕ) where
 
   -- Where it ends
 
-  pub ends : (t : List ℕ) (at : ℕ) → (at ≤ seek_in c t at) × (seek_in c t at ≤ at + length t)
-  unfolding seek_in
-  ends [] at = (omega arith, omega arith)
-  ends (x ∷ t) at = cases (eqb x c) (ends t (at + 1))
-    where
-      cases : (b : Bool) → (at + 1 ≤ seek_in c t (at + 1)) × (seek_in c t (at + 1) ≤ at + 1 + length t)
-          → (at ≤ cond b at (seek_in c t (at + 1))) × (cond b at (seek_in c t (at + 1)) ≤ at + suc (length t))
-      cases true later = (omega arith, omega arith)
-      cases false later = (omega arith, omega arith)
-
   pub bounds : (s : List ℕ) (at : ℕ) → (at ≤ seek c s at) × (seek c s at ≤ max at (length s))
-  unfolding seek
-  bounds s at = let e = ends (drop at s) at in (e.0, omega (arith, e.1, length-drop at s))
+  bounds s at =
+      let is = seek_is s at in
+      let size : position_or_len (λ x. eqb x c) (drop at s) ≤ length (drop at s) =
+      prefix_len-le-length (λ x. not (eqb x c)) (drop at s) in
+      (omega (arith, is), omega (arith, is, size, length-drop at s))
 
   -- what `seek` ensures of its result, from the first part of it
   pub ensured : (s : List ℕ) (at r : ℕ) → r ≡ seek c s at
       → (r ≡ seek c s at) × ((at ≤ r) × (r ≤ max at (length s)))
   ensured s at r e = (e, (omega (arith, e, bounds s at), omega (arith, e, bounds s at)))
-
-  -- c does not stand before the end, and stands there unless that is the text's end
-  pub record Stops (t : List ℕ) (k : ℕ) : Type 0 where
-    pub before : holds c (take k t) ≡ false
-    pub there : k < length t → get_or t k 0 ≡ c
-
-  pub stops : (t : List ℕ) (at k : ℕ) → seek_in c t at ≡ at + k → Stops t k
-  unfolding seek_in holds
-  stops [] at k e = record { before = ap (holds c) (take-nil k); there = λ l. absurd (not-suc-le-zero l) }
-  stops (x ∷ t) at zero e = record { before = refl; there = λ l. cases (eqb x c) refl e (ends t (at + 1)) }
-    where
-      cases : (b : Bool) → eqb x c ≡ b → cond b at (seek_in c t (at + 1)) ≡ at + 0
-          → (at + 1 ≤ seek_in c t (at + 1)) × (seek_in c t (at + 1) ≤ at + 1 + length t) → x ≡ c
-      cases true b e later = eqb-true x c b
-      cases false b e later = absurd (omega (arith, e))
-  stops (x ∷ t) at (suc k) e = cases (eqb x c) refl e (stops t (at + 1) k)
-    where
-      cases : (b : Bool) → eqb x c ≡ b → cond b at (seek_in c t (at + 1)) ≡ at + suc k
-          → (seek_in c t (at + 1) ≡ at + 1 + k → Stops t k) → Stops (x ∷ t) (suc k)
-      cases true b e later = absurd (omega (arith, e))
-      cases false b e later =
-          let there = later (omega (arith, e)) in
-          record {
-            before = ap (λ (b : Bool). b || holds c (take k t)) b ∙ there.before;
-            there = λ l. there.there (le_of_suc-le-suc l);
-          }
 
   pub within : (t : List ℕ) (at : ℕ) → ltb (seek_in c t at) (at + length t) ≡ holds c t
   unfolding seek_in holds
