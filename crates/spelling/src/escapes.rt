@@ -67,13 +67,10 @@ pub(crate) fn encode_first(n: u32) -> (u8, u8)
     requires { n < 4194304 }
     ensures { (result.0 ∷ last_octets result.1 n ≡ encode n) × (result.1 ≤ 3) }
 {
-    if n <= 0x7F {
-        (n as u8, 0)
-    } else if n <= 0x7FF {
-        ((0xC0 + n / 64) as u8, 1)
-    } else if n <= 0xFFFF {
-        ((0xE0 + n / 4096) as u8, 2)
-    } else {
-        ((0xF0 + n / 262144) as u8, 3)
+    match n {
+        0..=0x7F => (n as u8, 0),
+        0x80..=0x7FF => ((0xC0 + n / 64) as u8, 1),
+        0x800..=0xFFFF => ((0xE0 + n / 4096) as u8, 2),
+        _ => ((0xF0 + n / 262144) as u8, 3),
     }
 }

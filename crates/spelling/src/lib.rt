@@ -126,7 +126,9 @@ pub fn has(a: &[u8], w: &[u8]) -> bool
 fn mix(h: u32, c: u8) -> u32
     ensures { result ≡ mixed h c }
 {
-    ((h as u64 * 16777619 + c as u64 + 1) % 4294967296) as u32
+    h.wrapping_mul(16777619)
+        .wrapping_add(u32::from(c))
+        .wrapping_add(1)
 }
 
 // A fingerprint with what is still to come from a cursor taken in.
