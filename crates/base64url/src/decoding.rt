@@ -38,8 +38,8 @@ fn block_words(six: &[u8; 128], words: &mut [u64; 16])
     }
 }
 
-// The octets of sixteen words, six each, the highest first. A store of eight octets is one, so each word's but the last writes two
-// that are none of the text's, and the next one's goes over them.
+// The octets of sixteen words, six each, the highest first. Eight octets are one store, and six are two: so each word but the last
+// is stored whole, and the next one goes over the two octets that are none of the text's.
 fn put_words(words: &[u64; 16], out: &mut [u8])
     requires { length out.old ≡ 96 }
     ensures { out.new ≡ octets_of words.now }

@@ -52,7 +52,7 @@ pub(crate) fn value(c: u8) -> u8
     ensures { result ≡ near c }
 {
     let d = c % 128;
-    d + on(d < 65, 5) + on(d < 97, 6) + on(d == 95, 33) + on(d == 45, 13) + 57
+    d + on(d < b'A', 5) + on(d < b'a', 6) + on(d == b'_', 33) + on(d == b'-', 13) + 57
 }
 
 // The character of a value below 64.
