@@ -26,7 +26,8 @@ use rows::layout;
 
 mod message;
 
-// The own number, 1 where the list is too short; the refusal of either message, 0 where it is accepted; how many lines there are.
+// What a host is given: the own number, 1 where the list is too short; the refusal of either message, 0 where it is accepted; how many lines
+// there are.
 #[derive(Clone, Copy)]
 pub struct Answer {
     pub number: u32,
@@ -75,11 +76,23 @@ fn put_message(left: &Judged<'_>, right: &Judged<'_>, lines: &mut Lines)
     let (l, r) = (left.message, right.message);
     let (q, p) = (left.holds.components, right.holds.components);
     put_whole(left.holds.form != right.holds.form, Kind::Form, lines);
-    put_whole(left.holds.recipients != right.holds.recipients, Kind::Recipients, lines);
-    put_whole(!prelude::equal(left.header, right.header), Kind::Header, lines);
+    put_whole(
+        left.holds.recipients != right.holds.recipients,
+        Kind::Recipients,
+        lines,
+    );
+    put_whole(
+        !prelude::equal(left.header, right.header),
+        Kind::Header,
+        lines,
+    );
     put_whole(other(l, q.iv, r, p.iv), Kind::Iv, lines);
     put_whole(other(l, q.aad, r, p.aad), Kind::Aad, lines);
-    put_whole(other(l, q.ciphertext, r, p.ciphertext), Kind::Ciphertext, lines);
+    put_whole(
+        other(l, q.ciphertext, r, p.ciphertext),
+        Kind::Ciphertext,
+        lines,
+    );
     put_whole(other(l, q.tag, r, p.tag), Kind::Tag, lines);
 }
 
@@ -152,7 +165,16 @@ fn put_all(
     let both = left.holds.recipients.min(right.holds.recipients);
     put_message(left, right, lines);
     put_keys(left, right, both, lines);
-    put_parameters(left, left_table, right, right_table, both, &kept, lines, work);
+    put_parameters(
+        left,
+        left_table,
+        right,
+        right_table,
+        both,
+        &kept,
+        lines,
+        work,
+    );
 }
 
 // The answer where both messages are accepted: the lines are copied to the list where it holds them all.

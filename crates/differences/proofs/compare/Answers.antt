@@ -1,8 +1,7 @@
 -- `compare` judges both messages, and answers their refusals or hands the lines out.
-use Rattle.std.proofs.Common.{ap, sym, ◌∙◌, inl, inr, ℕ, arith}
-use lib.Seq.{length-take-le}
+use Rattle.std.proofs.Common.{ap, sym, ◌∙◌, inl, inr, ℕ}
 use Rattle.differences.specs.Answers.{answer_of}
-use Rattle.differences.proofs.Answering.{compares_refused, compares_accepted, judged, fronted}
+use Rattle.differences.proofs.Answering.{compares_refused, compares_accepted, fronted}
 use Rattle.differences.proofs.compare.Goals as goal
 
 pub returns-then-l-ne0 : goal.returns-then-l-ne0
