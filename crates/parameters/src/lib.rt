@@ -23,16 +23,16 @@ pub mod lines;
 
 // The number of a parameter's partner on the other side, and whether their values differ.
 #[derive(Clone, Copy)]
-pub struct Pair {
-    pub at: usize,
-    pub other: bool,
+struct Pair {
+    at: usize,
+    other: bool,
 }
 
 // What is kept of the parameters that are all recipients': the partners of those on the left, and which of those on the right have one.
 #[derive(Drop)]
 pub struct Kept {
-    pub pairs: [Option<Pair>; 2 * MOST_MEMBERS],
-    pub paired: [bool; 2 * MOST_MEMBERS],
+    pairs: [Option<Pair>; 2 * MOST_MEMBERS],
+    paired: [bool; 2 * MOST_MEMBERS],
 }
 
 // The side of an entry in a line.
