@@ -4,14 +4,14 @@ use mathlib.Core.Bool.{Bool, true, false, cond}
 use mathlib.Core.List.{List, ◌∷◌, ◌++◌}
 use Prim.Native.Nat.{ℕ, ◌≤◌, ◌<◌}
 use native.Mathlib.Omega.{arith}
+use Rattle.std.specs.Prelude.{None, Some}
 use lib.ListN.{length, length-append}
 use lib.Dec.{eqb, ltb}
-use borrow.Author.Tests.{eq-eqb, ne_eqb, le-ltb, lt-ltb}
+use borrow.Author.Tests.{le-ltb, lt-ltb}
 use Rattle.prelude.specs.Buffer.{written}
 use Rattle.prelude.specs.Refusals.{first}
 use Rattle.prelude.proofs.Outputs.{writes_refused, writes_done}
 use Rattle.aad.specs.Aad.{aad_text, aad_order, aad_refusal, Joins}
-use Rattle.aad.specs.declared.Joined.TheVariants.{Octets, Short}
 
 module _ (header aad out : List ℕ) where
   -- the header is in it
@@ -23,13 +23,13 @@ module _ (header aad out : List ℕ) where
       cases true = omega arith
       cases false = omega (arith, length-append header (46 ∷ aad))
 
-  pub without_aad : length aad ≡ 0 → aad_text header aad ≡ header
+  pub without_aad : eqb (length aad) 0 ≡ true → aad_text header aad ≡ header
   unfolding aad_text
-  without_aad e = ap (λ (b : Bool). cond b header (header ++ (46 ∷ aad))) (eq-eqb (length aad) 0 e)
+  without_aad e = ap (λ (b : Bool). cond b header (header ++ (46 ∷ aad))) e
 
-  pub with_aad : (length aad ≡ 0 → ⊥) → aad_text header aad ≡ header ++ (46 ∷ aad)
+  pub with_aad : eqb (length aad) 0 ≡ false → aad_text header aad ≡ header ++ (46 ∷ aad)
   unfolding aad_text
-  with_aad h = ap (λ (b : Bool). cond b header (header ++ (46 ∷ aad))) (ne_eqb (length aad) 0 h)
+  with_aad e = ap (λ (b : Bool). cond b header (header ++ (46 ∷ aad))) e
 
   module _ (text : List ℕ) (is : aad_text header aad ≡ text) where
     by_room : (b : Bool) → ltb (length out) (length text) ≡ b → aad_refusal header aad (length out) ≡ cond b 1 0
@@ -38,13 +38,13 @@ module _ (header aad out : List ℕ) where
         ap (λ (l : List ℕ). cond (ltb (length out) (length l)) 1 0) is ∙ ap (λ (t : Bool). cond t 1 0) e
 
     pub fits : length text ≤ length out → (n : ℕ) (last : List ℕ) → n ≡ length text → last ≡ written 0 text out →
-        Joins header aad out (Octets n) last
+        Joins header aad out (Some n) last
     fits h n last e f =
         writes_done (aad_refusal header aad (length out)) (aad_text header aad) out
         (by_room false (le-ltb (length out) (length text) h)) n last (e ∙ ap length (sym is))
         (f ∙ ap (λ (l : List ℕ). written 0 l out) (sym is))
 
-    pub short : length out < length text → Joins header aad out Short out
+    pub short : length out < length text → Joins header aad out None out
     short h =
         writes_refused (aad_refusal header aad (length out)) (aad_text header aad) out 1
         (sym (by_room true (lt-ltb (length out) (length text) h))) (λ z. omega arith)

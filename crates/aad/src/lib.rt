@@ -7,13 +7,6 @@ ghost use Rattle.prelude.specs.Ascii.{full_stop};
 ghost use Rattle.prelude.specs.Buffer.{written};
 ghost use Rattle.aad.specs.Aad.{Joins};
 
-// The octets written, or that the output is too short for them.
-#[derive(Clone, Copy)]
-pub enum Joined {
-    Octets(usize),
-    Short,
-}
-
 // A header, a full stop and an aad, written at the start. Answers how many octets they are.
 fn put(header: &[u8], aad: &[u8], out: &mut [u8]) -> usize
     requires { length header.now + 1 + length aad.now ≤ length out.old }
@@ -28,22 +21,19 @@ fn put(header: &[u8], aad: &[u8], out: &mut [u8]) -> usize
     next + aad.len()
 }
 
-// Writes the AAD of an encoded protected header and an encoded aad, either of which may be empty, at the output's start; the
-// rest is unchanged, and all of it where there is too little room. The lengths are not added up before it is known that
-// the sum fits.
-pub fn join(header: &[u8], aad: &[u8], out: &mut [u8]) -> Joined
+// Writes the AAD of an encoded protected header and an encoded aad, either of which may be empty, at the output's start, and
+// answers how many octets it is. The rest is unchanged; all of it is where there is too little room, and the answer None.
+// The lengths are not added up before it is known that the sum fits.
+pub fn join(header: &[u8], aad: &[u8], out: &mut [u8]) -> Option<usize>
     ensures { Joins header.now aad.now out.old result out.new }
 {
-    let n = header.len();
-    if out.len() < n {
-        return Joined::Short;
-    }
-    if aad.len() == 0 {
+    let room = out.len().checked_sub(header.len())?;
+    if aad.is_empty() {
         prelude::copy_octets(header, out, 0);
-        return Joined::Octets(n);
+        return Some(header.len());
     }
-    if out.len() - n <= aad.len() {
-        return Joined::Short;
+    if room <= aad.len() {
+        return None;
     }
-    Joined::Octets(put(header, aad, out))
+    Some(put(header, aad, out))
 }

@@ -1,7 +1,6 @@
 -- The algorithms (document 01, 'Header rules'; RFC 7518): their names, their modes, and the sizes that request 10/12
 -- lists.
-use Rattle.std.specs.Prelude.{List, [], ◌∷◌, map, ℕ, zero, suc}
-use Rattle.std.proofs.Math.Option.{Option, none, some}
+use Rattle.std.specs.Prelude.{List, [], ◌∷◌, map, ℕ, zero, suc, Option, None, Some}
 use Rattle.prelude.specs.Ascii.{ascii}
 use Rattle.algorithms.specs.declared.Alg.{Alg}
 use Rattle.algorithms.specs.declared.Alg.TheVariants.{Rsa15, RsaOaep, RsaOaep256, A128Kw, A192Kw, A256Kw}
@@ -11,10 +10,6 @@ use Rattle.algorithms.specs.declared.Alg.TheVariants.{EcdhEsA192Kw, EcdhEsA256Kw
 use Rattle.algorithms.specs.declared.Enc.{Enc}
 use Rattle.algorithms.specs.declared.Enc.TheVariants.{A128CbcHs256, A192CbcHs384, A256CbcHs512, A128Gcm}
 use Rattle.algorithms.specs.declared.Enc.TheVariants.{A192Gcm, A256Gcm}
-use Rattle.algorithms.specs.declared.NamedAlg.{NamedAlg}
-use Rattle.algorithms.specs.declared.NamedAlg.TheVariants as named-alg
-use Rattle.algorithms.specs.declared.NamedEnc.{NamedEnc}
-use Rattle.algorithms.specs.declared.NamedEnc.TheVariants as named-enc
 use Rattle.algorithms.specs.declared.Added.{Added}
 use Rattle.algorithms.specs.declared.Added.TheVariants.{Octets, Unjudged, NoKey}
 
@@ -196,22 +191,12 @@ zip_names = ascii "DEF" ∷ []
 
 -- The n-th of a list, counted from 1.
 unfoldable pub nth : {A : Type 0} → List A → ℕ → Option A
-nth [] n = none
-nth (x ∷ xs) zero = none
-nth (x ∷ xs) (suc zero) = some x
+nth [] n = None
+nth (x ∷ xs) zero = None
+nth (x ∷ xs) (suc zero) = Some x
 nth (x ∷ xs) (suc (suc n)) = nth xs (suc n)
 
 -- The mode of the n-th algorithm, counted from 1; 0 where there is none.
 abbrev pub mode_of : Option Alg → ℕ
-mode_of none = 0
-mode_of (some a) = mode a
-
--- The code's answers.
-
-abbrev pub named_alg : Option Alg → NamedAlg
-named_alg none = named-alg.Unlisted
-named_alg (some a) = named-alg.Alg a
-
-abbrev pub named_enc : Option Enc → NamedEnc
-named_enc none = named-enc.Unlisted
-named_enc (some e) = named-enc.Enc e
+mode_of None = 0
+mode_of (Some a) = mode a

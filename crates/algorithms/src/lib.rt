@@ -4,7 +4,7 @@
 ghost use Rattle.std.specs.Prelude.{◌≡◌};
 ghost use Rattle.names.specs.Names.{number_in};
 ghost use Rattle.algorithms.specs.Algorithms.{mode, key_added, key_iv, key_tag, key_size, iv_size, tag_size, algs, alg_names, encs, enc_names};
-ghost use Rattle.algorithms.specs.Algorithms.{nth, named_alg, named_enc};
+ghost use Rattle.algorithms.specs.Algorithms.{nth};
 
 // The values of `alg`, `enc` and the compression parameter as lists of names, contents first, as `names` reads them. Where
 // one is used it is proved to be the list of the names that the definition has, by computing.
@@ -51,7 +51,7 @@ pub const ZIPS: [u8; 5] = *b"\x01\
     DEF";
 
 // `alg`: how the content key is managed.
-#[derive(Clone, Copy)]
+#[derive(Clone, Copy, Debug, PartialEq, Eq)]
 pub enum Alg {
     Rsa15,
     RsaOaep,
@@ -73,7 +73,7 @@ pub enum Alg {
 }
 
 // `enc`: how the content is encrypted.
-#[derive(Clone, Copy)]
+#[derive(Clone, Copy, Debug, PartialEq, Eq)]
 pub enum Enc {
     A128CbcHs256,
     A192CbcHs384,
@@ -83,31 +83,22 @@ pub enum Enc {
     A256Gcm,
 }
 
-// What a value of `alg` or `enc` names, or that it is not listed.
-#[derive(Clone, Copy)]
-pub enum NamedAlg {
-    Alg(Alg),
-    Unlisted,
-}
-
-#[derive(Clone, Copy)]
-pub enum NamedEnc {
-    Enc(Enc),
-    Unlisted,
-}
-
 // The encrypted key beside the content key: so many octets longer, of a length that is not judged, or absent.
-#[derive(Clone, Copy)]
+#[derive(Clone, Copy, Debug, PartialEq, Eq)]
 pub enum Added {
     Octets(u32),
     Unjudged,
     NoKey,
 }
 
-impl Alg {
-    // How many there are.
-    pub const COUNT: u32 = 17;
+// The n-th of some, counted from 1.
+fn nth<T: Copy>(all: &[T], n: usize) -> Option<T>
+    ensures { result ≡ nth all.now n }
+{
+    all.get(n.checked_sub(1)?).copied()
+}
 
+impl Alg {
     // All of them, in document 01's order.
     const ALL: [Alg; 17] = [
         Alg::Rsa15,
@@ -130,26 +121,17 @@ impl Alg {
     ];
 
     // The n-th of document 01's table, counted from 1.
-    pub fn numbered(n: u32) -> NamedAlg
-        ensures { result ≡ named_alg (nth algs n) }
+    pub fn numbered(n: u32) -> Option<Alg>
+        ensures { result ≡ nth algs n }
     {
-        if n == 0 {
-            return NamedAlg::Unlisted;
-        }
-        if Alg::COUNT < n {
-            return NamedAlg::Unlisted;
-        }
-        let all = Alg::ALL;
-        let i = n as usize - 1;
-        NamedAlg::Alg(all[i])
+        nth(&Alg::ALL, n as usize)
     }
 
     // The one that a spelling names, after undoing escapes.
-    pub fn named(spelled: &[u8]) -> NamedAlg
-        ensures { result ≡ named_alg (nth algs (number_in alg_names spelled.now)) }
+    pub fn named(spelled: &[u8]) -> Option<Alg>
+        ensures { result ≡ nth algs (number_in alg_names spelled.now) }
     {
-        let list = ALGS;
-        Alg::numbered(names::find(&list, spelled))
+        Alg::numbered(names::find(&ALGS, spelled))
     }
 
     // 1 key encryption, 2 key wrapping, 3 direct agreement, 4 agreement with wrapping, 5 direct encryption.
@@ -211,9 +193,6 @@ impl Alg {
 }
 
 impl Enc {
-    // How many there are.
-    pub const COUNT: u32 = 6;
-
     // All of them, in document 01's order.
     const ALL: [Enc; 6] = [
         Enc::A128CbcHs256,
@@ -225,26 +204,17 @@ impl Enc {
     ];
 
     // The n-th of document 01's list, counted from 1.
-    pub fn numbered(n: u32) -> NamedEnc
-        ensures { result ≡ named_enc (nth encs n) }
+    pub fn numbered(n: u32) -> Option<Enc>
+        ensures { result ≡ nth encs n }
     {
-        if n == 0 {
-            return NamedEnc::Unlisted;
-        }
-        if Enc::COUNT < n {
-            return NamedEnc::Unlisted;
-        }
-        let all = Enc::ALL;
-        let i = n as usize - 1;
-        NamedEnc::Enc(all[i])
+        nth(&Enc::ALL, n as usize)
     }
 
     // The one that a spelling names, after undoing escapes.
-    pub fn named(spelled: &[u8]) -> NamedEnc
-        ensures { result ≡ named_enc (nth encs (number_in enc_names spelled.now)) }
+    pub fn named(spelled: &[u8]) -> Option<Enc>
+        ensures { result ≡ nth encs (number_in enc_names spelled.now) }
     {
-        let list = ENCS;
-        Enc::numbered(names::find(&list, spelled))
+        Enc::numbered(names::find(&ENCS, spelled))
     }
 
     // Octets of the content key.

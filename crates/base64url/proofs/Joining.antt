@@ -6,13 +6,15 @@ use native.Mathlib.Omega.{arith}
 use lib.Dec.{leb, leb→le}
 use lib.Bits.{bit_and, and_le_r}
 use lib.ListN.{length, drop, get_or, length-map}
+use Rattle.std.specs.Int.{w64, from_le_bytes, to_be_bytes}
 use Rattle.prelude.specs.Buffer.{AllBelow}
 use Rattle.prelude.proofs.Lists.{drop_next}
 use Rattle.prelude.proofs.Numbers.{below}
 use Rattle.base64url.specs.Base64url.{six_bits, octets, decoded}
 use Rattle.base64url.proofs.Alphabet.{value_near}
+use Rattle.base64url.proofs.Chunks.{TakesBy}
 use Rattle.base64url.specs.Inner.Step.{near}
-use Rattle.base64url.specs.Inner.Words.{digits, pair, joined, words_of, six_octets, octets_of}
+use Rattle.base64url.specs.Inner.Words.{digits, pair, joined, words_of, six_octets, spill_of, octets_of}
 use Rattle.base64url.proofs.Lanes.{sixes, twelves}
 
 -- What `join` makes: y of x, and the word of y
@@ -135,28 +137,45 @@ words_of_length (a ∷ b ∷ c ∷ d ∷ e ∷ f ∷ []) = refl
 words_of_length (a ∷ b ∷ c ∷ d ∷ e ∷ f ∷ g ∷ []) = refl
 words_of_length (a ∷ b ∷ c ∷ d ∷ e ∷ f ∷ g ∷ h ∷ rest) = omega (arith, words_of_length rest)
 
--- from a place on, eight elements and the rest
-drop_eight : (s : List ℕ) (k : ℕ) → k + 8 ≤ length s
-    → drop k s
-    ≡ get_or s k 0 ∷ get_or s (k + 1) 0 ∷ get_or s (k + 2) 0 ∷ get_or s (k + 3) 0
-    ∷ get_or s (k + 4) 0 ∷ get_or s (k + 4 + 1) 0 ∷ get_or s (k + 4 + 2) 0 ∷ get_or s (k + 4 + 3) 0 ∷ drop (k + 8) s
-drop_eight s k h =
-    drop_next s k (k + 1) refl (omega arith)
-    ∙ ap (λ (l : List ℕ). get_or s k 0 ∷ l) (drop_next s (k + 1) (k + 2) (omega arith) (omega arith)
-    ∙ ap (λ (l : List ℕ). get_or s (k + 1) 0 ∷ l) (drop_next s (k + 2) (k + 3) (omega arith) (omega arith)
-    ∙ ap (λ (l : List ℕ). get_or s (k + 2) 0 ∷ l) (drop_next s (k + 3) (k + 4) (omega arith) (omega arith)
-    ∙ ap (λ (l : List ℕ). get_or s (k + 3) 0 ∷ l) (drop_next s (k + 4) (k + 4 + 1) refl (omega arith)
-    ∙ ap (λ (l : List ℕ). get_or s (k + 4) 0 ∷ l) (drop_next s (k + 4 + 1) (k + 4 + 2) (omega arith) (omega arith)
-    ∙ ap (λ (l : List ℕ). get_or s (k + 4 + 1) 0 ∷ l) (drop_next s (k + 4 + 2) (k + 4 + 3) (omega arith) (omega arith)
-    ∙ ap (λ (l : List ℕ). get_or s (k + 4 + 2) 0 ∷ l) (drop_next s (k + 4 + 3) (k + 8) (omega arith) (omega arith))))))))
-
-pub words_of_next : (s : List ℕ) (k w : ℕ) → k + 8 ≤ length s
-    → w ≡ joined (digits (get_or s k 0) (get_or s (k + 1) 0) (get_or s (k + 2) 0) (get_or s (k + 3) 0)
-    + digits (get_or s (k + 4) 0) (get_or s (k + 4 + 1) 0) (get_or s (k + 4 + 2) 0) (get_or s (k + 4 + 3) 0) * 4294967296)
-    → words_of (drop k s) ≡ w ∷ words_of (drop (k + 8) s)
+-- eight values in front are a word
+words_front : (s t : List ℕ) → length s ≡ 8 → words_of (s ++ t) ≡ words_of s ++ words_of t
 unfolding words_of
-words_of_next s k w h e =
-    ap words_of (drop_eight s k h) ∙ ap (λ (x : ℕ). x ∷ words_of (drop (k + 8) s)) (sym e)
+words_front [] t e = absurd (omega (arith, e))
+words_front (a ∷ []) t e = absurd (omega (arith, e))
+words_front (a ∷ b ∷ []) t e = absurd (omega (arith, e))
+words_front (a ∷ b ∷ c ∷ []) t e = absurd (omega (arith, e))
+words_front (a ∷ b ∷ c ∷ d ∷ []) t e = absurd (omega (arith, e))
+words_front (a ∷ b ∷ c ∷ d ∷ x ∷ []) t e = absurd (omega (arith, e))
+words_front (a ∷ b ∷ c ∷ d ∷ x ∷ f ∷ []) t e = absurd (omega (arith, e))
+words_front (a ∷ b ∷ c ∷ d ∷ x ∷ f ∷ g ∷ []) t e = absurd (omega (arith, e))
+words_front (a ∷ b ∷ c ∷ d ∷ x ∷ f ∷ g ∷ y ∷ []) t e = refl
+words_front (a ∷ b ∷ c ∷ d ∷ x ∷ f ∷ g ∷ y ∷ z ∷ rest) t e = absurd (omega (arith, e))
+
+pub words_by : TakesBy 8 words_of
+words_by = record { splits = words_front }
+
+pub words_of_eight : (s : List ℕ) (x w : ℕ) → length s ≡ 8 → x ≡ from_le_bytes w64 s → w ≡ joined x → words_of s ≡ w ∷ []
+unfolding words_of
+words_of_eight [] x w e is j = absurd (omega (arith, e))
+words_of_eight (a ∷ []) x w e is j = absurd (omega (arith, e))
+words_of_eight (a ∷ b ∷ []) x w e is j = absurd (omega (arith, e))
+words_of_eight (a ∷ b ∷ c ∷ []) x w e is j = absurd (omega (arith, e))
+words_of_eight (a ∷ b ∷ c ∷ d ∷ []) x w e is j = absurd (omega (arith, e))
+words_of_eight (a ∷ b ∷ c ∷ d ∷ y ∷ []) x w e is j = absurd (omega (arith, e))
+words_of_eight (a ∷ b ∷ c ∷ d ∷ y ∷ f ∷ []) x w e is j = absurd (omega (arith, e))
+words_of_eight (a ∷ b ∷ c ∷ d ∷ y ∷ f ∷ g ∷ []) x w e is j = absurd (omega (arith, e))
+words_of_eight (a ∷ b ∷ c ∷ d ∷ y ∷ f ∷ g ∷ h ∷ []) x w e is j =
+    let sum : x ≡ digits a b c d + digits y f g h * 4294967296 = omega (arith, is) in
+    ap (λ (v : ℕ). v ∷ []) (sym (j ∙ ap joined sum))
+words_of_eight (a ∷ b ∷ c ∷ d ∷ y ∷ f ∷ g ∷ h ∷ z ∷ rest) x w e is j = absurd (omega (arith, e))
+
+-- a word's octets, the highest first: the six upper ones, and the two that are none of the text's
+pub be_octets : (w : ℕ) → w < 18446744073709551616 → to_be_bytes w64 w ≡ six_octets w ++ spill_of w
+unfolding six_octets
+be_octets w below =
+    let top : w / 72057594037927936 % 256 ≡ w / 72057594037927936 = omega arith in
+    ap (λ (x : ℕ). x ∷ (w / 281474976710656 % 256) ∷ (w / 1099511627776 % 256) ∷ (w / 4294967296 % 256) ∷ (w / 16777216 % 256)
+    ∷ (w / 65536 % 256) ∷ (w / 256 % 256) ∷ (w % 256) ∷ []) top
 
 -- The octets of words of values are the octets of the values' six low bits
 

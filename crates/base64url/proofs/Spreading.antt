@@ -5,13 +5,13 @@ use Prim.Native.Nat.{ℕ, ◌+◌, ◌*◌, ◌/◌, ◌%◌, ◌≤◌, ◌<◌
 use native.Mathlib.Omega.{arith}
 use lib.Bits.{bit_and, and_le_r}
 use lib.ListN.{length, drop, get_or}
+use Rattle.std.specs.Int.{w64, to_le_bytes}
 use Rattle.prelude.specs.Buffer.{AllBelow}
 use Rattle.prelude.proofs.Lists.{drop_next}
 use Rattle.base64url.specs.Base64url.{sextets}
-use Rattle.base64url.specs.Inner.Words.{digits, turned_half, turned_word, word_of, word_at, sixes_of, six_octets}
-use Rattle.base64url.specs.Inner.Words.{spill_of, four_values, spread_of, eight_octets, spread_all}
+use Rattle.base64url.specs.Inner.Words.{digits, word_of, sixes_of, four_values, spread_of, eight_octets, spread_all}
+use Rattle.base64url.proofs.Chunks.{TakesBy}
 use Rattle.base64url.proofs.Lanes.{sixes, twelves}
-use Rattle.base64url.proofs.Turning.{half_octets}
 
 abbrev pub z_in : ℕ → ℕ
 z_in w = w / 1099511627776 + w / 65536 % 16777216 * 4294967296
@@ -135,7 +135,7 @@ spreads w h =
         three : (s : ℕ) → s % 4096 % 64 ≡ s % 64
         three s = omega arith
 
--- The octets of a number of four, and of two
+-- The octets of a number of four
 
 d0 : (a b c d : ℕ) → a < 256 → digits a b c d % 256 ≡ a
 d0 a b c d ha = omega arith
@@ -152,52 +152,13 @@ d3 a b c d ha hb hc hd = omega arith
 d4 : (a b c d : ℕ) → a < 256 → b < 256 → c < 256 → d < 256 → digits a b c d / 16777216 ≡ d
 d4 a b c d ha hb hc hd = omega arith
 
-t0 : (e f : ℕ) → e < 256 → (e + f * 256) % 256 ≡ e
-t0 e f he = omega arith
-
-t1 : (e f : ℕ) → e < 256 → f < 256 → (e + f * 256) / 256 % 256 ≡ f
-t1 e f he hf = omega arith
-
-t2 : (e f : ℕ) → e < 256 → f < 256 → (e + f * 256) / 65536 % 256 ≡ 0
-t2 e f he hf = omega arith
-
-t3 : (e f : ℕ) → e < 256 → f < 256 → (e + f * 256) / 16777216 ≡ 0
-t3 e f he hf = omega arith
-
 -- Six octets as a word, and its values
 
 abbrev bytes : ℕ → ℕ → ℕ → ℕ
 bytes a b c = a * 65536 + b * 256 + c
 
-word_of_lem : (a b c d e f : ℕ) → a < 256 → b < 256 → c < 256 → d < 256 → e < 256 → f < 256
-    → word_of a b c d e f ≡ bytes a b c * 1099511627776 + bytes d e f * 65536
-unfolding word_of turned_word
-word_of_lem a b c d e f ha hb hc hd he hf =
-    ap₂ (λ (x y : ℕ). turned_half x + turned_half y * 4294967296) (upper (digits a b c d) (e + f * 256) below)
-    (lower (digits a b c d) (e + f * 256) below)
-    ∙ ap₂ (λ (x y : ℕ). x + y * 4294967296) (two e f he hf) (four a b c d ha hb hc hd)
-    ∙ sum a b c d e f
-  where
-    below : digits a b c d < 4294967296
-    below = omega arith
-
-    upper : (l u : ℕ) → l < 4294967296 → (l + u * 4294967296) / 4294967296 ≡ u
-    upper l u h = omega arith
-
-    lower : (l u : ℕ) → l < 4294967296 → (l + u * 4294967296) % 4294967296 ≡ l
-    lower l u h = omega arith
-
-    four : (a b c d : ℕ) → a < 256 → b < 256 → c < 256 → d < 256
-        → turned_half (digits a b c d) ≡ a * 16777216 + b * 65536 + c * 256 + d
-    four a b c d ha hb hc hd = simp (d0 a b c d ha, d1 a b c d ha hb, d2 a b c d ha hb hc, d4 a b c d ha hb hc hd)
-
-    two : (e f : ℕ) → e < 256 → f < 256 → turned_half (e + f * 256) ≡ e * 16777216 + f * 65536
-    two e f he hf = simp (t0 e f he, t1 e f he hf, t2 e f he hf, t3 e f he hf) (omega arith)
-
-    sum : (a b c d e f : ℕ)
-        → e * 16777216 + f * 65536 + (a * 16777216 + b * 65536 + c * 256 + d) * 4294967296
-        ≡ bytes a b c * 1099511627776 + bytes d e f * 65536
-    sum a b c d e f = omega arith
+word_of_lem : (a b c d e f : ℕ) → word_of a b c d e f ≡ bytes a b c * 1099511627776 + bytes d e f * 65536
+word_of_lem a b c d e f = omega arith
 
 values_of : (a b c : ℕ) → a < 256 → b < 256 → c < 256
     → four_values (bytes a b c) ≡ digits (a / 4) (a % 4 * 16 + b / 16) (b % 16 * 4 + c / 64) (c % 64)
@@ -273,7 +234,7 @@ word_values : (a b c d e f : ℕ) → a < 256 → b < 256 → c < 256 → d < 25
 unfolding spread_of
 word_values a b c d e f ha hb hc hd he hf =
     ap (λ (w : ℕ). eight_octets (four_values (w / 1099511627776) + four_values (w / 65536 % 16777216) * 4294967296))
-    (word_of_lem a b c d e f ha hb hc hd he hf)
+    (word_of_lem a b c d e f)
     ∙ ap₂ (λ (s t : ℕ). eight_octets (four_values s + four_values t * 4294967296))
     (upper (bytes a b c) (bytes d e f) (small d e f hd he hf)) (lower (bytes a b c) (bytes d e f) (small d e f hd he hf))
     ∙ ap₂ (λ (s t : ℕ). eight_octets (s + t * 4294967296)) (values_of a b c ha hb hc) (values_of d e f hd he hf)
@@ -325,19 +286,40 @@ sixes_of_length (a ∷ b ∷ c ∷ d ∷ []) = refl
 sixes_of_length (a ∷ b ∷ c ∷ d ∷ e ∷ []) = refl
 sixes_of_length (a ∷ b ∷ c ∷ d ∷ e ∷ f ∷ rest) = omega (arith, sixes_of_length rest)
 
-pub sixes_of_next : (s : List ℕ) (k w : ℕ) → k + 6 ≤ length s → w ≡ word_at s k
-    → sixes_of (drop k s) ≡ w ∷ sixes_of (drop (k + 6) s)
+-- six octets in front are a word
+sixes_front : (s t : List ℕ) → length s ≡ 6 → sixes_of (s ++ t) ≡ sixes_of s ++ sixes_of t
 unfolding sixes_of
-sixes_of_next s k w h e =
-    ap sixes_of (
-    drop_next s k (k + 1) refl (omega arith)
-    ∙ ap (λ (l : List ℕ). get_or s k 0 ∷ l) (drop_next s (k + 1) (k + 2) (omega arith) (omega arith)
-    ∙ ap (λ (l : List ℕ). get_or s (k + 1) 0 ∷ l) (drop_next s (k + 2) (k + 3) (omega arith) (omega arith)
-    ∙ ap (λ (l : List ℕ). get_or s (k + 2) 0 ∷ l) (drop_next s (k + 3) (k + 4) (omega arith) (omega arith)
-    ∙ ap (λ (l : List ℕ). get_or s (k + 3) 0 ∷ l) (drop_next s (k + 4) (k + 5) (omega arith) (omega arith)
-    ∙ ap (λ (l : List ℕ). get_or s (k + 4) 0 ∷ l) (drop_next s (k + 5) (k + 6) (omega arith) (omega arith))))))
-    )
-    ∙ ap (λ (x : ℕ). x ∷ sixes_of (drop (k + 6) s)) (sym e)
+sixes_front [] t e = absurd (omega (arith, e))
+sixes_front (a ∷ []) t e = absurd (omega (arith, e))
+sixes_front (a ∷ b ∷ []) t e = absurd (omega (arith, e))
+sixes_front (a ∷ b ∷ c ∷ []) t e = absurd (omega (arith, e))
+sixes_front (a ∷ b ∷ c ∷ d ∷ []) t e = absurd (omega (arith, e))
+sixes_front (a ∷ b ∷ c ∷ d ∷ x ∷ []) t e = absurd (omega (arith, e))
+sixes_front (a ∷ b ∷ c ∷ d ∷ x ∷ f ∷ []) t e = refl
+sixes_front (a ∷ b ∷ c ∷ d ∷ x ∷ f ∷ y ∷ rest) t e = absurd (omega (arith, e))
+
+pub sixes_by : TakesBy 6 sixes_of
+sixes_by = record { splits = sixes_front }
+
+pub sixes_of_six : (s : List ℕ) (w : ℕ) → length s ≡ 6
+    → w ≡ word_of (get_or s 0 0) (get_or s 1 0) (get_or s 2 0) (get_or s 3 0) (get_or s 4 0) (get_or s 5 0) → sixes_of s ≡ w ∷ []
+unfolding sixes_of
+sixes_of_six [] w e is = absurd (omega (arith, e))
+sixes_of_six (a ∷ []) w e is = absurd (omega (arith, e))
+sixes_of_six (a ∷ b ∷ []) w e is = absurd (omega (arith, e))
+sixes_of_six (a ∷ b ∷ c ∷ []) w e is = absurd (omega (arith, e))
+sixes_of_six (a ∷ b ∷ c ∷ d ∷ []) w e is = absurd (omega (arith, e))
+sixes_of_six (a ∷ b ∷ c ∷ d ∷ x ∷ []) w e is = absurd (omega (arith, e))
+sixes_of_six (a ∷ b ∷ c ∷ d ∷ x ∷ f ∷ []) w e is = ap (λ (v : ℕ). v ∷ []) (sym is)
+sixes_of_six (a ∷ b ∷ c ∷ d ∷ x ∷ f ∷ y ∷ rest) w e is = absurd (omega (arith, e))
+
+-- a number's octets, the lowest first
+pub le_octets : (w : ℕ) → w < 18446744073709551616 → to_le_bytes w64 w ≡ eight_octets w
+unfolding eight_octets
+le_octets w below =
+    let top : w / 72057594037927936 % 256 ≡ w / 72057594037927936 = omega arith in
+    ap (λ (x : ℕ). (w % 256) ∷ (w / 256 % 256) ∷ (w / 65536 % 256) ∷ (w / 16777216 % 256) ∷ (w / 4294967296 % 256)
+    ∷ (w / 1099511627776 % 256) ∷ (w / 281474976710656 % 256) ∷ x ∷ []) top
 
 pub spread_all_length : (ws : List ℕ) → length (spread_all ws) ≡ 8 * length ws
 unfolding spread_all eight_octets
@@ -349,51 +331,3 @@ pub spread_all_next : (ws : List ℕ) (g x : ℕ) → g < length ws → x ≡ sp
 unfolding spread_all
 spread_all_next ws g x h e =
     ap spread_all (drop_next ws g (g + 1) refl h) ∙ ap (λ (y : ℕ). eight_octets y ++ spread_all (drop (g + 1) ws)) (sym e)
-
--- The octets of a turned word, all eight
-pub turned_eight : (w : ℕ) → w < 18446744073709551616 → eight_octets (turned_word w) ≡ six_octets w ++ spill_of w
-unfolding turned_word six_octets
-turned_eight w below =
-    let high = half_octets (w / 4294967296) (upper w below) in
-    let low = half_octets (w % 4294967296) (lower w) in
-    eight_parts (turned_half (w / 4294967296)) (turned_half (w % 4294967296)) high.0
-    ∙ simp (
-      high.1 ∙ e0 w,
-      high.2 ∙ e1 w,
-      high.3 ∙ e2 w,
-      ap (λ (x : ℕ). x % 256) high.4 ∙ e3 w,
-      low.1 ∙ e4 w,
-      low.2 ∙ e5 w,
-      low.3 ∙ e6 w,
-      low.4 ∙ e7 w,
-    )
-  where
-    upper : (w : ℕ) → w < 18446744073709551616 → w / 4294967296 < 4294967296
-    upper w h = omega arith
-
-    lower : (w : ℕ) → w % 4294967296 < 4294967296
-    lower w = omega arith
-
-    e0 : (w : ℕ) → w / 4294967296 / 16777216 ≡ w / 72057594037927936
-    e0 w = omega arith
-
-    e1 : (w : ℕ) → w / 4294967296 / 65536 % 256 ≡ w / 281474976710656 % 256
-    e1 w = omega arith
-
-    e2 : (w : ℕ) → w / 4294967296 / 256 % 256 ≡ w / 1099511627776 % 256
-    e2 w = omega arith
-
-    e3 : (w : ℕ) → w / 4294967296 % 256 % 256 ≡ w / 4294967296 % 256
-    e3 w = omega arith
-
-    e4 : (w : ℕ) → w % 4294967296 / 16777216 ≡ w / 16777216 % 256
-    e4 w = omega arith
-
-    e5 : (w : ℕ) → w % 4294967296 / 65536 % 256 ≡ w / 65536 % 256
-    e5 w = omega arith
-
-    e6 : (w : ℕ) → w % 4294967296 / 256 % 256 ≡ w / 256 % 256
-    e6 w = omega arith
-
-    e7 : (w : ℕ) → w % 4294967296 % 256 ≡ w % 256
-    e7 w = omega arith

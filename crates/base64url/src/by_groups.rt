@@ -30,9 +30,8 @@ fn third_octet(r: u8, s: u8) -> u8
 }
 
 // The three octets of four characters, written from a position on. Answers the position after them.
-fn decode_four(table: &[u8; 256], text: &[u8], out: &mut [u8], at: usize) -> usize
+fn decode_four(table: &[u8; 256], text: &[u8; 4], out: &mut [u8], at: usize) -> usize
     requires tabled { Tabled table.now }
-    requires text_len { length text.now ≡ 4 }
     requires all_below { AllBelow 64 (map six_bits text.now) }
     requires text_in_bounds { at + length (decoded text.now) ≤ length out.old }
     ensures value { result ≡ at + length (decoded text.now) }
@@ -80,15 +79,12 @@ pub(crate) fn decode_groups(table: &[u8; 256], text: &[u8], out: &mut [u8], at: 
     ensures value { result ≡ at + length (decoded text.now) }
     ensures out_after { out.new ≡ written at (decoded text.now) out.old }
 {
-    let n = text.len();
-    let mut i: usize = 0;
     let mut j = at;
-    while 4 <= n - i {
-        let e = i + 4;
-        j = decode_four(table, &text[i..e], out, j);
-        i = e;
+    let (groups, rest) = text.as_chunks::<4>();
+    for group in groups {
+        j = decode_four(table, group, out, j);
     }
-    decode_few(table, &text[i..n], out, j)
+    decode_few(table, rest, out, j)
 }
 
 // The values of a group of octets a, b and c, of which the first and the last are plain.
@@ -106,9 +102,8 @@ fn third_value(b: u8, c: u8) -> u8
 }
 
 // The four values of three octets, written from a position on. Answers the position after them.
-fn split_three(octets: &[u8], into: &mut [u8], at: usize) -> usize
-    requires octets_len { length octets.now ≡ 3 }
-    requires octets_in_bounds { at + length (sextets octets.now) ≤ length into.old }
+fn split_three(octets: &[u8; 3], into: &mut [u8], at: usize) -> usize
+    requires { at + length (sextets octets.now) ≤ length into.old }
     ensures value { result ≡ at + length (sextets octets.now) }
     ensures into_after { into.new ≡ written at (sextets octets.now) into.old }
 {
@@ -146,13 +141,10 @@ pub(crate) fn split(octets: &[u8], into: &mut [u8], at: usize) -> usize
     ensures value { result ≡ at + length (sextets octets.now) }
     ensures into_after { into.new ≡ written at (sextets octets.now) into.old }
 {
-    let n = octets.len();
-    let mut k: usize = 0;
     let mut j = at;
-    while 3 <= n - k {
-        let e = k + 3;
-        j = split_three(&octets[k..e], into, j);
-        k = e;
+    let (groups, rest) = octets.as_chunks::<3>();
+    for group in groups {
+        j = split_three(group, into, j);
     }
-    split_few(&octets[k..n], into, j)
+    split_few(rest, into, j)
 }

@@ -7,18 +7,14 @@ ghost use Rattle.base64url.specs.Base64url.{six_bits, decoded};
 ghost use Rattle.base64url.specs.Inner.Step.{near};
 ghost use Rattle.base64url.specs.Inner.Words.{joined, words_of, six_octets, spill_of, octets_of};
 
-use crate::{by_groups, step, words};
+use crate::{by_groups, step};
 
 // The values of a block's characters, each right modulo 64.
-fn block_values(text: &[u8], six: &mut [u8; 128])
-    requires text_len { length text.now ≡ 128 }
-    requires six_len { length six.old ≡ 128 }
+fn block_values(text: &[u8; 128], six: &mut [u8; 128])
     ensures { six.new ≡ map near text.now }
 {
-    let mut k: usize = 0;
-    while k < 128 {
-        six[k] = step::value(text[k]);
-        k += 1;
+    for (k, &c) in text.iter().enumerate() {
+        six[k] = step::value(c);
     }
 }
 
@@ -32,20 +28,13 @@ fn join(x: u64) -> u64
     z % 16777216 * 1099511627776 + z / 4294967296 * 65536
 }
 
-// The words of a block's values. Two numbers of four octets are loaded as one of eight; a sum of eight octets is not.
+// The words of a block's values.
 fn block_words(six: &[u8; 128], words: &mut [u64; 16])
-    requires six_len { length six.now ≡ 128 }
-    requires words_len { length words.old ≡ 16 }
     ensures { words.new ≡ words_of six.now }
 {
-    let mut g: usize = 0;
-    let mut k: usize = 0;
-    while g < 16 {
-        words[g] = join(
-            words::long(words::four(six, k)) + words::long(words::four(six, k + 4)) * 4294967296,
-        );
-        g += 1;
-        k += 8;
+    let (eights, _) = six.as_chunks::<8>();
+    for (g, eight) in eights.iter().enumerate() {
+        words[g] = join(u64::from_le_bytes(*eight));
     }
 }
 
@@ -55,9 +44,8 @@ fn put_six(out: &mut [u8], at: usize, w: u64) -> usize
     ensures value { result ≡ at + 6 }
     ensures out_after { out.new ≡ written at (six_octets w) out.old }
 {
-    let t = words::turned(w);
-    words::put_four(out, at, (t % 4294967296) as u32);
-    words::put_two(out, at + 4, (t / 4294967296) as u32);
+    let octets = w.to_be_bytes();
+    out[at..at + 6].copy_from_slice(&octets[..6]);
     at + 6
 }
 
@@ -67,31 +55,24 @@ fn put_over(out: &mut [u8], at: usize, w: u64) -> usize
     ensures value { result ≡ at + 6 }
     ensures out_after { out.new ≡ written at (six_octets w ++ spill_of w) out.old }
 {
-    let t = words::turned(w);
-    words::put_eight(out, at, t);
+    out[at..at + 8].copy_from_slice(&w.to_be_bytes());
     at + 6
 }
 
-// The octets of sixteen words, written from a position on: each word's store goes over the end of the one before, and the
-// last is exact, so that nothing past them changes. Answers the position after them.
-fn put_words(words: &[u64; 16], out: &mut [u8], at: usize) -> usize
-    requires words_len { length words.now ≡ 16 }
-    requires at_in_bounds { at + 96 ≤ length out.old }
-    ensures value { result ≡ at + 96 }
-    ensures out_after { out.new ≡ written at (octets_of words.now) out.old }
+// The octets of sixteen words: each word's store goes over the end of the one before, and the last is exact.
+fn put_words(words: &[u64; 16], out: &mut [u8])
+    requires { length out.old ≡ 96 }
+    ensures { out.new ≡ octets_of words.now }
 {
-    let mut g: usize = 0;
-    let mut j = at;
-    while g < 15 {
-        j = put_over(out, j, words[g]);
-        g += 1;
+    let mut j = 0;
+    for &w in &words[..15] {
+        j = put_over(out, j, w);
     }
-    put_six(out, j, words[g])
+    put_six(out, j, words[15]);
 }
 
-// The octets of a block, likewise.
-fn decode_block(text: &[u8], out: &mut [u8], at: usize) -> usize
-    requires text_len { length text.now ≡ 128 }
+// The octets of a block, written from a position on. Answers the position after them.
+fn decode_block(text: &[u8; 128], out: &mut [u8], at: usize) -> usize
     requires all_below { AllBelow 64 (map six_bits text.now) }
     requires text_in_bounds { at + length (decoded text.now) ≤ length out.old }
     ensures value { result ≡ at + length (decoded text.now) }
@@ -101,7 +82,8 @@ fn decode_block(text: &[u8], out: &mut [u8], at: usize) -> usize
     let mut words = [0u64; 16];
     block_values(text, &mut six);
     block_words(&six, &mut words);
-    put_words(&words, out, at)
+    put_words(&words, &mut out[at..at + 96]);
+    at + 96
 }
 
 // The octets of a text, likewise: whole blocks, then what is left. The table is built after the blocks, which want none:
@@ -112,14 +94,11 @@ pub(crate) fn decode_at(text: &[u8], out: &mut [u8], at: usize) -> usize
     ensures value { result ≡ at + length (decoded text.now) }
     ensures out_after { out.new ≡ written at (decoded text.now) out.old }
 {
-    let n = text.len();
-    let mut i: usize = 0;
     let mut j = at;
-    while 128 <= n - i {
-        let e = i + 128;
-        j = decode_block(&text[i..e], out, j);
-        i = e;
+    let (blocks, rest) = text.as_chunks::<128>();
+    for block in blocks {
+        j = decode_block(block, out, j);
     }
     let table = step::table();
-    by_groups::decode_groups(&table, &text[i..n], out, j)
+    by_groups::decode_groups(&table, rest, out, j)
 }

@@ -3,32 +3,17 @@
 ghost use Rattle.std.specs.Prelude.{◌≡◌, ◌+◌, ◌≤◌, map, length};
 ghost use Rattle.prelude.specs.Buffer.{AllBelow, written};
 ghost use Rattle.base64url.specs.Base64url.{character, encoded};
-ghost use Rattle.base64url.specs.Inner.Words.{spread_of, spread_all, word_at, sixes_of};
+ghost use Rattle.base64url.specs.Inner.Words.{spread_of, spread_all, sixes_of};
 
-use crate::{by_groups, step, words};
+use crate::{by_groups, step};
 
-// Six octets as the upper 48 bits of a number, the first the highest: loaded as four and two, and turned.
-fn six_at(octets: &[u8], k: usize) -> u64
-    requires { k + 6 ≤ length octets.now }
-    ensures { result ≡ word_at octets.now k }
-{
-    let low = words::four(octets, k);
-    let high = words::wide(octets[k + 4]) + words::wide(octets[k + 5]) * 256;
-    words::turned(words::long(low) + words::long(high) * 4294967296)
-}
-
-// The words of a block's octets.
-fn block_sixes(octets: &[u8], words: &mut [u64; 8])
-    requires octets_len { length octets.now ≡ 48 }
-    requires words_len { length words.old ≡ 8 }
+// The words of a block's octets: six octets as the upper 48 bits of a number, the first the highest.
+fn block_sixes(octets: &[u8; 48], words: &mut [u64; 8])
     ensures { words.new ≡ sixes_of octets.now }
 {
-    let mut g: usize = 0;
-    let mut k: usize = 0;
-    while g < 8 {
-        words[g] = six_at(octets, k);
-        g += 1;
-        k += 6;
+    let (sixes, _) = octets.as_chunks::<6>();
+    for (g, &[a, b, c, d, e, f]) in sixes.iter().enumerate() {
+        words[g] = u64::from_be_bytes([a, b, c, d, e, f, 0, 0]);
     }
 }
 
@@ -43,16 +28,10 @@ fn spread(w: u64) -> u64
 
 // The values of a block's words, eight stored at once.
 fn block_sextets(words: &[u64; 8], six: &mut [u8; 64])
-    requires words_len { length words.now ≡ 8 }
-    requires six_len { length six.old ≡ 64 }
     ensures { six.new ≡ spread_all words.now }
 {
-    let mut g: usize = 0;
-    let mut k: usize = 0;
-    while g < 8 {
-        words::put_eight(six, k, spread(words[g]));
-        g += 1;
-        k += 8;
+    for (g, &w) in words.iter().enumerate() {
+        six[8 * g..8 * g + 8].copy_from_slice(&spread(w).to_le_bytes());
     }
 }
 
@@ -63,20 +42,15 @@ fn characters(six: &[u8], out: &mut [u8], at: usize) -> usize
     ensures value { result ≡ at + length (map character six.now) }
     ensures out_after { out.new ≡ written at (map character six.now) out.old }
 {
-    let mut k: usize = 0;
-    let mut j = at;
-    while k < six.len() {
-        out[j] = step::character(six[k]);
-        k += 1;
-        j += 1;
+    for (k, &v) in six.iter().enumerate() {
+        out[at + k] = step::character(v);
     }
-    j
+    at + six.len()
 }
 
 // The text of a block, likewise.
-pub(crate) fn encode_block(octets: &[u8], out: &mut [u8], at: usize) -> usize
-    requires octets_len { length octets.now ≡ 48 }
-    requires octets_in_bounds { at + length (encoded octets.now) ≤ length out.old }
+pub(crate) fn encode_block(octets: &[u8; 48], out: &mut [u8], at: usize) -> usize
+    requires { at + length (encoded octets.now) ≤ length out.old }
     ensures value { result ≡ at + length (encoded octets.now) }
     ensures out_after { out.new ≡ written at (encoded octets.now) out.old }
 {

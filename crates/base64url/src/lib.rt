@@ -7,51 +7,43 @@ ghost use Rattle.prelude.specs.Buffer.{written};
 ghost use Rattle.base64url.specs.Base64url.{encoded, encoded_length, decoded_length};
 ghost use Rattle.base64url.specs.Answers.{check_answer, Decodes, encode_answer, encode_buffer};
 
+use std::error::Error;
+use std::fmt;
+
 mod by_groups;
 mod decoding;
 mod encoding;
 mod faults;
 mod step;
-mod words;
 
-// Whether a text is base64url.
-#[derive(Clone, Copy)]
-pub enum Checked {
-    Sound,
-    Faulty,
-}
-
-// What decoding answers: the number of octets written, or why there are none.
-#[derive(Clone, Copy)]
-pub enum Decoded {
-    Octets(usize),
+// Why a text is not decoded.
+#[derive(Clone, Copy, Debug, PartialEq, Eq)]
+pub enum DecodeError {
     // The text is not base64url.
     Misspelled,
     // The buffer is shorter than the octets.
     Short,
 }
 
-// What encoding answers: the position after the last character, or that the text does not fit.
-#[derive(Clone, Copy)]
-pub enum Encoded {
-    End(usize),
-    Full,
+impl fmt::Display for DecodeError {
+    fn fmt<W: fmt::Write>(&self, f: &mut fmt::Formatter<W>) -> fmt::Result {
+        match self {
+            DecodeError::Misspelled => write!(f, "not base64url"),
+            DecodeError::Short => write!(f, "too little room for the octets"),
+        }
+    }
 }
 
-// Whether a text is base64url: document 01's 0 or 5.
-pub fn check(text: &[u8]) -> Checked
+impl Error for DecodeError {}
+
+// Whether a text is base64url: document 01's 5 where it is not.
+pub fn check(text: &[u8]) -> Result<(), DecodeError>
     ensures { result ≡ check_answer text.now }
 {
-    if !faults::in_alphabet(text) {
-        return Checked::Faulty;
+    if !faults::in_alphabet(text) || text.len() % 4 == 1 || faults::spare_bits(text) != 0 {
+        return Err(DecodeError::Misspelled);
     }
-    if text.len() % 4 == 1 {
-        return Checked::Faulty;
-    }
-    if faults::spare_bits(text) != 0 {
-        return Checked::Faulty;
-    }
-    Checked::Sound
+    Ok(())
 }
 
 // How many characters n octets make, floor((4n+2)/3), or the largest number where that does not fit. No slice is so
@@ -72,18 +64,16 @@ pub fn decoded_length(n: usize) -> usize
     n / 4 * 3 + n % 4 * 3 / 4
 }
 
-// Decodes a text into out: document 01's 5, then 1 if out is shorter than the octets. Refused, out is unchanged.
-pub fn decode(text: &[u8], out: &mut [u8]) -> Decoded
+// Decodes a text into out, and answers how many octets that is: document 01's 5, then 1 if out is shorter than the octets.
+// Refused, out is unchanged.
+pub fn decode(text: &[u8], out: &mut [u8]) -> Result<usize, DecodeError>
     ensures { Decodes text.now out.old result out.new }
 {
-    let Checked::Sound = check(text) else {
-        return Decoded::Misspelled;
-    };
-    let n = text.len();
-    if out.len() < n / 4 * 3 + n % 4 * 3 / 4 {
-        return Decoded::Short;
+    check(text)?;
+    if out.len() < decoded_length(text.len()) {
+        return Err(DecodeError::Short);
     }
-    Decoded::Octets(decoding::decode_at(text, out, 0))
+    Ok(decoding::decode_at(text, out, 0))
 }
 
 // The text of octets, written from a position on: whole blocks, then what is left. Answers the position after it.
@@ -92,27 +82,22 @@ pub fn encode_at(octets: &[u8], out: &mut [u8], at: usize) -> usize
     ensures value { result ≡ at + length (encoded octets.now) }
     ensures out_after { out.new ≡ written at (encoded octets.now) out.old }
 {
-    let n = octets.len();
-    let mut i: usize = 0;
     let mut j = at;
-    while 48 <= n - i {
-        let e = i + 48;
-        j = encoding::encode_block(&octets[i..e], out, j);
-        i = e;
+    let (blocks, rest) = octets.as_chunks::<48>();
+    for block in blocks {
+        j = encoding::encode_block(block, out, j);
     }
-    encoding::encode_few(&octets[i..n], out, j)
+    encoding::encode_few(rest, out, j)
 }
 
-// Encodes octets into out from a position on: document 01's 1 where the text does not fit, and then out is unchanged.
-pub fn encode(octets: &[u8], out: &mut [u8], at: usize) -> Encoded
+// Encodes octets into out from a position on, and answers the position after the text. None is document 01's 1: the text
+// does not fit, and out is unchanged.
+pub fn encode(octets: &[u8], out: &mut [u8], at: usize) -> Option<usize>
     ensures value { result ≡ encode_answer octets.now at (length out.old) }
     ensures out_after { out.new ≡ encode_buffer octets.now at out.old }
 {
-    if out.len() < at {
-        return Encoded::Full;
+    if out.len() < at || out.len() - at < encoded_length(octets.len()) {
+        return None;
     }
-    if out.len() - at < encoded_length(octets.len()) {
-        return Encoded::Full;
-    }
-    Encoded::End(encode_at(octets, out, at))
+    Some(encode_at(octets, out, at))
 }

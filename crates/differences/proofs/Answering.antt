@@ -14,7 +14,7 @@ use Rattle.shape.specs.Inner.Answers.{recipients_room}
 use Rattle.jwe.specs.Judge.{held}
 use Rattle.jwe.specs.Inner.Stages.{own_table}
 use Rattle.jwe.specs.Inner.Holding.{Holds}
-use Rattle.jwe.specs.declared.Holding.{Holding}
+use Rattle.jwe.specs.Answers.{Holding}
 use Rattle.parameters.specs.Lines.{Line, line_width, laid}
 use Rattle.differences.specs.Differences.{compared, differences}
 use Rattle.differences.specs.Answers.{refusal_of, both_accepted, holds_all, compare_number, shown_lines, answer_of, Compares}

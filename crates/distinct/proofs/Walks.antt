@@ -8,11 +8,11 @@ use lib.ListN.{length, get_or}
 use Rattle.grammar.specs.Grammar.{Bracket, curly}
 use Rattle.grammar.specs.Places.{Member}
 use Rattle.grammar.specs.Reader.{step, entry_at, value_at, members_at}
-use Rattle.json_read.specs.Members.{first_in, member_of, five_of, numbers}
+use Rattle.json_read.specs.Members.{first_in, row_here, member_of, five_of, numbers}
 use Rattle.json_read.specs.Inner.Known.{KnownEntry, KnownFrom, KnownIn}
 use Rattle.json_read.specs.declared.Position.{Position}
 use Rattle.json_read.specs.declared.member.Row.{Row}
-use Rattle.json_read.specs.declared.member.Member.TheVariants.{Here, End}
+use Rattle.std.specs.Prelude.{None}
 use Rattle.json_read.proofs.MemberRows.{rows_first, rows_spent, rows_none, rows_more, the_read}
 use Rattle.json_read.proofs.Knowing.{known_entry, known_next}
 use Rattle.prelude.specs.Any.{any, any_pair}
@@ -50,14 +50,14 @@ module _ (b : Bracket) (s : List ℕ) (left at : ℕ) where
 
   module _ (h : 0 < left) where
     -- No row is left.
-    pub none_here : End ≡ member_of s (entry_at (value_at depth s) b s at) → rows_from b s left at ≡ []
+    pub none_here : None ≡ member_of s (entry_at (value_at depth s) b s at) → rows_from b s left at ≡ []
     none_here e = rows_none b s depth left at h e
 
     pub entry_known : KnownFrom b depth s left at → KnownEntry b depth s at
     entry_known k = known_entry b depth s left at h k
 
     -- One row more.
-    module _ (row : Row) (next : Position) (e : Here row next ≡ member_of s (entry_at (value_at depth s) b s at)) where
+    module _ (row : Row) (next : Position) (e : row_here row next ≡ member_of s (entry_at (value_at depth s) b s at)) where
       pub row_more : rows_from b s left at ≡ row_member row ∷ rows_from b s (left - 1) next.at
       row_more =
           let read = the_read b s depth left at h row next e in
@@ -99,11 +99,11 @@ module _ {question : List Member → Bool} {test : Member → List Member → Bo
 
   module _ (h : 0 < left) where
     -- There are no more rows.
-    pub walk_end : End ≡ member_of s (entry_at (value_at depth s) b s at) → miss ≡ answer
+    pub walk_end : None ≡ member_of s (entry_at (value_at depth s) b s at) → miss ≡ answer
     walk_end e = over (none_here b s left at h e)
 
     module _ (row : Row) (next : Position)
-        (e : Here row next ≡ member_of s (entry_at (value_at depth s) b s at)) where
+        (e : row_here row next ≡ member_of s (entry_at (value_at depth s) b s at)) where
       here : cond (test (row_member row) (rows_from b s (left - 1) next.at)) hit
           (question (rows_from b s (left - 1) next.at)) ≡ answer
       here =

@@ -20,7 +20,7 @@ use Rattle.grammar.specs.Spellings.{undo}
 use Rattle.spelling.specs.Inner.Fingerprints.{fingerprint}
 use Rattle.grammar.specs.Reader.{octet_at, step, skip_space, Answer, Entry, entry_at, rows_after, rows_at, value_at}
 use Rattle.json_read.specs.Inner.Known.{KnownNext, KnownFrom}
-use Rattle.json_read.specs.Members.{next_from, member_of}
+use Rattle.json_read.specs.Members.{next_from, row_here, member_of}
 use Rattle.spelling.proofs.Fingerprints.{alike_fingerprint}
 use Rattle.prelude.specs.Any.{any, any_pair}
 use Rattle.distinct.specs.Names.{depth, name_at, same_name}
@@ -28,7 +28,6 @@ use Rattle.distinct.specs.Inner.Walking.{row_member, rows_from}
 use Rattle.distinct.proofs.Walks.{row_more, known_more}
 use Rattle.json_read.specs.declared.Position.{Position}
 use Rattle.json_read.specs.declared.member.Row.{Row}
-use Rattle.json_read.specs.declared.member.Member.TheVariants.{Here}
 use Rattle.distinct.specs.Inner.Filter.{tag, tag_of, start_of, NoneFree, MarkedIn, Marked, Freed, Entered, Behind}
 
 -- Fewer turns
@@ -372,7 +371,7 @@ module _ (size : ℕ) (s w : List ℕ) (left at : ℕ) where
 
     -- One more.
     module _ (row : Row) (next : Position) (h : 0 < left - done)
-        (e : Here row next ≡ member_of s (entry_at (value_at depth s) curly s q)) where
+        (e : row_here row next ≡ member_of s (entry_at (value_at depth s) curly s q)) where
       abbrev m : Member
       m = row_member row
 

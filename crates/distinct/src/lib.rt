@@ -14,7 +14,7 @@ ghost use Rattle.distinct.specs.Inner.Walking.{row_member, rows_from};
 pub mod window;
 
 use json_read::Position;
-use json_read::member::{Member, Row};
+use json_read::member::Row;
 
 // A member's name as it is spelled.
 pub fn name(s: &[u8], row: Row) -> &[u8]
@@ -46,14 +46,13 @@ fn again(s: &[u8], row: Row, from: Position, turns: usize) -> bool
     let mut p = from;
     let mut left = turns;
     while 0 < left {
-        let found = p.member(s, 12, true);
-        let Member::Here(other, next) = found else {
+        let Some(found) = p.member(s, 12, true) else {
             return false;
         };
-        if same_name(s, s, row, other) {
+        if same_name(s, s, row, found.row) {
             return true;
         }
-        p = next;
+        p = found.next;
         left -= 1;
     }
     false
@@ -67,14 +66,13 @@ fn by_pairs(s: &[u8], at: usize) -> bool
     let mut p = Position { at }.inside(s);
     let mut left = s.len();
     while 0 < left {
-        let found = p.member(s, 12, true);
-        let Member::Here(row, next) = found else {
+        let Some(found) = p.member(s, 12, true) else {
             return false;
         };
-        if again(s, row, next, left - 1) {
+        if again(s, found.row, found.next, left - 1) {
             return true;
         }
-        p = next;
+        p = found.next;
         left -= 1;
     }
     false
@@ -89,12 +87,11 @@ pub fn count(s: &[u8], at: usize) -> usize
     let mut left = s.len();
     let mut n: usize = 0;
     while 0 < left {
-        let found = p.member(s, 12, true);
-        let Member::Here(_, next) = found else {
+        let Some(found) = p.member(s, 12, true) else {
             return n;
         };
         n += 1;
-        p = next;
+        p = found.next;
         left -= 1;
     }
     n

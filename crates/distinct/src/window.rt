@@ -12,7 +12,7 @@ ghost use Rattle.distinct.specs.Inner.Walking.{row_member, rows_from};
 ghost use Rattle.distinct.specs.Inner.Filter.{tag_of, start_of, Marked, Looked, Entered, Filled, Empty};
 
 use json_read::Position;
-use json_read::member::{Member, Row};
+use json_read::member::Row;
 
 // The first free place from a tag's start on; or that the tag stands before it, or that no place is free.
 #[derive(Clone, Copy)]
@@ -100,14 +100,13 @@ fn earlier(s: &[u8], row: Row, from: Position, turns: usize) -> bool
     let mut p = from;
     let mut left = turns;
     while 0 < left {
-        let found = p.member(s, 12, true);
-        let Member::Here(other, next) = found else {
+        let Some(found) = p.member(s, 12, true) else {
             return false;
         };
-        if crate::same_name(s, s, other, row) {
+        if crate::same_name(s, s, found.row, row) {
             return true;
         }
-        p = next;
+        p = found.next;
         left -= 1;
     }
     false
@@ -149,14 +148,13 @@ fn fill(s: &[u8], from: Position, left: usize, filter: &mut [u32], size: usize) 
         if done == left {
             return Window::Next(q, 0);
         }
-        let found = q.member(s, 12, true);
-        let Member::Here(row, next) = found else {
+        let Some(found) = q.member(s, 12, true) else {
             return Window::Next(q, 0);
         };
-        if clashes(s, row, from, done, filter, size, true) {
+        if clashes(s, found.row, from, done, filter, size, true) {
             return Window::Repeats;
         }
-        q = next;
+        q = found.next;
         done += 1;
     }
     Window::Next(q, left - done)
@@ -181,14 +179,13 @@ fn against(
     let mut p = behind;
     let mut rest = left;
     while 0 < rest {
-        let found = p.member(s, 12, true);
-        let Member::Here(row, next) = found else {
+        let Some(found) = p.member(s, 12, true) else {
             return false;
         };
-        if clashes(s, row, from, done, filter, size, false) {
+        if clashes(s, found.row, from, done, filter, size, false) {
             return true;
         }
-        p = next;
+        p = found.next;
         rest -= 1;
     }
     false

@@ -14,11 +14,11 @@ ghost use Rattle.json_message.specs.JsonWrite.{raw_json};
 ghost use Rattle.json_write.specs.Answers.{WritesJson};
 ghost use Rattle.differences.specs.Answers.{Compares};
 
-use aad::Joined;
-use base64url::Decoded;
+use base64url::DecodeError;
 use differences::Answer;
-use jwe::Result;
-use prelude::{Place, Stage};
+use jwe::Reading;
+use prelude::Place;
+use prelude::refusal::Refusal;
 
 // The header walk (document 01, 'Further requests'): `open_walk` opens it on a text, and each `next_member` hands out one
 // member, then the end. For callers that want no struct, `walk_start` and `walk_step` take the text and an offset.
@@ -36,7 +36,7 @@ pub fn read(
     recipient: u32,
     header: &mut [u8],
     list: &mut [u32],
-) -> Result
+) -> jwe::Result
     ensures answered { numbers result
         ≡ result_of (call message.now known.now recipient
         (length header.old) (length list.old)) }
@@ -75,7 +75,7 @@ pub fn value<'a>(
 
 // Decodes one component: 5 where it is not base64url, then 1 where the output is shorter than the octets. They are at the
 // output's start, and the rest of it is unchanged; refused, all of it is.
-pub fn decode(text: &[u8], out: &mut [u8]) -> Decoded
+pub fn decode(text: &[u8], out: &mut [u8]) -> Result<usize, DecodeError>
     ensures { Decodes text.now out.old result out.new }
 {
     base64url::decode(text, out)
@@ -83,7 +83,7 @@ pub fn decode(text: &[u8], out: &mut [u8]) -> Decoded
 
 // Writes the additional authenticated data of an encoded protected header and an encoded aad, either of which may be empty, at
 // the output's start; the rest of it is unchanged, and all of it where there is too little room.
-pub fn aad(header: &[u8], aad: &[u8], out: &mut [u8]) -> Joined
+pub fn aad(header: &[u8], aad: &[u8], out: &mut [u8]) -> Option<usize>
     ensures { Joins header.now aad.now out.old result out.new }
 {
     aad::join(header, aad, out)
@@ -99,7 +99,7 @@ pub fn write(
     tag: &[u8],
     known: &[u8],
     out: &mut [u8],
-) -> Stage
+) -> Result<usize, Refusal>
     ensures { WritesCompact
         (raw header.now key.now iv.now ciphertext.now tag.now)
         known.now out.old result out.new }
@@ -121,7 +121,7 @@ pub fn write_json(
     known: &[u8],
     recipients: &[u8],
     out: &mut [u8],
-) -> Stage
+) -> Result<usize, Refusal>
     ensures { WritesJson general
         (raw_json protected.now shared.now aad.now iv.now ciphertext.now
         tag.now recipients.now)

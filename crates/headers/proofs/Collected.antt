@@ -20,7 +20,7 @@ use Rattle.prelude.specs.Refusals.{first, stage_of}
 use Rattle.jose.specs.Registered.{registered}
 use Rattle.prelude.specs.Limits.{most_members}
 use Rattle.headers.specs.Headers.{outermost, protected_entries, object_order}
-use Rattle.prelude.specs.declared.Stage.TheVariants as stage
+use Rattle.prelude.specs.Refusals as stage
 use Rattle.headers.proofs.Stages.{passed_is}
 
 not_many : (s : List ℕ) (es : List Entry) → first (object_order s es) ≡ 0 → length es ≤ 32

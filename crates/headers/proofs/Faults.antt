@@ -6,26 +6,27 @@ use Prim.Native.Nat.{ℕ}
 use lib.ListN.{take, drop}
 use Rattle.base64url.specs.Fault.{Fault, none, at, first_outside, spare_bits, fault}
 use Rattle.base64url.specs.Answers.{of_fault, check_answer}
-use Rattle.base64url.specs.declared.Checked.{Checked}
-use Rattle.base64url.specs.declared.Checked.TheVariants.{Sound, Faulty}
+use Rattle.std.specs.Prelude.{⊤, Result, Ok, Err, is_err}
+use Rattle.base64url.specs.declared.DecodeError.{DecodeError}
+use Rattle.base64url.specs.declared.DecodeError.TheVariants.{Misspelled}
 use Rattle.parts.specs.Parts.{fits, part}
 use Rattle.grammar.specs.Places.{Place}
 use Rattle.headers.specs.Components.{misspelled}
 
-abbrev pub is_faulty : Checked → Bool
-is_faulty Sound = false
-is_faulty Faulty = true
+-- what the check answers, by whether there is a fault
+abbrev spelled : Fault → Result ⊤ DecodeError
+spelled f = of_fault f (Ok tt) (Err Misspelled)
 
-by_fault : (f : Fault) → is_faulty (of_fault f Sound Faulty) ≡ of_fault f false true
+by_fault : (f : Fault) → is_err (spelled f) ≡ of_fault f false true
 by_fault none = refl
 by_fault (at place) = refl
 
 -- The answer of a check of the component's text.
-pub checked : (message : List ℕ) (q : Place) (text : List ℕ) (answer : Checked) →
-    text ≡ part message q.start q.size → answer ≡ check_answer text → is_faulty answer ≡ misspelled message q
+pub checked : (message : List ℕ) (q : Place) (text : List ℕ) (answer : Result ⊤ DecodeError) →
+    text ≡ part message q.start q.size → answer ≡ check_answer text → is_err answer ≡ misspelled message q
 unfolding misspelled check_answer
 checked message q text answer e a =
-    ap is_faulty (a ∙ ap (λ (t : List ℕ). of_fault (fault t) Sound Faulty) e)
+    ap is_err (a ∙ ap (λ (t : List ℕ). spelled (fault t)) e)
     ∙ by_fault (fault (part message q.start q.size))
 
 -- A component without characters is well spelled.

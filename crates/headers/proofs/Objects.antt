@@ -12,8 +12,7 @@ use Rattle.prelude.specs.Buffer.{written}
 use Rattle.prelude.proofs.Writing.{written_length}
 use Rattle.grammar.specs.Places.{Member}
 use Rattle.json_read.specs.Members.{collected_of}
-use Rattle.json_read.specs.declared.member.Collected.{Collected}
-use Rattle.json_read.specs.declared.member.Collected.TheVariants.{Rows, More}
+use Rattle.std.specs.Prelude.{Option, Some, None}
 use Rattle.rows.specs.Rows.{Entry, one_text, entry_of, entries_in, repeated}
 use Rattle.rows.specs.Tables.{entries_of, width}
 use Rattle.rows.specs.Inner.Prints.{flat, collected_table, Printed}
@@ -21,12 +20,12 @@ use Rattle.rows.proofs.Entries.{flat_length, entries_written_from}
 use Rattle.rows.proofs.Printing.{stand_in_one, printed_written_from}
 use Rattle.prelude.specs.Refusals.{first, stage_of}
 use Rattle.headers.specs.Headers.{object_order}
-use Rattle.prelude.specs.declared.Stage.TheVariants.{Passed, Refused}
+use Rattle.prelude.specs.Refusals.{Passed, Refused}
 use Rattle.headers.proofs.Bounds.{either_way}
 
 -- What collecting answers, by how many entries there are.
-abbrev pub collected_as : List Entry → Collected
-collected_as es = cond (ltb 32 (length es)) More (Rows (length es))
+abbrev pub collected_as : List Entry → Option ℕ
+collected_as es = cond (ltb 32 (length es)) None (Some (length es))
 
 -- A table from an entry on, as it is lent.
 abbrev pub rest : ℕ → List ℕ → List ℕ
@@ -50,10 +49,10 @@ module _ (s : List ℕ) (es : List Entry) (from count : ℕ) (before last : List
   written_is h =
       left ∙ ap (λ (b : Bool). cond b (written (from * width) (flat s es) before) before) (le-leb (length es) 32 h)
 
-  pub collects : Rows count ≡ collected_as es → Collects s es from last count
+  pub collects : Some count ≡ collected_as es → Collects s es from last count
   collects e = whole (cases (ltb 32 (length es)) refl e)
     where
-      cases : (b : Bool) → ltb 32 (length es) ≡ b → Rows count ≡ cond b More (Rows (length es)) →
+      cases : (b : Bool) → ltb 32 (length es) ≡ b → Some count ≡ cond b None (Some (length es)) →
           (ltb 32 (length es) ≡ false) × (count ≡ length es)
       cases true t e = let z : ◌≡◌ {A = ℕ} 0 1 = cc in absurd (omega arith)
       cases false t e = (t, cc)
@@ -93,10 +92,10 @@ module _ (names : List (List ℕ)) (s : List ℕ) (o : ℕ) (ms : List Member) w
   pub collected_is : collected_of ms ≡ collected_as (entries_in names s o ms)
   unfolding collected_of
   collected_is =
-      either_way 32 (length ms) (Rows (length ms)) More
-      ∙ ap (λ (n : ℕ). cond (ltb 32 n) More (Rows n)) (sym entries_count)
+      either_way 32 (length ms) (Some (length ms)) None
+      ∙ ap (λ (n : ℕ). cond (ltb 32 n) None (Some n)) (sym entries_count)
 
-  pub refused_8 : More ≡ collected_of ms →
+  pub refused_8 : None ≡ collected_of ms →
       Refused 8 ≡ stage_of (first (object_order s (entries_in names s o ms))) (length ms)
   unfolding stage_of
   refused_8 e =
@@ -104,7 +103,7 @@ module _ (names : List (List ℕ)) (s : List ℕ) (o : ℕ) (ms : List Member) w
       sym (stage_of_lem s es (length ms) true (repeated false (one_text s) es)
       (cases (ltb 32 (length es)) (e ∙ collected_is)) refl)
     where
-      cases : (b : Bool) → More ≡ cond b More (Rows (length (entries_in names s o ms))) → b ≡ true
+      cases : (b : Bool) → None ≡ cond b None (Some (length (entries_in names s o ms))) → b ≡ true
       cases true e = refl
       cases false e = let z : ◌≡◌ {A = ℕ} 0 1 = cc in absurd (omega arith)
 

@@ -11,7 +11,7 @@ use Rattle.rows.specs.Rows.{Entry}
 use Rattle.prelude.specs.Refusals.{Test, first, stage_of}
 use Rattle.prelude.proofs.Refusals.{nonzero, first_stop}
 use Rattle.headers.specs.Headers.{too_long, unread, text_order, object_order}
-use Rattle.prelude.specs.declared.Stage.TheVariants.{Passed, Refused}
+use Rattle.prelude.specs.Refusals.{Passed, Refused}
 
 module _ (n refusal passes : ℕ) where
   pub passed_is : Passed n ≡ stage_of refusal passes → (refusal ≡ 0) × (n ≡ passes)

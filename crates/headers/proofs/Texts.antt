@@ -12,31 +12,33 @@ use Rattle.prelude.proofs.Writing.{written_length, begins}
 use Rattle.base64url.specs.Fault.{Fault, none, at, fault}
 use Rattle.base64url.specs.Base64url.{decoded}
 use Rattle.base64url.specs.Answers.{of_fault, decode_order, decode_refusal, decode_number, decode_count, Decodes}
-use Rattle.base64url.specs.declared.Decoded.{Decoded}
-use Rattle.base64url.specs.declared.Decoded.TheVariants.{Octets, Misspelled, Short}
+use Rattle.std.specs.Prelude.{Result, Ok, Err, is_ok}
+use Rattle.base64url.specs.declared.DecodeError.{DecodeError}
+use Rattle.base64url.specs.declared.DecodeError.TheVariants.{Misspelled, Short}
 use Rattle.parts.specs.Parts.{part}
 use Rattle.grammar.specs.Places.{Place}
 use Rattle.grammar.specs.Reader.{Answer, nothing, found, read_text}
 use Rattle.json_read.specs.Inner.Ends.{found_of}
 use Rattle.json_read.specs.declared.Found.{Found}
-use Rattle.json_read.specs.declared.Found.TheVariants.{Value, Nothing}
+use Rattle.std.specs.Prelude as std
+use Rattle.std.specs.Prelude.{Some, None}
 use Rattle.prelude.specs.Refusals.{first, stage_of}
 use Rattle.prelude.specs.Outputs.{octets_written, output_after}
 use Rattle.headers.specs.Components.{octets_at, misspelled}
 use Rattle.headers.specs.Headers.{header_text, too_long, is_nothing, unread, text_order}
 use Rattle.headers.specs.Answers.{header_buffer}
-use Rattle.prelude.specs.declared.Stage.TheVariants.{Passed, Refused}
+use Rattle.prelude.specs.Refusals.{Passed, Refused}
 
 -- What decoding a text without fault answers, by how long it decoded is.
-abbrev pub decoded_as : List ℕ → Decoded
-decoded_as header = cond (too_long header) Short (Octets (length header))
+abbrev pub decoded_as : List ℕ → Result ℕ DecodeError
+decoded_as header = cond (too_long header) (Err Short) (Ok (length header))
 
 without_fault : (f : Fault) → of_fault f false true ≡ false → f ≡ none
 without_fault none e = refl
 without_fault (at place) e = absurd (true≢false e)
 
 -- What is known once the text at a place was decoded into a buffer.
-pub record Decoding (header before last : List ℕ) (answer : Decoded) : Type 0 where
+pub record Decoding (header before last : List ℕ) (answer : Result ℕ DecodeError) : Type 0 where
   pub answered : answer ≡ decoded_as header
   pub left : last ≡ header_buffer header before
   pub room : length before ≡ 4096
@@ -53,7 +55,7 @@ module _ (message : List ℕ) (q : Place) (sound : misspelled message q ≡ fals
         ap₂ (λ (f : Fault) (n : ℕ). cond (of_fault f false true) 5 (cond (ltb n (length (header_text message q))) 1 0))
         no_fault room
 
-    pub decoding : (text last : List ℕ) (answer : Decoded) → text ≡ part message q.start q.size →
+    pub decoding : (text last : List ℕ) (answer : Result ℕ DecodeError) → text ≡ part message q.start q.size →
         Decodes text before answer last → Decoding (header_text message q) before last answer
     unfolding header_text header_buffer
     decoding text last answer t d = record {
@@ -73,26 +75,20 @@ module _ (message : List ℕ) (q : Place) (sound : misspelled message q ≡ fals
             ≡ f (cond (too_long (header_text message q)) 1 0) (header_text message q)
         writes f = ap₂ f refuses (ap decoded t)
 
-        answers : (a : Decoded) (b : Bool) → decode_number a ≡ cond b 1 0 →
+        answers : (a : Result ℕ DecodeError) (b : Bool) → decode_number a ≡ cond b 1 0 →
             decode_count a ≡ octets_written (cond b 1 0) (header_text message q) →
-            a ≡ cond b Short (Octets (length (header_text message q)))
-        answers (Octets n) true e f = absurd (omega arith)
-        answers (Octets n) false e f = ap Octets f
-        answers Misspelled true e f = absurd (omega arith)
-        answers Misspelled false e f = absurd (omega arith)
-        answers Short true e f = refl
-        answers Short false e f = absurd (omega arith)
+            a ≡ cond b (Err Short) (Ok (length (header_text message q)))
+        answers (Ok n) true e f = absurd (omega arith)
+        answers (Ok n) false e f = ap Ok f
+        answers (Err Misspelled) true e f = absurd (omega arith)
+        answers (Err Misspelled) false e f = absurd (omega arith)
+        answers (Err Short) true e f = refl
+        answers (Err Short) false e f = absurd (omega arith)
 
         leaves : (b : Bool) → output_after (cond b 1 0) (header_text message q) before
             ≡ cond b before (written 0 (header_text message q) before)
         leaves true = refl
         leaves false = refl
-
--- Whether there are octets, by the answer.
-abbrev pub has_octets : Decoded → Bool
-has_octets (Octets n) = true
-has_octets Misspelled = false
-has_octets Short = false
 
 -- What is known where there are n: the buffer begins with the header.
 pub record Begins (header last : List ℕ) (n : ℕ) : Type 0 where
@@ -101,11 +97,11 @@ pub record Begins (header last : List ℕ) (n : ℕ) : Type 0 where
   pub fits : n ≤ length last
   pub front : take n last ≡ header
 
-module _ {header before last : List ℕ} {answer : Decoded} (d : Decoding header before last answer) where
-  too_long_lem : has_octets answer ≡ false → too_long header ≡ true
-  too_long_lem e = cases (too_long header) (sym (ap has_octets d.answered) ∙ e)
+module _ {header before last : List ℕ} {answer : Result ℕ DecodeError} (d : Decoding header before last answer) where
+  too_long_lem : is_ok answer ≡ false → too_long header ≡ true
+  too_long_lem e = cases (too_long header) (sym (ap is_ok d.answered) ∙ e)
     where
-      cases : (b : Bool) → has_octets (cond b Short (Octets (length header))) ≡ false → b ≡ true
+      cases : (b : Bool) → is_ok (cond b (Err Short) (Ok (length header))) ≡ false → b ≡ true
       cases true e = refl
       cases false e = sym e
 
@@ -113,10 +109,10 @@ module _ {header before last : List ℕ} {answer : Decoded} (d : Decoding header
   unfolding header_buffer
   written_is e = d.left ∙ ap (λ (b : Bool). cond b before (written 0 header before)) e
 
-  pub begun : (n : ℕ) → answer ≡ Octets n → Begins header last n
+  pub begun : (n : ℕ) → answer ≡ Ok n → Begins header last n
   begun n e = whole (counted (too_long header) refl (sym e ∙ d.answered))
     where
-      counted : (b : Bool) → too_long header ≡ b → Octets n ≡ cond b Short (Octets (length header)) →
+      counted : (b : Bool) → too_long header ≡ b → Ok n ≡ cond b (Err Short) (Ok (length header)) →
           (too_long header ≡ false) × (n ≡ length header)
       counted true t e = let z : ◌≡◌ {A = ℕ} 0 1 = cc in absurd (omega arith)
       counted false t e = (t, cc)
@@ -141,21 +137,21 @@ stage_of_lem : (header : List ℕ) (long bad : Bool) → too_long header ≡ lon
 unfolding first text_order
 stage_of_lem header long bad l b = ap₂ (λ (x y : Bool). stage_of (cond x 6 (cond y 7 0)) (length header)) l b
 
-pub refused_6 : {header before last : List ℕ} {answer : Decoded} → Decoding header before last answer →
-    has_octets answer ≡ false → Refused 6 ≡ stage_of (first (text_order header)) (length header)
+pub refused_6 : {header before last : List ℕ} {answer : Result ℕ DecodeError} → Decoding header before last answer →
+    is_ok answer ≡ false → Refused 6 ≡ stage_of (first (text_order header)) (length header)
 unfolding stage_of
 refused_6 {header} d e = sym (stage_of_lem header true (unread header) (too_long_lem d e) refl)
 
 -- Whether there is no reading, by the answer.
-abbrev pub no_value : Found → Bool
-no_value (Value end kind) = false
-no_value Nothing = true
+abbrev pub no_value : std.Option Found → Bool
+no_value (Some v) = false
+no_value None = true
 
 pub by_reading : (a : Answer) → no_value (found_of a) ≡ is_nothing a
 by_reading nothing = refl
 by_reading (found e k) = refl
 
-module _ {header last : List ℕ} {n : ℕ} (b : Begins header last n) {answer : Found}
+module _ {header last : List ℕ} {n : ℕ} (b : Begins header last n) {answer : std.Option Found}
     (a : answer ≡ found_of (read_text 12 (take n last))) where
   unread_is : unread header ≡ no_value answer
   unfolding unread

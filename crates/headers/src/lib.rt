@@ -10,17 +10,17 @@ ghost use Rattle.rows.specs.Rows.{entries_in};
 ghost use Rattle.rows.specs.Tables.{header_table, width};
 ghost use Rattle.rows.specs.Inner.Prints.{collected_table};
 ghost use Rattle.prelude.specs.Limits.{header_room, levels, longest};
-ghost use Rattle.prelude.specs.Refusals.{first, stage_of};
+ghost use Rattle.prelude.specs.Refusals.{first, stage_of, as_stage};
 ghost use Rattle.headers.specs.Components.{misspelled, with_key, sizes_of};
 ghost use Rattle.headers.specs.Headers.{header_text, text_order, protected_entries, object_order};
 ghost use Rattle.headers.specs.Answers.{place_of, components_of, header_buffer};
 
-use base64url::{Checked, Decoded};
 use jose::Sizes;
-use json_read::member::Collected;
-use json_read::{Found, Position};
+use json_read::Position;
 use prelude::limits::LEVELS;
-use prelude::{Place, Stage};
+use prelude::Place;
+use prelude::refusal::Refusal;
+use rows::table::{Entries, Headers, Texts};
 
 // The encoded components by their places in the message; 0, 0 where one is absent.
 #[derive(Clone, Copy)]
@@ -71,11 +71,7 @@ pub fn misspelled(message: &[u8], place: Place) -> bool
     if place.len == 0 {
         return false;
     }
-    let checked = base64url::check(parts::part(message, place.start, place.len));
-    let Checked::Sound = checked else {
-        return true;
-    };
-    false
+    base64url::check(parts::part(message, place.start, place.len)).is_err()
 }
 
 // 8 and 9 on the object at a position of a text, which has been judged or not: its members as entries of the table from the
@@ -88,30 +84,39 @@ pub fn object(
     table: &mut [u32],
     from: usize,
     judged: bool,
-) -> Stage
+) -> Result<usize, Refusal>
     requires s_len_bound { length s.now ≤ longest }
     requires list_value { filled list.now ≡ true }
     requires header_table_in_bounds { from * width + header_table ≤ length table.old }
     requires given { Given judged (KnownIn curly levels s.now at) }
-    ensures value { result ≡ stage_of (first (object_order s.now (entries_in (names list.now) s.now origin (members_at levels s.now at)))) (length (members_at levels s.now at)) }
+    ensures value { as_stage result ≡ stage_of (first (object_order s.now (entries_in (names list.now) s.now origin (members_at levels s.now at)))) (length (members_at levels s.now at)) }
     ensures table_after { table.new ≡ collected_table from s.now (entries_in (names list.now) s.now origin (members_at levels s.now at)) table.old }
 {
-    let collected = rows::collect::collect(s, at, origin, list, table, from, judged);
-    let Collected::Rows(count) = collected else {
-        return Stage::Refused(8);
+    let Some(count) = rows::collect::collect(s, at, origin, list, table, from, judged) else {
+        return Err(Refusal::ManyMembers);
     };
     let first = from * rows::layout::WIDTH;
-    if rows::repeat::clashes(s, s, s, &table[first..], count, false) {
-        return Stage::Refused(9);
+    let texts = Texts {
+        header: s,
+        shared: s,
+        own: s,
+    };
+    let entries = Entries {
+        table: &table[first..],
+        count,
+    };
+    let members = Headers { texts, entries };
+    if members.clashes(false) {
+        return Err(Refusal::NameTwice);
     }
-    Stage::Passed(count)
+    Ok(count)
 }
 
 // 8 and 9 on the decoded protected header: its parameters as entries at the start of the table, and how many they are.
-pub fn protected_entries(header: &[u8], table: &mut [u32]) -> Stage
+pub fn protected_entries(header: &[u8], table: &mut [u32]) -> Result<usize, Refusal>
     requires header_len_bound { length header.now ≤ longest }
     requires header_table_in_bounds { header_table ≤ length table.old }
-    ensures value { result ≡ stage_of (first (object_order header.now (protected_entries header.now))) (length (protected_entries header.now)) }
+    ensures value { as_stage result ≡ stage_of (first (object_order header.now (protected_entries header.now))) (length (protected_entries header.now)) }
     ensures table_after { table.new ≡ collected_table 0 header.now (protected_entries header.now) table.old }
 {
     let list = jose::lists::REGISTERED;
@@ -121,19 +126,18 @@ pub fn protected_entries(header: &[u8], table: &mut [u32]) -> Stage
 
 // 6 and 7 on the protected header, whose encoded text at a place of the message has no fault: it is decoded into the
 // buffer, and how long it is.
-pub fn header(message: &[u8], place: Place, buffer: &mut [u8]) -> Stage
+pub fn header(message: &[u8], place: Place, buffer: &mut [u8]) -> Result<usize, Refusal>
     requires place_value { misspelled message.now (place_of place) ≡ false }
     requires buffer_len { length buffer.old ≡ header_room }
-    ensures value { result ≡ stage_of (first (text_order (header_text message.now (place_of place)))) (length (header_text message.now (place_of place))) }
+    ensures value { as_stage result ≡ stage_of (first (text_order (header_text message.now (place_of place)))) (length (header_text message.now (place_of place))) }
     ensures buffer_after { buffer.new ≡ header_buffer (header_text message.now (place_of place)) buffer.old }
 {
     let decoded = base64url::decode(parts::part(message, place.start, place.len), buffer);
-    let Decoded::Octets(n) = decoded else {
-        return Stage::Refused(6);
+    let Ok(n) = decoded else {
+        return Err(Refusal::LongHeader);
     };
-    let judged = json_read::judge(&buffer[..n], LEVELS);
-    let Found::Value(_, _) = judged else {
-        return Stage::Refused(7);
+    let Some(_) = json_read::judge(&buffer[..n], LEVELS) else {
+        return Err(Refusal::Unread);
     };
-    Stage::Passed(n)
+    Ok(n)
 }

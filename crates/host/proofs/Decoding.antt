@@ -21,7 +21,7 @@ use Rattle.headers.specs.Components.{misspelled, octets_at, absent, Components, 
 use Rattle.jwe.specs.Judge.{Call, refusal, refused, Outcome, outcome, accepted, result_of}
 use Rattle.headers.specs.Answers.{components_of}
 use Rattle.jwe.specs.Answers.{numbers}
-use Rattle.jwe.specs.declared.Result.{Result}
+use Rattle.jwe.specs.Answers.{Result}
 use Rattle.meets.proofs.ComponentsSpelled.{Sound, components_spelled}
 use Rattle.host.specs.Component.{place_at, component_place, component_octets}
 use Rattle.host.specs.Component.{component_refusal}

@@ -11,7 +11,7 @@ use Rattle.prelude.specs.Buffer.{AllBelow, written}
 use Rattle.grammar.proofs.Endings.{either}
 use Rattle.jwe.specs.Judge.{Call, refusal, accepted, refused, result_of, header_after, list_after}
 use Rattle.jwe.specs.Answers.{numbers}
-use Rattle.jwe.specs.declared.Result.{Result}
+use Rattle.jwe.specs.Answers.{Result}
 use Rattle.jwe.proofs.Small.{limit, result_small}
 use Rattle.prelude.specs.Result.{result_room}
 use Rattle.host.specs.Read.{read_refusal, read_header, read_list, read_result}

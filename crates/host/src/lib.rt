@@ -11,9 +11,8 @@ ghost use Rattle.aad.specs.Aad.{aad_text, aad_refusal};
 ghost use Rattle.jwe_write.specs.Write.{raw, compact_text, write_refusal};
 ghost use Rattle.json_message.specs.JsonWrite.{raw_json, written_text, json_write_refusal};
 
-use aad::Joined;
-use base64url::Decoded;
-use prelude::Stage;
+use base64url::DecodeError;
+use prelude::refusal::Refusal;
 
 pub mod component;
 pub mod differing;
@@ -28,17 +27,16 @@ pub fn jwe_decode(text: &[u8], out: &mut [u8], octets: &mut usize) -> u32
 {
     let answer = gateway::decode(text, out);
     match answer {
-        Decoded::Octets(decoded) => {
+        Ok(decoded) => {
             *octets = decoded;
             0
         }
-        Decoded::Misspelled => {
+        Err(error) => {
             *octets = 0;
-            5
-        }
-        Decoded::Short => {
-            *octets = 0;
-            1
+            match error {
+                DecodeError::Misspelled => 5,
+                DecodeError::Short => 1,
+            }
         }
     }
 }
@@ -50,13 +48,12 @@ pub fn jwe_aad(encoded_header: &[u8], encoded_aad: &[u8], out: &mut [u8], octets
         (aad_text encoded_header.now encoded_aad.now)
         out.old result octets.new out.new }
 {
-    let answer = gateway::aad(encoded_header, encoded_aad, out);
-    match answer {
-        Joined::Octets(joined) => {
+    match gateway::aad(encoded_header, encoded_aad, out) {
+        Some(joined) => {
             *octets = joined;
             0
         }
-        Joined::Short => {
+        None => {
             *octets = 0;
             1
         }
@@ -84,11 +81,11 @@ pub fn jwe_write_compact(
 {
     let answer = gateway::write(header, key, iv, ciphertext, tag, known, out);
     match answer {
-        Stage::Passed(written) => {
+        Ok(written) => {
             *octets = written;
             0
         }
-        Stage::Refused(n) => {
+        Err(n) => {
             *octets = 0;
             n
         }
@@ -122,11 +119,11 @@ pub fn jwe_write_flattened(
         false, protected, shared, aad, iv, ciphertext, tag, known, recipients, out,
     );
     match answer {
-        Stage::Passed(count) => {
+        Ok(count) => {
             *octets = count;
             0
         }
-        Stage::Refused(n) => {
+        Err(n) => {
             *octets = 0;
             n
         }
@@ -160,11 +157,11 @@ pub fn jwe_write_general(
         true, protected, shared, aad, iv, ciphertext, tag, known, recipients, out,
     );
     match answer {
-        Stage::Passed(size) => {
+        Ok(size) => {
             *octets = size;
             0
         }
-        Stage::Refused(n) => {
+        Err(n) => {
             *octets = 0;
             n
         }

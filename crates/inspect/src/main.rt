@@ -4,7 +4,6 @@
 
 ghost use Rattle.std.specs.Prelude.{◌≤◌, length};
 
-use report::Reported;
 use std::io::Read;
 
 // Reads until the buffer is full, the input ends or a read fails, and answers how many octets stand at the buffer's start.
@@ -27,8 +26,7 @@ fn read_full(input: &mut impl Read, into: &mut [u8]) -> usize
 // Writes the report on a message. 8,192 octets are always enough for it.
 fn write_report(rt: &(impl Print + Eprint), message: &[u8]) {
     let mut out = [0u8; 8192];
-    let reported = report::report(message, &mut out);
-    let Reported::Octets(n) = reported else {
+    let Some(n) = report::report(message, &mut out) else {
         return;
     };
     if let Err(e) = rt.write_all(&out[..n]) {

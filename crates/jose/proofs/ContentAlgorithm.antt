@@ -19,8 +19,8 @@ use Rattle.rows.proofs.Asking.{having_found, having_done, is_some, present_havin
 use Rattle.rows.proofs.Printing.{StandIn}
 use Rattle.jose.specs.Registered.{enc, string}
 use Rattle.jose.specs.ContentAlgorithm.{sole_string, content_algorithm, differ, differing}
-use Rattle.jose.specs.declared.content.Named.{Named}
-use Rattle.jose.specs.declared.content.Named.TheVariants.{At, Nothing}
+use Rattle.std.specs.Prelude.{Some, None, Option as Maybe}
+use Rattle.prelude.specs.declared.Place.{Place}
 use Rattle.jose.specs.Inner.Content.{place_of, named_in, shown_in}
 use Rattle.jose.proofs.Alike.{Alike, Beside}
 
@@ -34,7 +34,7 @@ module _ (count : ℕ) (t : List ℕ) where
   entry i = first_of (drop (i * width) t)
 
   module _ (i : ℕ) (first : having enc (drop i all) ≡ having enc all) where
-    pub none_named : count ≤ i → Nothing ≡ named_in all
+    pub none_named : count ≤ i → None ≡ named_in all
     unfolding named_in
     none_named h = sym (ap place_of (sym first ∙ having_done enc count i t h))
 
@@ -43,7 +43,7 @@ module _ (count : ℕ) (t : List ℕ) where
       from_first = sym first ∙ having_found enc count i t h is
 
       module _ (j : ℕ) (next : having enc (drop j all) ≡ having enc (drop (i + 1) all)) where
-        pub two_named : j < count → (entry j).number ≡ enc → Nothing ≡ named_in all
+        pub two_named : j < count → (entry j).number ≡ enc → None ≡ named_in all
         unfolding named_in
         two_named below also =
             sym (ap place_of
@@ -53,16 +53,16 @@ module _ (count : ℕ) (t : List ℕ) where
           only : having enc all ≡ entry i ∷ []
           only = from_first ∙ ap (λ (l : List Entry). entry i ∷ l) (sym next ∙ having_done enc count j t last)
 
-          abbrev by : Bool → Named
+          abbrev by : Bool → Maybe Place
           by b =
               cond b
-              (At (record { start = (entry i).member.value_start + 1; len = (entry i).member.value_size - 2 })) Nothing
+              (Some (record { start = (entry i).member.value_start + 1; len = (entry i).member.value_size - 2 })) None
 
           one_is : named_in all ≡ by (eqb (entry i).member.kind string)
           unfolding named_in
           one_is = ap place_of only
 
-          pub other_named : ((entry i).member.kind ≡ string → ⊥) → Nothing ≡ named_in all
+          pub other_named : ((entry i).member.kind ≡ string → ⊥) → None ≡ named_in all
           other_named n = sym (one_is ∙ ap by (ne_eqb (entry i).member.kind string n))
 
           pub string_named : (entry i).member.kind ≡ string → by true ≡ named_in all
@@ -153,7 +153,7 @@ content_shown ts s es h = cases (having enc es) (having_every (λ e. text_of ts 
   where
     one : (b : Bool) (e : Entry) → text_of ts e.origin ≡ s →
         cond {A = Option (List ℕ)} b (some (value_in ts e)) none
-        ≡ shown_in s (cond b (At (record { start = e.member.value_start + 1; len = e.member.value_size - 2 })) Nothing)
+        ≡ shown_in s (cond b (Some (record { start = e.member.value_start + 1; len = e.member.value_size - 2 })) None)
     one true e o = ap (λ (w : List ℕ). some (spelled_value w e.member)) o
     one false e o = refl
 

@@ -7,10 +7,10 @@ use Prim.Native.Nat.{ℕ, ◌-◌, ◌<◌}
 use Rattle.grammar.specs.Grammar.{square}
 use Rattle.grammar.specs.Places.{Element}
 use Rattle.grammar.specs.Reader.{entry_at, value_at}
-use Rattle.json_read.specs.Members.{member_of}
+use Rattle.json_read.specs.Members.{row_here, member_of}
 use Rattle.json_read.specs.declared.Position.{Position}
 use Rattle.json_read.specs.declared.member.Row.{Row}
-use Rattle.json_read.specs.declared.member.Member.TheVariants.{Here, End}
+use Rattle.std.specs.Prelude.{None}
 use Rattle.prelude.specs.Any.{any, any_pair}
 use Rattle.prelude.specs.Limits.{levels}
 use Rattle.jose.specs.Inner.Elements.{element_of, elements_from}
@@ -43,11 +43,11 @@ module _ {question : List Element → Bool} {test : Element → List Element →
 
   module _ (h : 0 < left) where
     -- There are no more elements.
-    pub walk_end : End ≡ member_of s (entry_at (value_at levels s) square s at) → false ≡ answer
+    pub walk_end : None ≡ member_of s (entry_at (value_at levels s) square s at) → false ≡ answer
     walk_end e = none_here (elements_none s left at h e)
 
     module _ (row : Row) (next : Position)
-        (e : Here row next ≡ member_of s (entry_at (value_at levels s) square s at)) where
+        (e : row_here row next ≡ member_of s (entry_at (value_at levels s) square s at)) where
       abbrev rest : List Element
       rest = elements_from s (left - 1) next.at
 

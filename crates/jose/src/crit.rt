@@ -1,20 +1,21 @@
 // The contents of `crit` (document 01's 17): its elements are read one after the other, where the value stands. What
 // each function answers stands in specs/HeaderRules.
-ghost use Rattle.std.specs.Prelude.{◌≡◌, true, ◌+◌, ◌-◌, ◌*◌, ◌≤◌, length, drop};
+ghost use Rattle.std.specs.Prelude.{◌≡◌, true};
 ghost use Rattle.grammar.specs.Reader.{elements_at};
 ghost use Rattle.names.specs.Names.{names, filled};
 ghost use Rattle.prelude.specs.Limits.{levels};
 ghost use Rattle.prelude.specs.Any.{any, any_pair};
-ghost use Rattle.rows.specs.Rows.{texts, name_says};
-ghost use Rattle.rows.specs.Tables.{first_of, entries_of, width};
+ghost use Rattle.rows.specs.Inner.Views.{the_entry, the_entries, the_texts};
 ghost use Rattle.jose.specs.HeaderRules.{spelled_element, unknown, same_element, misplaced};
 ghost use Rattle.jose.specs.HeaderRules.{is_empty, wrong_crit, critical};
 ghost use Rattle.jose.specs.Inner.Elements.{element_of, elements_from};
 
+use crate::lists::CRIT;
 use json_read::Position;
-use json_read::member::{Member, Row};
+use json_read::member::Row;
 use prelude::limits::LEVELS;
-use rows::ask::field;
+use rows::layout::STRING;
+use rows::table::{Entry, Headers};
 
 // A string element as it is spelled, without quotation marks; the empty part where it lies outside the text.
 fn spelled(s: &[u8], row: Row) -> &[u8]
@@ -32,11 +33,10 @@ fn spelled(s: &[u8], row: Row) -> &[u8]
 fn empty(s: &[u8], at: usize) -> bool
     ensures { result ≡ is_empty (elements_at levels s.now at) }
 {
-    let first = Position { at }.inside(s).element(s, LEVELS, false);
-    let Member::Here(_, _) = first else {
-        return true;
-    };
-    false
+    Position { at }
+        .inside(s)
+        .element(s, LEVELS, false)
+        .is_none()
 }
 
 // Whether an element is no string, or none of the known names.
@@ -44,10 +44,7 @@ fn unknown(s: &[u8], known: &[u8], row: Row) -> bool
     requires { filled known.now ≡ true }
     ensures { result ≡ unknown (names known.now) s.now (element_of row) }
 {
-    if row.kind != 2 {
-        return true;
-    }
-    names::find(known, spelled(s, row)) == 0
+    row.kind as u32 != STRING || names::find(known, spelled(s, row)) == 0
 }
 
 // Whether one of an array is.
@@ -58,14 +55,13 @@ fn some_unknown(s: &[u8], known: &[u8], at: usize) -> bool
     let mut p = Position { at }.inside(s);
     let mut left = s.len();
     while 0 < left {
-        let found = p.element(s, LEVELS, false);
-        let Member::Here(row, next) = found else {
+        let Some(found) = p.element(s, LEVELS, false) else {
             return false;
         };
-        if unknown(s, known, row) {
+        if unknown(s, known, found.row) {
             return true;
         }
-        p = next;
+        p = found.next;
         left -= 1;
     }
     false
@@ -85,14 +81,13 @@ fn again(s: &[u8], row: Row, from: Position, turns: usize) -> bool
     let mut p = from;
     let mut left = turns;
     while 0 < left {
-        let found = p.element(s, LEVELS, false);
-        let Member::Here(other, next) = found else {
+        let Some(found) = p.element(s, LEVELS, false) else {
             return false;
         };
-        if same(s, row, other) {
+        if same(s, row, found.row) {
             return true;
         }
-        p = next;
+        p = found.next;
         left -= 1;
     }
     false
@@ -106,159 +101,74 @@ fn twice(s: &[u8], at: usize) -> bool
     let mut p = Position { at }.inside(s);
     let mut left = s.len();
     while 0 < left {
-        let found = p.element(s, LEVELS, false);
-        let Member::Here(row, next) = found else {
+        let Some(found) = p.element(s, LEVELS, false) else {
             return false;
         };
-        if again(s, row, next, left - 1) {
+        if again(s, found.row, found.next, left - 1) {
             return true;
         }
-        p = next;
+        p = found.next;
         left -= 1;
     }
     false
 }
 
-// Whether some entry's name says what a spelling does.
-fn named(header: &[u8], shared: &[u8], own: &[u8], table: &[u32], count: usize, w: &[u8]) -> bool
-    requires { count * width ≤ length table.now }
-    ensures { result ≡ any (name_says (texts header.now shared.now own.now) w.now) (entries_of count table.now) }
-{
-    let mut i: usize = 0;
-    while i < count {
-        if rows::repeat::says(header, shared, own, table, i, w) {
-            return true;
-        }
-        i += 1;
-    }
-    false
-}
-
 // Whether an element is a registered name, or no name of the recipient's headers.
-fn misplaced(
-    header: &[u8],
-    shared: &[u8],
-    own: &[u8],
-    table: &[u32],
-    count: usize,
-    s: &[u8],
-    row: Row,
-) -> bool
-    requires { count * width ≤ length table.now }
-    ensures { result ≡ misplaced (texts header.now shared.now own.now) (entries_of count table.now) s.now (element_of row) }
+fn misplaced(h: Headers, s: &[u8], row: Row) -> bool
+    ensures { result ≡ misplaced (the_texts h.entry.texts) (the_entries h.entry.entries) s.now (element_of row) }
 {
     let w = spelled(s, row);
     let list = crate::lists::REGISTERED;
     if names::find(&list, w) != 0 {
         return true;
     }
-    !named(header, shared, own, table, count, w)
+    let Headers { texts, entries } = h;
+    !entries.any(|e| texts.says(e, w))
 }
 
 // Whether one of an array is.
-fn some_misplaced(
-    header: &[u8],
-    shared: &[u8],
-    own: &[u8],
-    table: &[u32],
-    count: usize,
-    s: &[u8],
-    at: usize,
-) -> bool
-    requires { count * width ≤ length table.now }
-    ensures { result ≡ any (misplaced (texts header.now shared.now own.now) (entries_of count table.now) s.now) (elements_at levels s.now at) }
+fn some_misplaced(h: Headers, s: &[u8], at: usize) -> bool
+    ensures { result ≡ any (misplaced (the_texts h.entry.texts) (the_entries h.entry.entries) s.now) (elements_at levels s.now at) }
 {
     let mut p = Position { at }.inside(s);
     let mut left = s.len();
     while 0 < left {
-        let found = p.element(s, LEVELS, false);
-        let Member::Here(row, next) = found else {
+        let Some(found) = p.element(s, LEVELS, false) else {
             return false;
         };
-        if misplaced(header, shared, own, table, count, s, row) {
+        if misplaced(h, s, found.row) {
             return true;
         }
-        p = next;
+        p = found.next;
         left -= 1;
     }
     false
 }
 
 // Whether the elements of an array in the text s are wrong as those of `crit`.
-fn wrong(
-    header: &[u8],
-    shared: &[u8],
-    own: &[u8],
-    known: &[u8],
-    table: &[u32],
-    count: usize,
-    s: &[u8],
-    at: usize,
-) -> bool
-    requires width_in_bounds { count * width ≤ length table.now }
-    requires known_value { filled known.now ≡ true }
-    ensures { result ≡ wrong_crit (names known.now) (texts header.now shared.now own.now) (entries_of count table.now) s.now (elements_at levels s.now at) }
+#[tactic(auto, unfolding(crate::specs::HeaderRules::wrong_crit))]
+fn wrong(h: Headers, known: &[u8], s: &[u8], at: usize) -> bool
+    requires { filled known.now ≡ true }
+    ensures { result ≡ wrong_crit (names known.now) (the_texts h.entry.texts) (the_entries h.entry.entries) s.now (elements_at levels s.now at) }
 {
-    if empty(s, at) {
-        return true;
-    }
-    if some_unknown(s, known, at) {
-        return true;
-    }
-    if twice(s, at) {
-        return true;
-    }
-    some_misplaced(header, shared, own, table, count, s, at)
+    empty(s, at) || some_unknown(s, known, at) || twice(s, at) || some_misplaced(h, s, at)
 }
 
 // Whether an entry is a `crit` with wrong contents.
-fn critical(
-    header: &[u8],
-    shared: &[u8],
-    own: &[u8],
-    known: &[u8],
-    table: &[u32],
-    count: usize,
-    i: usize,
-) -> bool
-    requires width_in_bounds { count * width ≤ length table.now }
-    requires known_value { filled known.now ≡ true }
-    requires width_in_bounds_2 { i * width + width ≤ length table.now }
-    ensures { result ≡ critical (names known.now) (texts header.now shared.now own.now) (entries_of count table.now) (first_of (drop (i * width) table.now)) }
+fn critical(h: Headers, known: &[u8], e: Entry) -> bool
+    requires { filled known.now ≡ true }
+    ensures { result ≡ critical (names known.now) (the_texts h.entry.texts) (the_entries h.entry.entries) (the_entry e.entry) }
 {
-    if field(table, i, 6) != 13 {
+    if e.number() != CRIT {
         return false;
     }
-    let at = field(table, i, 3);
-    let origin = field(table, i, 0);
-    if origin == 0 {
-        return wrong(header, shared, own, known, table, count, header, at);
-    }
-    if origin == 1 {
-        return wrong(header, shared, own, known, table, count, shared, at);
-    }
-    wrong(header, shared, own, known, table, count, own, at)
+    wrong(h, known, h.texts.of(e.origin()), e.value_place().start)
 }
 
-// 17: whether one of the first entries is.
-pub fn wrong_crit(
-    header: &[u8],
-    shared: &[u8],
-    own: &[u8],
-    known: &[u8],
-    table: &[u32],
-    count: usize,
-) -> bool
-    requires width_in_bounds { count * width ≤ length table.now }
-    requires known_value { filled known.now ≡ true }
-    ensures { result ≡ any (critical (names known.now) (texts header.now shared.now own.now) (entries_of count table.now)) (entries_of count table.now) }
+// 17: whether one of a recipient's parameters is.
+pub fn wrong_crit(h: Headers, known: &[u8]) -> bool
+    requires { filled known.now ≡ true }
+    ensures { result ≡ any (critical (names known.now) (the_texts h.entry.texts) (the_entries h.entry.entries)) (the_entries h.entry.entries) }
 {
-    let mut i: usize = 0;
-    while i < count {
-        if critical(header, shared, own, known, table, count, i) {
-            return true;
-        }
-        i += 1;
-    }
-    false
+    h.entries.any(|e| critical(h, known, e))
 }

@@ -1,20 +1,61 @@
 // One recipient's parameters judged, in document 01's order.
-ghost use Rattle.std.specs.Prelude.{◌≡◌, true, ◌*◌, ◌≤◌, length};
+ghost use Rattle.std.specs.Prelude.{◌≡◌, true, map};
 ghost use Rattle.names.specs.Names.{names, filled};
-ghost use Rattle.rows.specs.Rows.{texts, one_text};
-ghost use Rattle.rows.specs.Tables.{entries_of, width};
-ghost use Rattle.rows.specs.Inner.Prints.{Printed};
-ghost use Rattle.prelude.specs.Refusals.{first, stage_of};
+ghost use Rattle.rows.specs.Inner.Views.{the_entries, the_texts};
+ghost use Rattle.prelude.specs.Refusals.{first, stage_of, as_stage};
+ghost use Rattle.jose.specs.Inner.Rules.{refusal_of, rule_number};
 ghost use Rattle.jose.specs.HeaderRules.{wrong_key, mode_in, breaks, rules_order, protected_rules, recipient_order};
 
 use crate::Sizes;
-use prelude::Stage;
+use prelude::refusal::Refusal;
+use rows::table::Headers;
 
-// The rules on a recipient by their numbers, in document 01's order; and those that can be broken where only a protected header
-// is there.
-const RECIPIENT: [u32; 7] = [12, 13, 14, 15, 16, 17, 18];
+// What a recipient's parameters are asked for, in document 01's order.
+#[derive(Clone, Copy, Debug, PartialEq, Eq)]
+pub enum Rule {
+    NameInTwoHeaders,
+    Incomplete,
+    WrongKind,
+    Unlisted,
+    Unprotected,
+    Critical,
+    WrongKey,
+}
 
-const PROTECTED: [u32; 5] = [13, 14, 15, 17, 18];
+impl From<Rule> for Refusal {
+    ghost from_gives = { λ rule refusal. refusal ≡ refusal_of rule };
+
+    fn from(rule: Rule) -> Refusal {
+        match rule {
+            Rule::NameInTwoHeaders => Refusal::NameInTwoHeaders,
+            Rule::Incomplete => Refusal::Incomplete,
+            Rule::WrongKind => Refusal::WrongKind,
+            Rule::Unlisted => Refusal::Unlisted,
+            Rule::Unprotected => Refusal::Unprotected,
+            Rule::Critical => Refusal::Critical,
+            Rule::WrongKey => Refusal::WrongKey,
+        }
+    }
+}
+
+// All of them; and those that can be broken where only a protected header is there.
+const RECIPIENT: [Rule; 7] = [
+    Rule::NameInTwoHeaders,
+    Rule::Incomplete,
+    Rule::WrongKind,
+    Rule::Unlisted,
+    Rule::Unprotected,
+    Rule::Critical,
+    Rule::WrongKey,
+];
+
+const PROTECTED: [Rule; 5] = [
+    Rule::Incomplete,
+    Rule::WrongKind,
+    Rule::Unlisted,
+    Rule::Critical,
+    Rule::WrongKey,
+];
 
 // Modes 3 and 5 have no key of their own, the others do.
 fn wrong_key(mode: u32, sizes: Sizes) -> bool
@@ -29,110 +70,64 @@ fn wrong_key(mode: u32, sizes: Sizes) -> bool
     sizes.key == 0
 }
 
-// Whether one recipient, whose key is wrong or not, breaks the rule of a number.
-fn breaks(
-    rule: u32,
-    header: &[u8],
-    shared: &[u8],
-    own: &[u8],
-    known: &[u8],
-    table: &[u32],
-    count: usize,
-    bad_key: bool,
-) -> bool
-    requires known_value { filled known.now ≡ true }
-    requires width_in_bounds { count * width ≤ length table.now }
-    requires printed { Printed (texts header.now shared.now own.now) count table.now }
+// Whether one recipient, whose key is wrong or not, breaks a rule.
+fn breaks(rule: Rule, h: Headers, known: &[u8], bad_key: bool) -> bool
+    requires { filled known.now ≡ true }
     ensures { result
-        ≡ breaks (names known.now) (texts header.now shared.now own.now)
-        (entries_of count table.now) bad_key rule }
+        ≡ breaks (names known.now) (the_texts h.entry.texts)
+        (the_entries h.entry.entries) bad_key (rule_number rule) }
 {
     match rule {
-        12 => rows::repeat::clashes(header, shared, own, table, count, true),
-        13 => crate::rules::incomplete(table, count),
-        14 => crate::rules::wrong_kind(table, count),
-        15 => crate::rules::unlisted(header, shared, own, table, count),
-        16 => crate::rules::unprotected(table, count),
-        17 => crate::crit::wrong_crit(header, shared, own, known, table, count),
-        18 => bad_key,
-        _ => false,
+        Rule::NameInTwoHeaders => h.clashes(true),
+        Rule::Incomplete => crate::rules::incomplete(h.entries),
+        Rule::WrongKind => crate::rules::wrong_kind(h.entries),
+        Rule::Unlisted => crate::rules::unlisted(h.texts, h.entries),
+        Rule::Unprotected => crate::rules::unprotected(h.entries),
+        Rule::Critical => crate::crit::wrong_crit(h, known),
+        Rule::WrongKey => bad_key,
     }
 }
 
-// One recipient judged by some rules in order: the mode of its algorithm, or the number of the first
-// that it breaks.
-fn judge_by(
-    rules: &[u32],
-    header: &[u8],
-    shared: &[u8],
-    own: &[u8],
-    known: &[u8],
-    table: &[u32],
-    count: usize,
-    sizes: Sizes,
-) -> Stage
-    requires known_value { filled known.now ≡ true }
-    requires width_in_bounds { count * width ≤ length table.now }
-    requires printed { Printed (texts header.now shared.now own.now) count table.now }
-    ensures { result
+// One recipient judged by some rules in order: the mode of its algorithm, or the first that it breaks.
+fn judge_by(rules: &[Rule], h: Headers, known: &[u8], sizes: Sizes) -> Result<usize, Refusal>
+    requires { filled known.now ≡ true }
+    ensures { as_stage result
         ≡ stage_of
-        (first (rules_order (names known.now) (texts header.now shared.now own.now)
-        (entries_of count table.now) sizes rules.now))
-        (mode_in (texts header.now shared.now own.now) (entries_of count table.now)) }
+        (first (rules_order (names known.now) (the_texts h.entry.texts)
+        (the_entries h.entry.entries) sizes (map rule_number rules.now)))
+        (mode_in (the_texts h.entry.texts) (the_entries h.entry.entries)) }
 {
-    let mode = crate::rules::mode(header, shared, own, table, count);
+    let mode = crate::rules::mode(h.texts, h.entries);
     let bad_key = wrong_key(mode, sizes);
-    let mut i: usize = 0;
-    while i < rules.len() {
-        let rule = rules[i];
-        if breaks(rule, header, shared, own, known, table, count, bad_key) {
-            return Stage::Refused(rule);
+    for &rule in rules {
+        if breaks(rule, h, known, bad_key) {
+            return Err(Refusal::from(rule));
         }
-        i += 1;
     }
-    Stage::Passed(mode as usize)
+    Ok(mode as usize)
 }
 
 // 12 to 18 on one recipient.
-pub fn judge(
-    header: &[u8],
-    shared: &[u8],
-    own: &[u8],
-    known: &[u8],
-    table: &[u32],
-    count: usize,
-    sizes: Sizes,
-) -> Stage
-    requires known_value { filled known.now ≡ true }
-    requires width_in_bounds { count * width ≤ length table.now }
-    requires printed { Printed (texts header.now shared.now own.now) count table.now }
-    ensures { result
+#[tactic(auto, unfolding(crate::specs::HeaderRules::recipient_order))]
+pub fn judge(h: Headers, known: &[u8], sizes: Sizes) -> Result<usize, Refusal>
+    requires { filled known.now ≡ true }
+    ensures { as_stage result
         ≡ stage_of
-        (first (recipient_order (names known.now) (texts header.now shared.now own.now)
-        (entries_of count table.now) sizes))
-        (mode_in (texts header.now shared.now own.now) (entries_of count table.now)) }
+        (first (recipient_order (names known.now) (the_texts h.entry.texts)
+        (the_entries h.entry.entries) sizes))
+        (mode_in (the_texts h.entry.texts) (the_entries h.entry.entries)) }
 {
-    let rules = RECIPIENT;
-    judge_by(&rules, header, shared, own, known, table, count, sizes)
+    judge_by(&RECIPIENT, h, known, sizes)
 }
 
 // 13, 14, 15, 17 and 18 on one recipient of which only a protected header is there.
-pub fn judge_protected(
-    header: &[u8],
-    known: &[u8],
-    table: &[u32],
-    count: usize,
-    sizes: Sizes,
-) -> Stage
-    requires known_value { filled known.now ≡ true }
-    requires width_in_bounds { count * width ≤ length table.now }
-    requires printed { Printed (one_text header.now) count table.now }
-    ensures { result
+pub fn judge_protected(h: Headers, known: &[u8], sizes: Sizes) -> Result<usize, Refusal>
+    requires { filled known.now ≡ true }
+    ensures { as_stage result
         ≡ stage_of
-        (first (rules_order (names known.now) (one_text header.now)
-        (entries_of count table.now) sizes protected_rules))
-        (mode_in (one_text header.now) (entries_of count table.now)) }
+        (first (rules_order (names known.now) (the_texts h.entry.texts)
+        (the_entries h.entry.entries) sizes protected_rules))
+        (mode_in (the_texts h.entry.texts) (the_entries h.entry.entries)) }
 {
-    let rules = PROTECTED;
-    judge_by(&rules, header, header, header, known, table, count, sizes)
+    judge_by(&PROTECTED, h, known, sizes)
 }

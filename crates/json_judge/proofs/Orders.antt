@@ -10,7 +10,7 @@ use Rattle.prelude.specs.Any.{any}
 use Rattle.prelude.specs.Limits.{levels, longest}
 use Rattle.prelude.specs.Refusals.{Test, ◌if◌, first, stage_of}
 use Rattle.prelude.proofs.Refusals.{first_fails, first_passes}
-use Rattle.prelude.specs.declared.Stage.TheVariants.{Refused}
+use Rattle.prelude.specs.Refusals.{Refused}
 use Rattle.headers.specs.Headers.{too_long}
 use Rattle.headers.proofs.Stages.{refuses}
 use Rattle.jose.specs.declared.Sizes.{Sizes}

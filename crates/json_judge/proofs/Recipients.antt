@@ -24,7 +24,7 @@ use Rattle.json_message.specs.Handed.{text_entries}
 use Rattle.json_message.specs.Inner.PiecesOrder.{pieces_entries}
 use Rattle.json_message.proofs.Agree.{agreed, agree_any}
 use Rattle.prelude.proofs.Refusals.{nonzero, nonzero_append, first_append, first_skip}
-use Rattle.prelude.specs.declared.Stage.TheVariants.{Passed, Refused}
+use Rattle.prelude.specs.Refusals.{Passed, Refused}
 use Rattle.parts.proofs.Laws.{part_length}
 use Rattle.jose.specs.declared.Sizes.{Sizes}
 use Rattle.headers.proofs.Stages.{object_nonzero, stopped, refuses, passes}

@@ -5,7 +5,7 @@ use Prim.Native.Nat.{ℕ}
 use lib.Dec.{eqb}
 use borrow.Author.Tests.{eqb-true}
 use Rattle.prelude.specs.Refusals.{stage_of}
-use Rattle.prelude.specs.declared.Stage.TheVariants.{Passed, Refused}
+use Rattle.prelude.specs.Refusals.{Passed, Refused}
 use Rattle.jwe.specs.Answers.{refused_by}
 
 pub refused_stage : (n k : ℕ) → refused_by (stage_of n k) ≡ n

@@ -10,7 +10,7 @@ use borrow.Author.Tests.{leb-true}
 use Rattle.prelude.specs.Buffer.{written}
 use Rattle.prelude.specs.Refusals.{first, stage_of}
 use Rattle.prelude.proofs.Writing.{written_length}
-use Rattle.prelude.specs.declared.Stage.TheVariants.{Passed}
+use Rattle.prelude.specs.Refusals.{Passed}
 use Rattle.rows.specs.Rows.{Entry, Texts, texts, text_of}
 use Rattle.rows.specs.Tables.{entries_of, width}
 use Rattle.rows.specs.Inner.Prints.{flat, collected_table, Printed}

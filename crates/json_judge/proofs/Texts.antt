@@ -1,6 +1,6 @@
 -- A given text, absent or present.
 use mathlib.Core.Path.{◌≡◌, refl, ap, ap₂, sym, ◌∙◌}
-use mathlib.Core.Bool.{false, true≢false}
+use mathlib.Core.Bool.{Bool, true, false, not, true≢false}
 use mathlib.Core.List.{List, [], ◌∷◌, ◌++◌, append-nil}
 use Prim.Native.Nat.{ℕ, ◌+◌, ◌*◌}
 use native.Mathlib.Omega.{arith}
@@ -12,11 +12,12 @@ use Rattle.names.specs.Names.{names}
 use Rattle.json_read.specs.Inner.Ends.{found_of}
 use Rattle.json_read.specs.Inner.Known.{KnownIn}
 use Rattle.json_read.specs.declared.Found.{Found}
+use Rattle.std.specs.Prelude as std
 use Rattle.json_read.proofs.Knowing.{text_known}
 use Rattle.prelude.specs.Any.{any_pair}
 use Rattle.prelude.specs.Buffer.{written}
 use Rattle.prelude.specs.Refusals.{first, stage_of}
-use Rattle.prelude.specs.declared.Stage.TheVariants.{Passed}
+use Rattle.prelude.specs.Refusals.{Passed}
 use Rattle.rows.specs.Rows.{Entry, entry_of, entries_in, repeated}
 use Rattle.rows.specs.Tables.{width}
 use Rattle.rows.specs.Inner.Prints.{flat, collected_table}
@@ -41,9 +42,15 @@ present_is : (l : ℕ) (w : List ℕ) → (length w ≡ 0 → ⊥) → is_nothin
 present_is l [] h = absurd (h refl)
 present_is l (c ∷ w) h = refl
 
-pub unread_present : (l : ℕ) (w : List ℕ) → (length w ≡ 0 → ⊥) → (answer : Found) → answer ≡ found_of (read_text l w) →
+pub unread_present : (l : ℕ) (w : List ℕ) → (length w ≡ 0 → ⊥) → (answer : std.Option Found) → answer ≡ found_of (read_text l w) →
     no_value answer ≡ unread_within l w
 unread_present l w h answer e = ap no_value e ∙ by_reading (read_text l w) ∙ present_is l w h
+
+pub none_read : (answer : std.Option Found) (b : Bool) → std.is_some answer ≡ not b → b ≡ no_value answer
+none_read std.None true e = refl
+none_read (std.Some v) false e = refl
+none_read std.None false e = cc
+none_read (std.Some v) true e = cc
 
 -- 10
 

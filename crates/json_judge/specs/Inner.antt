@@ -1,2 +1,3 @@
 -- What only inner contracts cite: nothing that has to be believed imports these (.ci/believed).
 pub mod Asked
+pub mod Faults

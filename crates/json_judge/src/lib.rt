@@ -5,7 +5,7 @@
 ghost use Rattle.std.specs.Prelude.{◌≡◌, true, cond, ◌+◌, ◌*◌, ◌≤◌, length, eqb};
 ghost use Rattle.prelude.specs.Any.{any};
 ghost use Rattle.prelude.specs.Limits.{levels, longest};
-ghost use Rattle.prelude.specs.Refusals.{first, stage_of};
+ghost use Rattle.prelude.specs.Refusals.{first, stage_of, as_stage};
 ghost use Rattle.names.specs.Names.{names, filled};
 ghost use Rattle.rows.specs.Tables.{header_table, width};
 ghost use Rattle.rows.specs.Inner.Prints.{collected_table};
@@ -19,14 +19,16 @@ ghost use Rattle.json_message.specs.Inner.Judged.{own_levels};
 ghost use Rattle.json_message.specs.Inner.PiecesOrder.{hollow_text};
 ghost use Rattle.jwe.specs.Answers.{refused_by};
 ghost use Rattle.json_judge.specs.Inner.Asked.{Readable, OwnReadable, OwnShort, Front, unread_texts, hollow_texts};
+ghost use Rattle.json_judge.specs.Inner.Faults.{fault_number, as_judged};
 ghost use Rattle.json_judge.specs.Inner.Asked.{own_tests, rules_tests, recipients_tests, parameters_tests};
 ghost use Rattle.json_judge.specs.Inner.Asked.{over_tests, within_tests};
 
 use jose::Sizes;
-use jose::content::Named;
 use jose::lists::ENC;
-use json_read::{Found, Position};
-use prelude::Stage;
+use json_read::Position;
+use prelude::Place;
+use prelude::refusal::Refusal;
+use rows::table::{Entries, Headers, Texts};
 use prelude::limits::{HEADER_ROOM, LEVELS};
 
 // 7 on a text within so many levels; an absent one is not judged.
@@ -36,11 +38,7 @@ fn unread_within(levels: u32, text: &[u8]) -> bool
     if text.len() == 0 {
         return false;
     }
-    let judged = json_read::judge(text, levels);
-    let Found::Value(_, _) = judged else {
-        return true;
-    };
-    false
+    json_read::judge(text, levels).is_none()
 }
 
 // 7 on the own headers.
@@ -101,39 +99,28 @@ fn own_hollow(recipients: &[u8], n: usize) -> bool
 }
 
 // 8 and 9 on a text that reads: its parameters as entries of the table from the entry `from` on, and how many they are.
-fn text_entries(text: &[u8], origin: u32, table: &mut [u32], from: usize) -> Stage
+fn text_entries(text: &[u8], origin: u32, table: &mut [u32], from: usize) -> Result<usize, Refusal>
     requires readable { Readable text.now }
     requires header_table_in_bounds { from * width + header_table ≤ length table.old }
-    ensures value { result ≡ stage_of (first (object_order text.now (text_entries origin text.now)))
+    ensures value { as_stage result ≡ stage_of (first (object_order text.now (text_entries origin text.now)))
         (length (text_entries origin text.now)) }
     ensures table_after { table.new ≡ collected_table from text.now (text_entries origin text.now)
         table.old }
 {
     if text.len() == 0 {
-        return Stage::Passed(0);
+        return Ok(0);
     }
     let list = jose::lists::REGISTERED;
     let at = Position { at: 0 }.skip_space(text).at;
     headers::object(text, at, origin, &list, table, from, true)
 }
 
-// The refusal of a stage, 0 where it passed.
-fn number(stage: Stage) -> u32
-    ensures { result ≡ refused_by stage }
-{
-    let Stage::Refused(n) = stage else {
-        return 0;
-    };
-    n
-}
-
-// What a recipient is refused for: 8 or 9 on its own header, and, where that passes, 12 to 18. 0 where for nothing. And where the
-// content algorithm of its own header stands.
+// What a recipient whose own header passes 8 and 9 is refused for, 12 to 18, and where the content algorithm of that header
+// stands.
 #[derive(Clone, Copy)]
 struct Faults {
-    object: u32,
-    rules: u32,
-    content: Named,
+    rules: Option<Refusal>,
+    content: Option<Place>,
 }
 
 // A recipient with this own header and these sizes judged. The first entries of the table are all recipients', and
@@ -146,68 +133,67 @@ fn judge_recipient(
     sizes: Sizes,
     table: &mut [u32],
     front: usize,
-) -> Faults
+) -> Result<Faults, Refusal>
     requires known_value { filled known.now ≡ true }
     requires readable { Readable own.now }
     requires header_table_in_bounds { front * width + header_table ≤ length table.old }
     requires front { Front header.now shared.now front table.old }
-    ensures object_value { result.object ≡ first (own_tests own.now) }
-    ensures rules_value { result.object ≡ 0 → result.rules ≡ first
+    ensures object_value { (as_judged result).object ≡ first (own_tests own.now) }
+    ensures rules_value { (as_judged result).object ≡ 0 → (as_judged result).rules ≡ first
         (rules_tests (names known.now) header.now shared.now own.now sizes) }
-    ensures content_value { result.object ≡ 0 → result.content ≡ named_in (text_entries 2 own.now) }
+    ensures content_value { (as_judged result).object ≡ 0 → (as_judged result).content ≡ named_in (text_entries 2 own.now) }
     ensures table_len_unchanged { (length table.new ≡ length table.old)
         × Front header.now shared.now front table.new }
 {
-    let collected = text_entries(own, 2, table, front);
-    let Stage::Passed(count) = collected else {
-        return Faults {
-            object: number(collected),
-            rules: 0,
-            content: Named::Nothing,
-        };
+    let count = text_entries(own, 2, table, front)?;
+    let texts = Texts {
+        header,
+        shared,
+        own,
     };
-    let judged = jose::judge::judge(header, shared, own, known, table, front + count, sizes);
-    let start = front * rows::layout::WIDTH;
-    Faults {
-        object: 0,
-        rules: number(judged),
-        content: jose::content::sole(&table[start..], count),
-    }
-}
-
-// The first of two refusals that is one.
-fn earlier(a: u32, b: u32) -> u32
-    ensures { result ≡ cond (eqb a 0) b a }
-{
-    if a == 0 { b } else { a }
+    let entries = Entries {
+        table,
+        count: front + count,
+    };
+    let headers = Headers { texts, entries };
+    let its = Entries {
+        table: &table[front * rows::layout::WIDTH..],
+        count,
+    };
+    Ok(Faults {
+        rules: jose::judge::judge(headers, known, sizes).err(),
+        content: jose::content::sole(its),
+    })
 }
 
 // Where the first recipient's content algorithm stands, behind recipient i.
-fn first_content(i: usize, so_far: Named, its: Named) -> Named
+fn first_content(i: usize, so_far: Option<Place>, its: Option<Place>) -> Option<Place>
     ensures { result ≡ cond (eqb i 0) its so_far }
 {
     if i == 0 { its } else { so_far }
 }
 
 // 21 where a recipient's content algorithm differs from the first one's, each in its own header.
-fn content_fault(first: &[u8], named: Named, own: &[u8], its: Named) -> u32
-    ensures { result ≡ cond (differ (shown_in first.now named) (shown_in own.now its)) 21 0 }
+fn content_fault(
+    first: &[u8],
+    named: Option<Place>,
+    own: &[u8],
+    its: Option<Place>,
+) -> Option<Refusal>
+    ensures { fault_number result ≡ cond (differ (shown_in first.now named) (shown_in own.now its)) 21 0 }
 {
     if jose::content::differ(first, named, own, its) {
-        return 21;
+        return Some(Refusal::ContentAlgorithms);
     }
-    0
+    None
 }
 
 // The refusal of all recipients: the first one by the rules, and then 21 on their own headers, unless a header that all share has
 // `enc`.
-fn fault_of_all(rules: u32, shared: bool, content: u32) -> u32
-    ensures { result ≡ cond (eqb rules 0) (cond shared 0 content) rules }
+fn fault_of_all(rules: Option<Refusal>, shared: bool, content: Option<Refusal>) -> Option<Refusal>
+    ensures { fault_number result ≡ cond (eqb (fault_number rules) 0) (cond shared 0 (fault_number content)) (fault_number rules) }
 {
-    if rules != 0 {
-        return rules;
-    }
-    if shared { 0 } else { content }
+    rules.or(if shared { None } else { content })
 }
 
 // 8 and 9 on each recipient's own header, 12 to 18 on each recipient, and 21 on all. Each own header is collected once: while the
@@ -221,21 +207,25 @@ fn judge_recipients(
     sizes: Sizes,
     table: &mut [u32],
     front: usize,
-) -> Stage
+) -> Result<usize, Refusal>
     requires known_value { filled known.now ≡ true }
     requires recipients_value { sound_table recipients.now ≡ true }
     requires n_value { n ≡ said_count recipients.now }
     requires own_readable { OwnReadable (recipients_in recipients.now) }
     requires header_table_in_bounds { front * width + header_table ≤ length table.old }
     requires front { Front header.now shared.now front table.old }
-    ensures value { result ≡ stage_of (first (recipients_tests (names known.now) header.now shared.now
+    ensures value { as_stage result ≡ stage_of (first (recipients_tests (names known.now) header.now shared.now
         sizes (recipients_in recipients.now))) n }
     ensures table_len_unchanged { length table.new ≡ length table.old }
 {
-    let has_enc = rows::ask::present(table, front, ENC);
-    let mut broken: u32 = 0;
-    let mut content: u32 = 0;
-    let mut named = Named::Nothing;
+    let has_enc = Entries {
+        table,
+        count: front,
+    }
+    .present(ENC);
+    let mut broken = None;
+    let mut content = None;
+    let mut named = None;
     let mut start = 1 + 8 * n;
     let head = recipients::recipient(recipients, 0, start);
     let first = parts::part(recipients, head.header.start, head.header.len);
@@ -249,22 +239,17 @@ fn judge_recipients(
             ciphertext: sizes.ciphertext,
             tag: sizes.tag,
         };
-        let faults = judge_recipient(header, shared, own, known, its, table, front);
-        if faults.object != 0 {
-            return Stage::Refused(faults.object);
-        }
-        broken = earlier(broken, faults.rules);
-        let at = faults.content;
-        named = first_content(i, named, at);
-        content = earlier(content, content_fault(first, named, own, at));
+        let faults = judge_recipient(header, shared, own, known, its, table, front)?;
+        broken = broken.or(faults.rules);
+        named = first_content(i, named, faults.content);
+        content = content.or(content_fault(first, named, own, faults.content));
         start = body.key.start + body.key.len;
         i += 1;
     }
-    let refusal = fault_of_all(broken, has_enc, content);
-    if refusal != 0 {
-        return Stage::Refused(refusal);
+    match fault_of_all(broken, has_enc, content) {
+        Some(refusal) => Err(refusal),
+        None => Ok(n),
     }
-    Stage::Passed(n)
 }
 
 // 8 and 9 on all texts, 12 to 18 on each recipient, and 21 on all.
@@ -275,25 +260,19 @@ fn judge_parameters(
     recipients: &[u8],
     n: usize,
     sizes: Sizes,
-) -> Stage
+) -> Result<usize, Refusal>
     requires known_value { filled known.now ≡ true }
     requires recipients_value { sound_table recipients.now ≡ true }
     requires n_value { n ≡ said_count recipients.now }
     requires header_len_bound { length header.now ≤ longest }
     requires readable { Readable shared.now }
     requires own_readable { OwnReadable (recipients_in recipients.now) }
-    ensures { result ≡ stage_of (first (parameters_tests (names known.now) header.now shared.now
+    ensures { as_stage result ≡ stage_of (first (parameters_tests (names known.now) header.now shared.now
         sizes (recipients_in recipients.now))) n }
 {
     let mut table = [0u32; rows::layout::RECIPIENT_TABLE];
-    let protected = headers::protected_entries(header, &mut table);
-    let Stage::Passed(p) = protected else {
-        return protected;
-    };
-    let common = text_entries(shared, 1, &mut table, p);
-    let Stage::Passed(s) = common else {
-        return common;
-    };
+    let p = headers::protected_entries(header, &mut table)?;
+    let s = text_entries(shared, 1, &mut table, p)?;
     judge_recipients(
         header,
         shared,
@@ -355,19 +334,19 @@ fn own_levels(general: bool) -> u32
 }
 
 // The pieces of a message that would be too long.
-pub fn judge_over(header: &[u8], shared: &[u8], recipients: &[u8], n: usize) -> Stage
+pub fn judge_over(header: &[u8], shared: &[u8], recipients: &[u8], n: usize) -> Result<usize, Refusal>
     requires recipients_value { sound_table recipients.now ≡ true }
     requires n_value { n ≡ said_count recipients.now }
-    ensures { result ≡ stage_of (first (over_tests header.now shared.now
+    ensures { as_stage result ≡ stage_of (first (over_tests header.now shared.now
         (recipients_in recipients.now))) n }
 {
     if HEADER_ROOM < header.len() {
-        return Stage::Refused(6);
+        return Err(Refusal::LongHeader);
     }
     if unread_texts(LEVELS, LEVELS, header, shared, recipients, n) {
-        return Stage::Refused(7);
+        return Err(Refusal::Unread);
     }
-    Stage::Refused(2)
+    Err(Refusal::LongMessage)
 }
 
 // The pieces of one that would not.
@@ -379,17 +358,17 @@ pub fn judge_within(
     recipients: &[u8],
     n: usize,
     sizes: Sizes,
-) -> Stage
+) -> Result<usize, Refusal>
     requires known_value { filled known.now ≡ true }
     requires recipients_value { sound_table recipients.now ≡ true }
     requires n_value { n ≡ said_count recipients.now }
     requires shared_len_bound { length shared.now ≤ longest }
     requires own_short { OwnShort (recipients_in recipients.now) }
-    ensures { result ≡ stage_of (first (within_tests general (names known.now) header.now shared.now
+    ensures { as_stage result ≡ stage_of (first (within_tests general (names known.now) header.now shared.now
         sizes (recipients_in recipients.now))) n }
 {
     if HEADER_ROOM < header.len() {
-        return Stage::Refused(6);
+        return Err(Refusal::LongHeader);
     }
     if unread_texts(
         LEVELS - 1,
@@ -399,10 +378,10 @@ pub fn judge_within(
         recipients,
         n,
     ) {
-        return Stage::Refused(7);
+        return Err(Refusal::Unread);
     }
     if hollow_texts(header, shared, recipients, n) {
-        return Stage::Refused(10);
+        return Err(Refusal::Shape);
     }
     judge_parameters(header, shared, known, recipients, n, sizes)
 }

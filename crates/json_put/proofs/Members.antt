@@ -1,44 +1,41 @@
--- Members: what they are made of, in the order in which they are put, and how long they are.
-use mathlib.Core.Path.{◌≡◌, refl, ap, ap₂, sym, ◌∙◌}
-use mathlib.Core.Bool.{Bool, true, false}
-use mathlib.Core.List.{List, [], ◌∷◌, ◌++◌, append_assoc}
-use Prim.Native.Nat.{ℕ, ◌+◌}
-use native.Mathlib.Omega.{arith}
-use lib.ListN.{length, length-append}
+-- Members: what they are made of, in the order in which they are written.
+use Rattle.std.proofs.Common.{◌≡◌, refl, ap, ap₂, sym, ◌∙◌, Bool, true, false, List, [], ◌∷◌, ◌++◌, map, append_assoc, ℕ, zero, suc, ◌-◌, ◌==◌, length, arith}
+use Rattle.std.proofs.lemmas.Bool.{eqb-true}
+use mathlib.Core.Bool.{true≢false}
 use Rattle.prelude.specs.Ascii.{ascii}
 use Rattle.grammar.specs.Grammar.{curly, quote, colon}
 use Rattle.recipients.specs.Table.{RawRecipient}
-use Rattle.recipients.specs.Parsed.{recipient_at, recipients_in, sound_table}
-use Rattle.recipients.specs.Inner.Answers.{body_at}
+use Rattle.recipients.specs.Parsed.{said_count, recipient_at, recipients_from, recipients_in, sound_table}
+use Rattle.recipients.specs.declared.Body.{Body}
+use Rattle.recipients.specs.Inner.Answers.{body_at, bodies_from, bodies_left}
 use Rattle.recipients.proofs.Places.{recipients_next, sound_some}
 use Rattle.json_text.specs.Pieces.{quoted, member_text, bracketed}
-use Rattle.json_text.specs.Inner.Led.{led}
-use Rattle.json_text.proofs.Led.{bracketed_led, bracketed_length}
-use Rattle.json_message.specs.JsonText.{header_member, component_member, own_members, recipient_members, top_members, json_text}
-use Rattle.json_message.specs.JsonWrite.{raw_json, message_of, written_text}
-use Rattle.json_put.specs.Inner.Members.{name_text, encoded_member, shown, head_members, tail_members}
+use Rattle.json_message.specs.JsonText.{header_member, component_member, own_members, element_text, recipient_members, top_members, json_text}
+use Rattle.json_message.specs.JsonWrite.{message_of, written_text}
+use Rattle.json_put.specs.Inner.Members.{name_text, encoded_member, shown, head_members, tail_members, all_members, raw_of}
+use Rattle.json_put.specs.declared.message.Message.{Message}
 
 -- Members
 
 module _ (name : List ℕ) where
-  pub header_absent : (text : List ℕ) → length text ≡ 0 → header_member name text ≡ []
+  pub header_absent : (text : List ℕ) → (length text == 0) ≡ true → header_member name text ≡ []
   unfolding header_member
   header_absent [] e = refl
-  header_absent (c ∷ w) e = absurd (omega (arith, e))
+  header_absent (c ∷ w) e = absurd (omega (arith, eqb-true (length (c ∷ w)) 0 e))
 
-  pub header_present : (text : List ℕ) → (length text ≡ 0 → ⊥) → header_member name text ≡ member_text name text ∷ []
+  pub header_present : (text : List ℕ) → (length text == 0) ≡ false → header_member name text ≡ member_text name text ∷ []
   unfolding header_member
-  header_present [] n = absurd (n refl)
+  header_present [] n = absurd (true≢false n)
   header_present (c ∷ w) n = refl
 
-  pub component_absent : (octets : List ℕ) → length octets ≡ 0 → component_member name octets ≡ []
+  pub component_absent : (octets : List ℕ) → (length octets == 0) ≡ true → component_member name octets ≡ []
   unfolding component_member
   component_absent [] e = refl
-  component_absent (x ∷ xs) e = absurd (omega (arith, e))
+  component_absent (x ∷ xs) e = absurd (omega (arith, eqb-true (length (x ∷ xs)) 0 e))
 
-  pub component_present : (octets : List ℕ) → (length octets ≡ 0 → ⊥) → component_member name octets ≡ encoded_member name octets
+  pub component_present : (octets : List ℕ) → (length octets == 0) ≡ false → component_member name octets ≡ encoded_member name octets
   unfolding component_member encoded_member
-  component_present [] n = absurd (n refl)
+  component_present [] n = absurd (true≢false n)
   component_present (x ∷ xs) n = refl
 
   -- a name in its order, and a member
@@ -49,15 +46,6 @@ module _ (name : List ℕ) where
   pub member_is : (w : List ℕ) → member_text name w ≡ name_text name ++ w
   unfolding name_text member_text
   member_is w = sym (append_assoc (quoted name) (colon ∷ []) w)
-
-  pub member_length : (w : List ℕ) → length (member_text name w) ≡ length name + 3 + length w
-  unfolding member_text quoted
-  member_length w =
-      omega (arith, length-append (name ++ (quote ∷ [])) (colon ∷ w), length-append name (quote ∷ []))
-
-pub quoted_length : (w : List ℕ) → length (quoted w) ≡ length w + 2
-unfolding quoted
-quoted_length w = omega (arith, length-append w (quote ∷ []))
 
 -- A recipient
 
@@ -74,27 +62,35 @@ unfolding shown body_at recipient_at
 shown_is t i = refl
 
 -- flattened, the members are those of the first recipient
-pub flat_members : (t : List ℕ) → sound_table t ≡ true → recipient_members false (recipients_in t) ≡ own_members (recipient_at t 0)
+pub flat_members : (t : List ℕ) → sound_table t ≡ true → (many : Bool) → many ≡ false → (b : Body) → b ≡ body_at t 0 →
+    recipient_members many (recipients_in t) ≡ own_members (shown t b)
 unfolding recipient_members
-flat_members t sound = ap (recipient_members false) (recipients_next t 0 (omega (arith, sound_some t sound)))
+flat_members t sound many e b at =
+    ap (λ (m : Bool). recipient_members m (recipients_in t)) e
+    ∙ ap (recipient_members false) (recipients_next t 0 (omega (arith, sound_some t sound)))
+    ∙ ap own_members (sym (shown_is t 0) ∙ ap (shown t) (sym at))
+
+-- The elements of the recipients that stand at these places; all of them
+abbrev pub texts_of : List ℕ → List Body → List (List ℕ)
+texts_of t bs = map (λ (b : Body). element_text (shown t b)) bs
+
+texts_from : (t : List ℕ) (n i : ℕ) → texts_of t (bodies_from t n i) ≡ map element_text (recipients_from t n i)
+unfolding bodies_from recipients_from shown body_at recipient_at
+texts_from t zero i = refl
+texts_from t (suc n) i = ap (λ (l : List (List ℕ)). element_text (recipient_at t i) ∷ l) (texts_from t n (suc i))
+
+pub texts_all : (t : List ℕ) → texts_of t (bodies_left t 0) ≡ map element_text (recipients_in t)
+unfolding recipients_in
+texts_all t =
+    let whole : said_count t - 0 ≡ said_count t = omega arith in
+    ap (λ (n : ℕ). texts_of t (bodies_from t n 0)) whole ∙ texts_from t (said_count t) 0
 
 -- The message
-module _ (general : Bool) (protected shared aad iv ciphertext tag table : List ℕ) where
-  abbrev pub all_members : List (List ℕ)
-  all_members = head_members general protected shared (recipients_in table) ++ tail_members aad iv ciphertext tag
-
-  members_are : top_members general (message_of (raw_json protected shared aad iv ciphertext tag table)) ≡ all_members
+module _ (general : Bool) (m : Message) where
+  members_are : top_members general (message_of (raw_of m)) ≡ all_members general m
   unfolding top_members head_members tail_members encoded_member
   members_are = simp append_assoc
 
-  text_is : written_text general (raw_json protected shared aad iv ciphertext tag table) ≡ bracketed curly all_members
+  pub text_is : written_text general (raw_of m) ≡ bracketed curly (all_members general m)
   unfolding json_text
   text_is = ap (bracketed curly) members_are
-
-  pub text_parts : written_text general (raw_json protected shared aad iv ciphertext tag table)
-      ≡ 123 ∷ (led false all_members ++ (125 ∷ []))
-  text_parts = text_is ∙ bracketed_led curly all_members
-
-  pub text_size : length (written_text general (raw_json protected shared aad iv ciphertext tag table))
-      ≡ length (led false all_members) + 2
-  text_size = ap length text_is ∙ bracketed_length curly all_members

@@ -1,171 +1,91 @@
--- Members put one behind the other: what two calls put is what both lists of texts say.
-use mathlib.Core.Path.{◌≡◌, refl, ap, ap₂, sym, subst, ◌∙◌}
-use mathlib.Core.Bool.{Bool, true, false}
-use mathlib.Core.List.{List, [], ◌∷◌, ◌++◌, map, append-nil}
-use Prim.Native.Nat.{ℕ, ◌+◌, ◌≤◌, ◌<◌}
-use native.Mathlib.Nat.{add-zero}
-use native.Mathlib.Omega.{arith}
-use lib.ListN.{length, take, drop, set, length-append, take-append-drop}
-use Rattle.grammar.specs.Grammar.{Bracket, square, opening, closing}
-use Rattle.prelude.specs.Buffer.{written}
-use Rattle.prelude.proofs.Writing.{Writing, begin, begin_as, put, put_part, done, ended, written_length}
-use Rattle.recipients.specs.Parsed.{said_count, recipient_at, recipients_in}
-use Rattle.recipients.proofs.Places.{recipients_next, recipients_end}
-use Rattle.json_text.specs.Pieces.{member_text, bracketed}
-use Rattle.json_text.specs.Inner.Led.{led, led_one, begun_after}
-use Rattle.json_text.proofs.Led.{led_append, begun_append, led_one_lem, one_apart, bracketed_led}
-use Rattle.json_message.specs.JsonText.{element_text}
-use Rattle.json_put.specs.Inner.Members.{name_text, behind, Room, Puts}
-use Rattle.json_put.specs.declared.Cursor.{Cursor}
-use Rattle.json_put.proofs.Members.{member_is}
+-- What comes part by part: which parts are still to come, that they may, and that with them all has come. A function that
+-- writes several parts has one such record: `start` opens it, `▸` takes the next part, `next` says that it may come, and `ended`
+-- or `last` closes it.
+use Rattle.std.proofs.Common.{◌≡◌, List, [], ◌∷◌, ◌++◌, ℕ, Bool, ap, sym, subst, refl, ◌∙◌, append_assoc}
+use Rattle.json_text.specs.Inner.Led.{led, begun_after}
+use Rattle.json_text.proofs.Led.{led_append, begun_append}
+use Rattle.json_put.specs.Inner.Laws.{Laws}
+use Rattle.json_put.specs.Inner.Members.{Point, Room, Puts}
 
-abbrev cursor : ℕ → Bool → Cursor
-cursor at begun = record { at = at; begun = begun }
+infixl 20 ◌▸◌
+abbrev pub flat : {A : Type 0} → List (List A) → List A
+flat [] = []
+flat (x ∷ xs) = x ++ flat xs
 
--- The same texts known by another name
-pub puts_as : {c r : Cursor} {ws us : List (List ℕ)} {before after : List ℕ} → us ≡ ws → Puts c ws before r after →
-    Puts c us before r after
-puts_as {c} {r} {ws} {us} {before} {after} e p = subst (λ (l : List (List ℕ)). Puts c l before r after) (sym e) p
+pub record Putting {S A : Type 0} (fits : S → List A → Type 0) (gains : S → List A → S → Type 0) (from : S) (all : List A) (parts : List (List A)) (now : S) : Type 0 where
+  pub laws : Laws fits gains
+  pub room : fits now (flat parts)
+  pub end : (t : S) → gains now (flat parts) t → gains from all t
 
--- Nothing, and one text
+module _ {S A : Type 0} {fits : S → List A → Type 0} {gains : S → List A → S → Type 0} where
+  pub start : Laws fits gains → (s : S) (all : List A) (parts : List (List A)) → flat parts ≡ all → fits s all →
+      Putting fits gains s all parts s
+  start laws s all parts e h = record {
+    laws = laws;
+    room = subst (λ (l : List A). fits s l) (sym e) h;
+    end = λ t p. subst (λ (l : List A). gains s l t) e p;
+  }
 
-nothing : (c : Cursor) (before : List ℕ) → Puts c [] before c before
-unfolding led written
-nothing c before = record {
-  moves = ap (λ (n : ℕ). cursor n c.begun) (sym (add-zero c.at));
-  leaves = sym (ap (λ (n : ℕ). take c.at before ++ drop n before) (add-zero c.at) ∙ take-append-drop c.at before);
-}
+  module _ {from now : S} {all : List A} where
+    pub next : {x : List A} {parts : List (List A)} → Putting fits gains from all (x ∷ parts) now → fits now x
+    next {x} {parts} p = p.laws.front now x (flat parts) p.room
 
-pub puts_none : (c : Cursor) (ws : List (List ℕ)) (before : List ℕ) → ws ≡ [] → Puts c ws before c before
-puts_none c ws before e = puts_as e (nothing c before)
+    pub ◌▸◌ : {x : List A} {parts : List (List A)} {then : S} → Putting fits gains from all (x ∷ parts) now → gains now x then →
+        Putting fits gains from all parts then
+    ◌▸◌ {x} {parts} {then} p q = record {
+      laws = p.laws;
+      room = p.laws.back now then x (flat parts) p.room q;
+      end = λ t r. p.end t (p.laws.both now then t x (flat parts) p.room q r);
+    }
 
-module _ (c : Cursor) (w before : List ℕ) where
-  pub room_one : Room c (w ∷ []) before → c.at + length (led_one c.begun w) ≤ length before
-  room_one h = omega (arith, h, ap length (led_one_lem c.begun w))
+    pub ended : Putting fits gains from all [] now → gains from all now
+    ended p = p.end now (p.laws.none now)
 
-  pub puts_one : {at : ℕ} {after : List ℕ} → (at ≡ c.at + length (led_one c.begun w))
-      × (after ≡ written c.at (led_one c.begun w) before) → Puts c (w ∷ []) before (cursor at true) after
-  puts_one p =
-      let one = sym (led_one_lem c.begun w) in
-      record {
-        moves = ap (λ (n : ℕ). cursor n true) (p.0 ∙ ap (λ (l : List ℕ). c.at + length l) one);
-        leaves = p.1 ∙ ap (λ (l : List ℕ). written c.at l before) one;
-      }
-
--- One behind the other
-
-written_append : (at : ℕ) (xs ys before : List ℕ) → at + length (xs ++ ys) ≤ length before →
-    written (at + length xs) ys (written at xs before) ≡ written at (xs ++ ys) before
-written_append at xs ys before h =
-    let first : Writing at (xs ++ ys) before ys (at + length xs) (written at xs before) =
-    put_part xs ys refl (begin at (xs ++ ys) before h) refl refl in
-    done (put_part ys [] (sym (append-nil ys)) first refl refl)
-
--- A buffer keeps its length.
-puts_same : {c r : Cursor} {ws : List (List ℕ)} {before after : List ℕ} → Room c ws before → Puts c ws before r after →
-    length after ≡ length before
-puts_same {c} {r} {ws} {before} room p = ap length p.leaves ∙ written_length c.at (led c.begun ws) before room
-
-module _ (c : Cursor) (ws us : List (List ℕ)) (before : List ℕ) (room : Room c (ws ++ us) before) where
-  abbrev b : Bool
-  b = begun_after c.begun ws
-
-  apart : led c.begun (ws ++ us) ≡ led c.begun ws ++ led b us
-  apart = led_append c.begun ws us
-
-  size : length (led c.begun (ws ++ us)) ≡ length (led c.begun ws) + length (led b us)
-  size = ap length apart ∙ length-append (led c.begun ws) (led b us)
-
-  pub room_first : Room c ws before
-  room_first = omega (arith, room, size)
-
-  module _ (r : Cursor) (middle : List ℕ) (p : Puts c ws before r middle) where
-    pub room_next : Room r us middle
-    room_next =
-        let kept = puts_same room_first p in
-        let at = ap (λ (x : Cursor). x.at + length (led x.begun us)) p.moves in
-        omega (arith, room, size, kept, at)
-
-    pub puts_append : (s : Cursor) (after : List ℕ) → Puts r us middle s after → Puts c (ws ++ us) before s after
-    puts_append s after q =
-        let first = c.at + length (led c.begun ws) in
-        let at : first + length (led b us) ≡ c.at + length (led c.begun (ws ++ us)) = omega (arith, size) in
-        let fits : c.at + length (led c.begun ws ++ led b us) ≤ length before = omega (arith, room, ap length apart) in
+    -- a part is two
+    pub apart : {x y : List A} {parts : List (List A)} → (z : List A) → z ≡ x ++ y → Putting fits gains from all (z ∷ parts) now →
+        Putting fits gains from all (x ∷ y ∷ parts) now
+    apart {x} {y} {parts} z e p =
+        let same : z ++ flat parts ≡ x ++ (y ++ flat parts) = ap (λ (l : List A). l ++ flat parts) e ∙ append_assoc x y (flat parts) in
         record {
-          moves =
-              q.moves ∙ ap (λ (x : Cursor). behind x us) p.moves ∙ ap₂ cursor at (sym (begun_append c.begun ws us));
-          leaves =
-              q.leaves ∙ ap (λ (x : Cursor). written x.at (led x.begun us) middle) p.moves
-              ∙ ap (written first (led b us)) p.leaves
-              ∙ written_append c.at (led c.begun ws) (led b us) before fits
-              ∙ ap (λ (l : List ℕ). written c.at l before) (sym apart);
+          laws = p.laws;
+          room = subst (λ (l : List A). fits now l) same p.room;
+          end = λ t r. p.end t (subst (λ (l : List A). gains now l t) (sym same) r);
         }
 
--- A comma and what stands behind it
+-- Members one behind the other are octets one behind the other.
+module _ {S : Type 0} {fits : S → List ℕ → Type 0} {gains : S → List ℕ → S → Type 0} (laws : Laws fits gains) where
+  none : (w : Point S) → Puts gains w [] w
+  unfolding led
+  none w = record { octets = laws.none w.sink; begun = refl }
 
-module _ (begun : Bool) (at : ℕ) (out : List ℕ) (room : at + length (led_one begun []) ≤ length out) where
-  pub comma_put : begun ≡ true → (at + 1 ≡ at + length (led_one begun [])) × (set out at 44 ≡ written at (led_one begun []) out)
-  comma_put e =
-      ended (put 44 (at + 1) refl
-      (begin_as at (led_one begun []) (44 ∷ []) out (ap (λ (b : Bool). led_one b []) e) room))
+  room_both : (w : Point S) (ws us : List (List ℕ)) → Room fits w (ws ++ us) →
+      fits w.sink (led w.begun ws ++ led (begun_after w.begun ws) us)
+  room_both w ws us h = subst (λ (l : List ℕ). fits w.sink l) (led_append w.begun ws us) h
 
-  pub comma_none : begun ≡ false → (at ≡ at + length (led_one begun [])) × (out ≡ written at (led_one begun []) out)
-  comma_none e = ended (begin_as at (led_one begun []) [] out (ap (λ (b : Bool). led_one b []) e) room)
+  back : (w m : Point S) (ws us : List (List ℕ)) → Room fits w (ws ++ us) → Puts gains w ws m → Room fits m us
+  back w m ws us h p =
+      subst (λ (b : Bool). fits m.sink (led b us)) (sym p.begun)
+      (laws.back w.sink m.sink (led w.begun ws) (led (begun_after w.begun ws) us) (room_both w ws us h) p.octets)
 
-pub member_parts_lem : (begun : Bool) (name w : List ℕ) →
-    led_one begun (member_text name w) ≡ led_one begun [] ++ (name_text name ++ w)
-member_parts_lem begun name w =
-    one_apart begun (member_text name w) ∙ ap (λ (l : List ℕ). led_one begun [] ++ l) (member_is name w)
-
-pub bracketed_parts : (begun : Bool) (b : Bracket) (ws : List (List ℕ)) →
-    led_one begun (bracketed b ws) ≡ led_one begun [] ++ (opening b ∷ (led false ws ++ (closing b ∷ [])))
-bracketed_parts begun b ws =
-    one_apart begun (bracketed b ws) ∙ ap (λ (l : List ℕ). led_one begun [] ++ l) (bracketed_led b ws)
-
-pub array_parts : (begun : Bool) (name : List ℕ) (ws : List (List ℕ)) →
-    led_one begun (member_text name (bracketed square ws))
-    ≡ led_one begun [] ++ (name_text name ++ (opening square ∷ (led false ws ++ (closing square ∷ []))))
-array_parts begun name ws =
-    member_parts_lem begun name (bracketed square ws)
-    ∙ ap (λ (l : List ℕ). led_one begun [] ++ (name_text name ++ l)) (bracketed_led square ws)
-
--- Elements put one behind the other: those from the i-th on, put behind the cursor, make up all.
-module _ (t : List ℕ) (c : Cursor) (before : List ℕ) where
-  abbrev pub elements_from : ℕ → List (List ℕ)
-  elements_from i = map element_text (drop i (recipients_in t))
-
-  pub record PutsElements (i : ℕ) (next : Cursor) (now : List ℕ) : Type 0 where
-    pub room : Room next (elements_from i) now
-    pub same : length now ≡ length before
-    pub all : (r : Cursor) (after : List ℕ) → Puts next (elements_from i) now r after →
-        Puts c (map element_text (recipients_in t)) before r after
-
-  pub elements_first : Room c (map element_text (recipients_in t)) before → PutsElements 0 c before
-  elements_first h = record { room = h; same = refl; all = λ r after p. p }
-
-  module _ (i : ℕ) (next : Cursor) (now : List ℕ) (m : PutsElements i next now) where
-    module _ (h : i < said_count t) where
-      abbrev here : List (List ℕ)
-      here = element_text (recipient_at t i) ∷ []
-
-      apart_here : elements_from i ≡ here ++ elements_from (i + 1)
-      apart_here = ap (map element_text) (recipients_next t i h)
-
-      room_both : Room next (here ++ elements_from (i + 1)) now
-      room_both = subst (λ (l : List (List ℕ)). Room next l now) apart_here m.room
-
-      pub element_room : Room next (element_text (recipient_at t i) ∷ []) now
-      element_room = room_first next here (elements_from (i + 1)) now room_both
-
-      pub elements_next : (r : Cursor) (after : List ℕ) → Puts next (element_text (recipient_at t i) ∷ []) now r after →
-          PutsElements (i + 1) r after
-      elements_next r after p = record {
-        room = room_next next here (elements_from (i + 1)) now room_both r after p;
-        same = puts_same element_room p ∙ m.same;
-        all =
-            λ s last q.
-            m.all s last (puts_as apart_here (puts_append next here (elements_from (i + 1)) now room_both r after p s last q));
+  both : (w m v : Point S) (ws us : List (List ℕ)) → Room fits w (ws ++ us) → Puts gains w ws m → Puts gains m us v →
+      Puts gains w (ws ++ us) v
+  both w m v ws us h p q =
+      let second : gains m.sink (led (begun_after w.begun ws) us) v.sink =
+      subst (λ (b : Bool). gains m.sink (led b us) v.sink) p.begun q.octets in
+      record {
+        octets =
+            subst (λ (l : List ℕ). gains w.sink l v.sink) (sym (led_append w.begun ws us))
+            (laws.both w.sink m.sink v.sink (led w.begun ws) (led (begun_after w.begun ws) us) (room_both w ws us h) p.octets second);
+        begun = q.begun ∙ ap (λ (b : Bool). begun_after b us) p.begun ∙ sym (begun_append w.begun ws us);
       }
 
-    pub elements_all : said_count t ≤ i → Puts c (map element_text (recipients_in t)) before next now
-    elements_all h = m.all next now (puts_none next (elements_from i) now (ap (map element_text) (recipients_end t i h)))
+  pub member_laws : Laws (Room fits) (Puts gains)
+  member_laws = record {
+    none = none;
+    front = λ w ws us h. laws.front w.sink (led w.begun ws) (led (begun_after w.begun ws) us) (room_both w ws us h);
+    back = back;
+    both = both;
+  }
+
+  pub puts_none : (w : Point S) (ws : List (List ℕ)) → ws ≡ [] → Puts gains w ws w
+  puts_none w ws e = subst (λ (l : List (List ℕ)). Puts gains w l w) (sym e) (none w)

@@ -2,78 +2,36 @@
 // is judged here. Members of length 0 but ciphertext are left out; a comma stands before each but the first.
 #![tactic(auto)]
 
-ghost use Rattle.std.specs.Prelude.{◌≡◌, true, ◌+◌, ◌≤◌, min, length};
+ghost use Rattle.std.specs.Prelude.{◌≡◌, ◌+◌, ◌≤◌, min, length};
 ghost use Rattle.prelude.specs.Buffer.{written};
 ghost use Rattle.prelude.specs.Limits.{longest};
-ghost use Rattle.recipients.specs.Parsed.{sound_table};
-ghost use Rattle.json_message.specs.JsonWrite.{raw_json, written_text};
+ghost use Rattle.json_message.specs.JsonWrite.{written_text};
+ghost use Rattle.json_put.specs.Inner.Members.{raw_of};
 
-mod measure;
-mod put;
+use message::Message;
+use prelude::limits::LONGEST;
+use sink::{Buffer, Count};
 
-// Where the next member goes, and whether one stands before it.
-#[derive(Clone, Copy)]
-struct Cursor {
-    at: usize,
-    begun: bool,
-}
+pub mod message;
+mod sink;
+mod write;
 
 // How many octets the message has; where it has more than a message may have, one more than that.
-pub fn text_length(
-    general: bool,
-    protected: &[u8],
-    shared: &[u8],
-    aad: &[u8],
-    iv: &[u8],
-    ciphertext: &[u8],
-    tag: &[u8],
-    table: &[u8],
-) -> usize
-    requires { sound_table table.now ≡ true }
-    ensures { result ≡ min (length (written_text general
-        (raw_json protected.now shared.now aad.now iv.now ciphertext.now
-        tag.now table.now))) (longest + 1) }
+pub fn text_length(general: bool, message: &Message<'_>) -> usize
+    ensures { result ≡ min (length (written_text general (raw_of message.now))) (longest + 1) }
 {
-    let start = Cursor {
-        at: 1,
-        begun: false,
-    };
-    let headers = measure::headers(general, protected, shared, table, start);
-    let all = measure::components(aad, iv, ciphertext, tag, headers);
-    let end = all.at + 1;
-    measure::capped(end)
+    let mut count = Count { n: 0 };
+    write::text(general, message, &mut count);
+    count.n.min(LONGEST + 1)
 }
 
 // The message, put at the start of a buffer. Answers its length.
-pub fn put_text(
-    general: bool,
-    protected: &[u8],
-    shared: &[u8],
-    aad: &[u8],
-    iv: &[u8],
-    ciphertext: &[u8],
-    tag: &[u8],
-    table: &[u8],
-    out: &mut [u8],
-) -> usize
-    requires table_value { sound_table table.now ≡ true }
-    requires table_in_bounds { length (written_text general
-        (raw_json protected.now shared.now aad.now iv.now ciphertext.now tag.now table.now)) ≤ length out.old }
-    ensures value { result ≡ length (written_text general
-        (raw_json protected.now shared.now aad.now iv.now ciphertext.now
-        tag.now table.now)) }
-    ensures out_after { out.new ≡ written 0 (written_text general
-        (raw_json protected.now shared.now aad.now iv.now ciphertext.now
-        tag.now table.now)) out.old }
+pub fn put_text(general: bool, message: &Message<'_>, out: &mut [u8]) -> usize
+    requires { length (written_text general (raw_of message.now)) ≤ length out.old }
+    ensures value { result ≡ length (written_text general (raw_of message.now)) }
+    ensures out_after { out.new ≡ written 0 (written_text general (raw_of message.now)) out.old }
 {
-    out[0] = b'{';
-    let start = Cursor {
-        at: 1,
-        begun: false,
-    };
-    let headers = put::headers(general, protected, shared, table, out, start);
-    let all = put::components(aad, iv, ciphertext, tag, out, headers);
-    let end = all.at;
-    out[end] = b'}';
-    end + 1
+    let mut buffer = Buffer { out, at: 0 };
+    write::text(general, message, &mut buffer);
+    buffer.at
 }

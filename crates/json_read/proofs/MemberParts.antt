@@ -9,9 +9,8 @@ use lib.Dec.{eqb}
 use borrow.Author.Tests.{eq-eqb, ne_eqb}
 use Rattle.grammar.specs.Grammar.{quote, comma}
 use Rattle.grammar.specs.Reader.{refused, ended, found, octet_at, step, skip_space, between, string_at, entry_of}
-use Rattle.json_read.specs.Members.{next_from, member_of}
+use Rattle.json_read.specs.Members.{next_from, row_here, member_of}
 use Rattle.json_read.specs.declared.Position.{Position}
-use Rattle.json_read.specs.declared.member.Member.TheVariants.{Here}
 use Rattle.grammar.proofs.Here.{class_inside}
 use Rattle.json_read.proofs.StringParts.{scan}
 
@@ -42,14 +41,14 @@ string_inside s at e h = cases (eqb (octet_at s at) quote) refl h
 -- The answer, by the numbers that the code finds
 module _ (s : List ℕ) (start size v a k : ℕ) where
   pub entry_here : (n m : ℕ) (p : Position) → n ≡ size → m ≡ a - v → p.at ≡ next_from s a
-      → Here (record { name = record { start = start; len = n }; value = record { start = v; len = m }; kind = k }) p
+      → row_here (record { name = record { start = start; len = n }; value = record { start = v; len = m }; kind = k }) p
       ≡ member_of s (entry_of (record { start = start; size = size }) v (found a k))
   entry_here n m p e f g =
       ap₂
-      (λ (x y : ℕ). Here (record { name = record { start = start; len = x }; value = record { start = v; len = y }; kind = k }) p)
+      (λ (x y : ℕ). row_here (record { name = record { start = start; len = x }; value = record { start = v; len = y }; kind = k }) p)
       e f
       ∙ ap
-      (λ (x : ℕ). Here
+      (λ (x : ℕ). row_here
       (record { name = record { start = start; len = size }; value = record { start = v; len = a - v }; kind = k })
       (record { at = x }))
       g

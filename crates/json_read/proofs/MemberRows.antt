@@ -13,17 +13,19 @@ use Rattle.grammar.specs.Places as places
 use Rattle.grammar.specs.Reader.{Answer, octet_at, step, skip_space, Entry, entry_of}
 use Rattle.grammar.specs.Reader.{entry_at, before_at, rows_after, rows_at, rows_in, value_with, value_at, nested_within}
 use Rattle.grammar.specs.Reader.{members_at, elements_of, elements_at}
-use Rattle.json_read.specs.Members.{next_from, row_of, member_of, numbers, five_of}
+use Rattle.json_read.specs.Members.{next_from, row_here, member_of, numbers, five_of}
 use Rattle.json_read.specs.declared.Position.{Position}
 use Rattle.json_read.specs.declared.member.Row.{Row}
-use Rattle.json_read.specs.declared.member.Member.TheVariants.{Here, End}
+use Rattle.json_read.specs.declared.member.Member.{Member}
+use Rattle.std.specs.Prelude.{None}
 use Rattle.grammar.proofs.Here.{octet_end}
 use Rattle.grammar.proofs.Turns.{rows_turn, member_no_name, value_is}
+use Rattle.json_read.proofs.NumberParts.{same_found}
 use Rattle.json_read.proofs.StringParts.{string_not}
 
 -- What an answer of the code says of the entry
 
-is_none : (s : List ℕ) (o : Option Entry) → End ≡ member_of s o → o ≡ none
+is_none : (s : List ℕ) (o : Option Entry) → None ≡ member_of s o → o ≡ none
 is_none s none e = refl
 is_none s (some x) e = let z : ◌≡◌ {A = ℕ} 0 1 = cc in absurd (omega arith)
 
@@ -33,12 +35,11 @@ pub record Read (s : List ℕ) (o : Option Entry) (row : Row) (next : Position) 
   pub five : five_of row ≡ numbers entry.row
   pub on : next.at ≡ next_from s entry.after
 
-is_read : (s : List ℕ) (o : Option Entry) (row : Row) (next : Position) → Here row next ≡ member_of s o → Read s o row next
+is_read : (s : List ℕ) (o : Option Entry) (row : Row) (next : Position) → row_here row next ≡ member_of s o → Read s o row next
 is_read s none row next e = let z : ◌≡◌ {A = ℕ} 0 1 = cc in absurd (omega arith)
 is_read s (some x) row next e =
-    let r : row ≡ row_of x.row = cc in
-    let p : ◌≡◌ {A = Position} next (record { at = next_from s x.after }) = cc in
-    record { entry = x; is = refl; five = ap five_of r; on = ap (λ (q : Position). q.at) p }
+    let m = same_found e in
+    record { entry = x; is = refl; five = ap (λ (q : Member). five_of q.row) m; on = ap (λ (q : Member). q.next.at) m }
 
 -- No entry begins at the text's end, nor at the closing bracket
 
@@ -107,11 +108,11 @@ module _ (b : Bracket) (s : List ℕ) (l : ℕ) where
           omega (arith, both (eqb (octet_at s after) comma) q (fewer q))
 
   module _ (left at : ℕ) (h : 0 < left) where
-    pub rows_none : End ≡ member_of s (entry_at (value_at l s) b s at) → rows_at (value_at l s) b s left at ≡ []
+    pub rows_none : None ≡ member_of s (entry_at (value_at l s) b s at) → rows_at (value_at l s) b s left at ≡ []
     rows_none e = rows_stop left at (is_none s (entry_at (value_at l s) b s at) e)
 
     -- one row more, and the rows from the next entry on
-    module _ (row : Row) (next : Position) (e : Here row next ≡ member_of s (entry_at (value_at l s) b s at)) where
+    module _ (row : Row) (next : Position) (e : row_here row next ≡ member_of s (entry_at (value_at l s) b s at)) where
       pub the_read : Read s (entry_at (value_at l s) b s at) row next
       the_read = is_read s (entry_at (value_at l s) b s at) row next e
 

@@ -11,7 +11,7 @@ use Rattle.prelude.specs.Buffer.{written}
 use Rattle.prelude.proofs.Writing.{written_length}
 use Rattle.grammar.specs.Places as places
 use Rattle.json_read.specs.Members.{numbers, flat, collected_of, member_width}
-use Rattle.json_read.specs.declared.member.Collected.TheVariants.{Rows, More}
+use Rattle.std.specs.Prelude.{Some, None}
 
 pub flat_length : (rows : List places.Member) → length (flat rows) ≡ 5 * length rows
 unfolding flat
@@ -78,7 +78,7 @@ module _ (rows : List places.Member) (count : ℕ) (most : count ≤ 32) (all : 
   counted : length rows ≡ count
   counted = omega (arith, length-drop count rows, ap length none)
 
-  pub rows_all : Rows count ≡ collected_of rows
+  pub rows_all : Some count ≡ collected_of rows
   unfolding collected_of
   rows_all = simp (counted, le-leb count 32 most)
 
@@ -88,7 +88,7 @@ module _ (rows : List places.Member) (count : ℕ) (most : count ≤ 32) (all : 
 
 -- there are more than a table holds
 pub rows_over : (rows rest : List places.Member) (m : places.Member) (count : ℕ) → count ≡ 32 → drop count rows ≡ m ∷ rest
-    → More ≡ collected_of rows
+    → None ≡ collected_of rows
 unfolding collected_of
 rows_over rows rest m count e here = simp (lt-leb (length rows) 32 (omega (arith, inside rows rest m count here)))
 

@@ -9,17 +9,20 @@ use lib.ListN.{length, take, drop, get_or, drop_of_length-le, length-take, lengt
 use lib.Seq.{get_or-take, get_or-drop}
 use lib.Dec.{T, eqb, leb, ltb}
 use borrow.Author.Tests.{ltb-true, ltb-false, leb-true, eqb-true, eq-eqb, ne_eqb}
+use Rattle.std.specs.List.{position_or_len}
 use Rattle.prelude.proofs.Lists.{drop_next}
 use Rattle.prelude.proofs.Numbers.{below}
 use Rattle.grammar.specs.Grammar.{quote, backslash, letter_u, among, is_digit, is_unescaped, is_escape, is_hex}
 use Rattle.grammar.specs.Strings.{hex_digit, hex_more, is_high, is_low}
 use Rattle.grammar.specs.Reader.{End, refused, ended, Scan, between, escaping, digit, Turn, broken, closed, go_on}
 use Rattle.grammar.specs.Reader.{octet_at, step, skip, pass_over, turn, after_unit, after_char, scan_string, string_at}
-use Rattle.json_read.specs.Inner.Ends.{hex_at, resumed, Beyond, escape_of, Plain}
+use Rattle.json_read.specs.Inner.Ends.{more, hex_at, resumed, Beyond, escape_of}
 use Rattle.json_read.specs.declared.string.Escape.{Escape}
-use Rattle.json_read.specs.declared.string.Escape.TheVariants.{Next, Wrong}
-use Rattle.json_read.specs.declared.string.Hex.TheVariants.{More, Wrong as NoHex}
+use Rattle.std.specs.Prelude as std
+use Rattle.std.specs.Prelude.{Some, None}
 use Rattle.json_read.specs.declared.Position.{Position}
+use Rattle.json_read.specs.declared.string.Hex.{Hex}
+use Rattle.json_read.proofs.NumberParts.{same_found}
 use Rattle.grammar.proofs.Scan.{T→true, all, among_all}
 use Rattle.grammar.proofs.Here.{octet_here, octet_end, step_inside, class_inside, skip_end, skip_next, skip_stop}
 
@@ -100,27 +103,26 @@ hex_lower c e h = cases (leb c 70) refl (hex_all (λ n. leb n 70 || leb 87 n) c 
 -- A digit of \u
 
 -- what the answer says of the octet
-hex_wrong : (s : List ℕ) (at x : ℕ) → NoHex ≡ hex_at s at x → is_hex (octet_at s at) ≡ false
+hex_wrong : (s : List ℕ) (at x : ℕ) → None ≡ hex_at s at x → is_hex (octet_at s at) ≡ false
 unfolding hex_at
 hex_wrong s at x e = cases (is_hex (octet_at s at)) refl e
   where
     cases : (b : Bool) → is_hex (octet_at s at) ≡ b
-        → NoHex ≡ cond b (More (record { at = step s at }) (hex_more x (octet_at s at))) NoHex → is_hex (octet_at s at) ≡ false
+        → None ≡ cond b (more (record { at = step s at }) (hex_more x (octet_at s at))) None → is_hex (octet_at s at) ≡ false
     cases true f e = let z : ◌≡◌ {A = ℕ} 0 1 = cc in absurd (omega arith)
     cases false f e = f
 
-hex_more_lem : (s : List ℕ) (at x : ℕ) (p : Position) (y : ℕ) → More p y ≡ hex_at s at x
+hex_more_lem : (s : List ℕ) (at x : ℕ) (p : Position) (y : ℕ) → more p y ≡ hex_at s at x
     → (is_hex (octet_at s at) ≡ true) × (p.at ≡ step s at) × (y ≡ hex_more x (octet_at s at))
 unfolding hex_at
 hex_more_lem s at x p y e = cases (is_hex (octet_at s at)) refl e
   where
     cases : (b : Bool) → is_hex (octet_at s at) ≡ b
-        → More p y ≡ cond b (More (record { at = step s at }) (hex_more x (octet_at s at))) NoHex
+        → more p y ≡ cond b (more (record { at = step s at }) (hex_more x (octet_at s at))) None
         → (is_hex (octet_at s at) ≡ true) × (p.at ≡ step s at) × (y ≡ hex_more x (octet_at s at))
     cases true f e =
-        let q : ◌≡◌ {A = Position} p (record { at = step s at }) = cc in
-        let r : y ≡ hex_more x (octet_at s at) = cc in
-        (f, ap (λ (z : Position). z.at) q, r)
+        let h = same_found e in
+        (f, ap (λ (z : Hex). z.next.at) h, ap (λ (z : Hex). z.value) h)
     cases false f e = let z : ◌≡◌ {A = ℕ} 0 1 = cc in absurd (omega arith)
 
 after_hex : (s : List ℕ) (p : Position) (h : Bool) (u : ℕ) → resumed s (escape_of p (after_unit h u)) ≡ resume s p.at (after_unit h u)
@@ -137,7 +139,7 @@ after_hex s p true u = cases (is_low u)
     cases false = refl
 
 module _ (s : List ℕ) (h : Bool) (x at : ℕ) where
-  pub digit_wrong : (n : ℕ) → NoHex ≡ hex_at s at x → refused ≡ scan s (digit h n x) at
+  pub digit_wrong : (n : ℕ) → None ≡ hex_at s at x → refused ≡ scan s (digit h n x) at
   unfolding turn resume
   digit_wrong n e =
       sym (scan_turn s (digit h n x) at ∙ ap (resume s (step s at)) (bad n (octet_at s at) (hex_wrong s at x e)))
@@ -146,7 +148,7 @@ module _ (s : List ℕ) (h : Bool) (x at : ℕ) where
       bad zero c f = simp f
       bad (suc n) c f = simp f
 
-  module _ (p : Position) (y : ℕ) (e : More p y ≡ hex_at s at x) where
+  module _ (p : Position) (y : ℕ) (e : more p y ≡ hex_at s at x) where
     pub digit_more : (n : ℕ) → scan s (digit h n y) p.at ≡ scan s (digit h (suc n) x) at
     unfolding turn resume
     digit_more n =
@@ -256,16 +258,6 @@ module _ (s : List ℕ) where
           ap (scan s (between false)) (skip_next is_unescaped s at h e) ∙ later (omega arith)
           ∙ sym (plain_next at h (ap is_unescaped (sym (octet_here s at h)) ∙ e))
 
-  -- a block of the class is skipped with what comes after it
-  pub plain_block : (m at : ℕ) → at + m ≤ length s → ((k : ℕ) → k < m → is_unescaped (get_or s (at + k) 0) ≡ true)
-      → skip is_unescaped s (at + m) ≡ skip is_unescaped s at
-  plain_block zero at l h = let e : at + 0 ≡ at = omega arith in ap (skip is_unescaped s) e
-  plain_block (suc m) at l h =
-      let next : at + suc m ≡ (at + m) + 1 = omega arith in
-      ap (skip is_unescaped s) next
-      ∙ sym (skip_next is_unescaped s (at + m) (omega arith) (h m (omega arith)))
-      ∙ plain_block m at (omega arith) (λ k l. h k (omega (arith, l)))
-
 pub pass_forward : (p : ℕ → Bool) (t : List ℕ) (at : ℕ) → at ≤ pass_over p t at
 unfolding pass_over
 pass_forward p [] at = omega arith
@@ -279,45 +271,51 @@ pub skip_forward : (p : ℕ → Bool) (s : List ℕ) (at : ℕ) → at ≤ skip 
 unfolding skip
 skip_forward p s at = pass_forward p (drop at s) at
 
+-- what is skipped ends at the first octet outside the class
+pass_first : (p : ℕ → Bool) (t : List ℕ) (at : ℕ) → at + position_or_len (λ c. not (p c)) t ≡ pass_over p t at
+unfolding pass_over
+pass_first p [] at = omega arith
+pass_first p (c ∷ t) at = cases (p c) (pass_first p t (at + 1))
+  where
+    cases : (b : Bool) → at + 1 + position_or_len (λ x. not (p x)) t ≡ pass_over p t (at + 1)
+        → at + cond (not (not b)) (1 + position_or_len (λ x. not (p x)) t) 0 ≡ cond b (pass_over p t (at + 1)) at
+    cases true later = omega (arith, later)
+    cases false later = omega arith
+
+pub skip_first : (p : ℕ → Bool) (s : List ℕ) (at : ℕ) → at + position_or_len (λ c. not (p c)) (drop at s) ≡ skip p s at
+unfolding skip
+skip_first p s at = pass_first p (drop at s) at
+
 -- The code's digit
 
 module _ (s : List ℕ) (at x : ℕ) where
-  pub hex_no : is_hex (octet_at s at) ≡ false → NoHex ≡ hex_at s at x
+  pub hex_no : is_hex (octet_at s at) ≡ false → None ≡ hex_at s at x
   unfolding hex_at
-  hex_no f = sym (ap (λ (b : Bool). cond b (More (record { at = step s at }) (hex_more x (octet_at s at))) NoHex) f)
+  hex_no f = sym (ap (λ (b : Bool). cond b (more (record { at = step s at }) (hex_more x (octet_at s at))) None) f)
 
   pub hex_yes : (q v : ℕ) → is_hex (octet_at s at) ≡ true → q ≡ step s at → v ≡ hex_digit (octet_at s at)
-      → More (record { at = q }) (x * 16 + v) ≡ hex_at s at x
+      → more (record { at = q }) (x * 16 + v) ≡ hex_at s at x
   unfolding hex_at
   hex_yes q v f e d =
-      ap₂ (λ (n m : ℕ). More (record { at = n }) (x * 16 + m)) e d
-      ∙ sym (ap (λ (b : Bool). cond b (More (record { at = step s at }) (hex_more x (octet_at s at))) NoHex) f)
+      ap₂ (λ (n m : ℕ). more (record { at = n }) (x * 16 + m)) e d
+      ∙ sym (ap (λ (b : Bool). cond b (more (record { at = step s at }) (hex_more x (octet_at s at))) None) f)
 
 -- beyond a later position is beyond an earlier one
-pub farther : (at q : ℕ) (e : Escape) → at ≤ q → Beyond q e → Beyond at e
-farther at q (Next p waits) l b = omega (arith, l, b)
-farther at q Wrong l b = tt
+pub farther : (at q : ℕ) (e : std.Option Escape) → at ≤ q → Beyond q e → Beyond at e
+farther at q (Some e) l b = omega (arith, l, b)
+farther at q None l b = tt
 
 -- The code's test for the end of a run, over all octets
-pub stop_test : (c : ℕ) → c < 256 → (ltb c 32 || (eqb c 34 || eqb c 92)) ≡ not (is_unescaped c)
+pub stop_test : (c : ℕ) → c < 256 → ((ltb c 32 || eqb c 34) || eqb c 92) ≡ not (is_unescaped c)
 stop_test c h =
-    same (ltb c 32 || (eqb c 34 || eqb c 92)) (not (is_unescaped c))
-    (below (λ (n : ℕ). beq (ltb n 32 || (eqb n 34 || eqb n 92)) (not (is_unescaped n))) 256 tt c h)
+    same ((ltb c 32 || eqb c 34) || eqb c 92) (not (is_unescaped c))
+    (below (λ (n : ℕ). beq ((ltb n 32 || eqb n 34) || eqb n 92) (not (is_unescaped n))) 256 tt c h)
   where
     same : (a b : Bool) → T (beq a b) → a ≡ b
     same true true t = refl
     same true false t = absurd t
     same false true t = absurd t
     same false false t = refl
-
-pub plain_part : (s : List ℕ) (at m : ℕ) → at + m ≤ length s → Plain (take (at + m - at) (drop at s))
-    → skip is_unescaped s (at + m) ≡ skip is_unescaped s at
-plain_part s at m h plain =
-    let size : length (take (at + m - at) (drop at s)) ≡ m =
-    length-take (at + m - at) (drop at s) ∙ omega (arith, length-drop at s) in
-    plain_block s m at h (λ k l.
-    ap is_unescaped (sym (get_or-take (at + m - at) (drop at s) k 0 (omega (arith, l)) ∙ get_or-drop at s k 0))
-    ∙ plain k (omega (arith, l, size)))
 
 -- a run ends at an octet outside the class
 pub skip_stops : (p : ℕ → Bool) (s : List ℕ) (n at : ℕ) → length s - at ≤ n → p 256 ≡ false → p (octet_at s (skip p s at)) ≡ false

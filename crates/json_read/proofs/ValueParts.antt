@@ -16,19 +16,21 @@ use Rattle.grammar.specs.Reader.{End, refused, ended, octet_at, step, skip_space
 use Rattle.grammar.specs.Reader.{Answer, nothing, found, of_kind, Before, colon_at, before_at, value_after, entry_at}
 use Rattle.grammar.specs.Reader.{close_or, after_entry, entries_at, is_number_start, value_with, value_at}
 use Rattle.grammar.specs.Reader.{nested_within, wholly, read_text}
-use Rattle.json_read.specs.Inner.Ends.{ends_of, found_of, ends_of_kind, value_in}
+use Rattle.json_read.specs.Inner.Ends.{value_to, ends_of, found_of, ends_of_kind, value_in}
 use Rattle.json_read.specs.declared.Position.{Position}
-use Rattle.json_read.specs.declared.Ends.{Ends}
-use Rattle.json_read.specs.declared.Found.TheVariants.{Value, Nothing}
+use Rattle.json_read.specs.declared.Found.{Found}
+use Rattle.json_read.proofs.NumberParts.{same_found}
+use Rattle.std.specs.Prelude as std
+use Rattle.std.specs.Prelude.{Some, None}
 use Rattle.grammar.proofs.Turns.{entries_none, entries_turn, value_is}
 
 -- what an answer of the code says of the reader's
 
-pub is_found : (x : Answer) (p : Position) (k : ℕ) → Value p k ≡ found_of x → x ≡ found p.at k
+pub is_found : (x : Answer) (p : Position) (k : ℕ) → value_to p k ≡ found_of x → x ≡ found p.at k
 is_found nothing p k e = let z : ◌≡◌ {A = ℕ} 0 1 = cc in absurd (omega arith)
-is_found (found n j) p k e = let q : n ≡ p.at = cc in let r : j ≡ k = cc in ap (λ i. found i j) q ∙ ap (found p.at) r
+is_found (found n j) p k e = ap (λ (f : Found). found f.end.at f.kind) (sym (same_found e))
 
-pub is_nothing_lem : (x : Answer) → Nothing ≡ found_of x → x ≡ nothing
+pub is_nothing_lem : (x : Answer) → None ≡ found_of x → x ≡ nothing
 is_nothing_lem nothing e = refl
 is_nothing_lem (found n j) e = let z : ◌≡◌ {A = ℕ} 0 1 = cc in absurd (omega arith)
 
@@ -55,7 +57,7 @@ module _ (s w : List ℕ) (k at : ℕ) where
 
 -- Values that are neither objects nor arrays, with the first octet c.
 
-kind_ends : (k : ℕ) (r : Ends) (x : End) → r ≡ ends_of x → ends_of_kind k r ≡ found_of (of_kind k x)
+kind_ends : (k : ℕ) (r : std.Option Position) (x : End) → r ≡ ends_of x → ends_of_kind k r ≡ found_of (of_kind k x)
 kind_ends k r refused e = ap (ends_of_kind k) e
 kind_ends k r (ended n) e = ap (ends_of_kind k) e
 
@@ -79,7 +81,7 @@ module _ (s : List ℕ) (at c : ℕ) (hc : c ≡ octet_at s at) where
       scalar_of c refl
       ∙ sym (value_is s levels at c hc ∙ simp (ne_eqb c (opening curly) f, ne_eqb c (opening square) g))
 
-  module _ (r : Ends) where
+  module _ (r : std.Option Position) where
     pub scalar_string : c ≡ 34 → r ≡ ends_of (string_at s at) → ends_of_kind 2 r ≡ found_of (value_at 0 s at)
     unfolding value_with scalar
     scalar_string h e = kind_ends 2 r (string_at s at) e ∙ ap found_of (sym (scalar_of 34 h))

@@ -1,6 +1,6 @@
 -- Every place that the reader answers lies within the text, whatever the text: by induction as the reader goes, on
 -- levels and turns.
-use mathlib.Core.Path.{◌≡◌, refl, sym, subst}
+use mathlib.Core.Path.{◌≡◌, refl, ap, sym, subst}
 use mathlib.Core.Bool.{true, false}
 use mathlib.Core.List.{List, [], ◌∷◌}
 use mathlib.Core.Option.{Option, none, some}
@@ -16,10 +16,11 @@ use Rattle.grammar.specs.Reader.{octet_at, step, skip_space, End, refused, ended
 use Rattle.grammar.specs.Reader.{nothing, found, of_kind, Before, colon_at, before_at, Entry, entry_of, value_after}
 use Rattle.grammar.specs.Reader.{entry_at, close_or, after_entry, entries_at, rows_after, rows_at, nested_at, rows_in}
 use Rattle.grammar.specs.Reader.{is_number_start, value_with, value_at, members_at, elements_of, elements_at}
-use Rattle.json_read.specs.Members.{next_from, row_of, member_of, flat}
+use Rattle.json_read.specs.Members.{next_from, row_of, row_here, member_of, flat}
 use Rattle.json_read.specs.declared.Position.{Position}
 use Rattle.json_read.specs.declared.member.Row.{Row}
-use Rattle.json_read.specs.declared.member.Member.TheVariants.{Here}
+use Rattle.json_read.specs.declared.member.Member.{Member as Here}
+use Rattle.json_read.proofs.NumberParts.{same_found}
 use Rattle.grammar.specs.Bounds.{Every, Within, name_from, Inside, InsideElement}
 use Rattle.grammar.proofs.Endings.{either, Ended, step_on, step_in, skip_on, skip_in, seen, behind, string_in}
 use Rattle.grammar.proofs.Endings.{number_in_lem, letters_in}
@@ -233,21 +234,22 @@ module _ (l : ℕ) (s : List ℕ) (b : Bracket) where
   rows_within = rows_in_in s (value_at l s) (value_answered s l) b
 
   -- One row, as the code answers it, and where the next one begins.
-  pub row_within : (at : ℕ) (row : Row) (next : Position) → Here row next ≡ member_of s (entry_at (value_at l s) b s at) →
+  pub row_within : (at : ℕ) (row : Row) (next : Position) → row_here row next ≡ member_of s (entry_at (value_at l s) b s at) →
       (m : Member) × (row ≡ row_of m) × Inside b (length s) m × (next.at ≤ length s)
   unfolding next_from
   row_within at row next h = cases (entry_at (value_at l s) b s at) (entry_in s (value_at l s) (value_answered s l) b at) h
     where
-      cases : (x : Option Entry) → Entered s b at x → Here row next ≡ member_of s x →
+      cases : (x : Option Entry) → Entered s b at x → row_here row next ≡ member_of s x →
           (m : Member) × (row ≡ row_of m) × Inside b (length s) m × (next.at ≤ length s)
       cases none i h = let z : ◌≡◌ {A = ℕ} 0 1 = cc in absurd (omega arith)
       cases (some x) i h =
-          let p : ◌≡◌ {A = Position} next (record { at = next_from s x.after }) = cc in
+          let m = same_found h in
+          let p = ap (λ (m : Here). m.next) m in
           let q = skip_space s x.after in
           let j = skip_in s is_space x.after i.2 in
           let k = skip_in s is_space (step s q) (step_in s q j) in (
             x.row,
-            cc,
+            ap (λ (m : Here). m.row) m,
             i.0,
             subst (λ (n : Position). n.at ≤ length s) (sym p)
                 (either (λ n. n ≤ length s) (eqb (octet_at s q) comma) (λ _. k) (λ _. omega arith)),

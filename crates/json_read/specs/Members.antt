@@ -1,5 +1,6 @@
 -- The code's answers for members and elements.
-use Rattle.std.specs.Prelude.{ℕ, ◌*◌, cond, List, [], ◌∷◌, ◌++◌, length, eqb, leb}
+use Rattle.std.specs.Prelude as std
+use Rattle.std.specs.Prelude.{ℕ, ◌*◌, cond, List, [], ◌∷◌, ◌++◌, length, eqb, leb, Some, None}
 use Rattle.std.proofs.Math.Option.{Option, none, some}
 use Rattle.prelude.specs.Limits.{most_members}
 use Rattle.grammar.specs.Grammar.{comma}
@@ -7,9 +8,7 @@ use Rattle.grammar.specs.Places as places
 use Rattle.grammar.specs.Reader.{octet_at, step, skip_space, Entry}
 use Rattle.json_read.specs.declared.member.Row.{Row}
 use Rattle.json_read.specs.declared.member.Member.{Member}
-use Rattle.json_read.specs.declared.member.Member.TheVariants.{Here, End}
-use Rattle.json_read.specs.declared.member.Collected.{Collected}
-use Rattle.json_read.specs.declared.member.Collected.TheVariants.{Rows, More}
+use Rattle.json_read.specs.declared.Position.{Position}
 
 -- Where the first one of an object or array that begins here would stand.
 abbrev pub first_in : List ℕ → ℕ → ℕ
@@ -28,9 +27,13 @@ row_of m = record {
   kind = m.kind;
 }
 
-abbrev pub member_of : List ℕ → Option Entry → Member
-member_of s none = End
-member_of s (some x) = Here (row_of x.row) (record { at = next_from s x.after })
+-- The answer that a member stands here, and where the next one begins.
+abbrev pub row_here : Row → Position → std.Option Member
+row_here row next = Some (record { row = row; next = next })
+
+abbrev pub member_of : List ℕ → Option Entry → std.Option Member
+member_of s none = None
+member_of s (some x) = row_here (row_of x.row) (record { at = next_from s x.after })
 
 -- A table of members, laid flat
 
@@ -53,5 +56,5 @@ flat [] = []
 flat (m ∷ rest) = numbers m ++ flat rest
 
 -- How many there are, or that there are more than the 32 of which a table has room.
-unfoldable pub collected_of : List places.Member → Collected
-collected_of rows = cond (leb (length rows) most_members) (Rows (length rows)) More
+unfoldable pub collected_of : List places.Member → std.Option ℕ
+collected_of rows = cond (leb (length rows) most_members) (Some (length rows)) None

@@ -18,19 +18,12 @@ pub struct Position {
     pub at: usize,
 }
 
-// What a reader of a part answers: the position after it, or that it does not stand here.
+// A value that a reader has found: the position after it and its kind (0 object, 1 array, 2 string, 3 number, 4 true, 5 false,
+// 6 null).
 #[derive(Clone, Copy)]
-pub enum Ends {
-    At(Position),
-    Refused,
-}
-
-// What a reader of a value answers: the position after it and its kind (0 object, 1 array, 2 string, 3 number, 4 true,
-// 5 false, 6 null), or that no value of so few levels stands here.
-#[derive(Clone, Copy)]
-pub enum Found {
-    Value(Position, u8),
-    Nothing,
+pub struct Found {
+    pub end: Position,
+    pub kind: u8,
 }
 
 // Space, tab, LF, CR.
@@ -113,22 +106,19 @@ pub fn opens_object(s: &[u8]) -> bool
 }
 
 // Whether a text is one object of so many levels and well-formed UTF-8: where the object ends, and its kind, 0.
-pub fn judge(s: &[u8], levels: u32) -> Found
+pub fn judge(s: &[u8], levels: u32) -> Option<Found>
     ensures { result ≡ found_of (read_text levels s.now) }
 {
     let first = Position { at: 0 }.skip_space(s);
     if first.peek(s) != 123 {
-        return Found::Nothing;
+        return None;
     }
     if !utf8::utf8(s) {
-        return Found::Nothing;
+        return None;
     }
-    let outer = first.value(s, levels);
-    let Found::Value(end, kind) = outer else {
-        return outer;
-    };
-    if end.skip_space(s).at != s.len() {
-        return Found::Nothing;
+    let outer = first.value(s, levels)?;
+    if outer.end.skip_space(s).at != s.len() {
+        return None;
     }
-    Found::Value(end, kind)
+    Some(outer)
 }

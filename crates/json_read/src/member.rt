@@ -8,7 +8,7 @@ ghost use Rattle.grammar.specs.Reader.{entry_at, value_at, members_at};
 ghost use Rattle.json_read.specs.Members.{first_in, member_of, next_from, five_of, flat, collected_of, member_room, member_width};
 ghost use Rattle.json_read.specs.Inner.Known.{Given, Known, KnownEntry, KnownIn};
 
-use crate::{Ends, Found, Position};
+use crate::Position;
 use prelude::Place;
 use prelude::limits::MOST_MEMBERS;
 
@@ -25,18 +25,11 @@ pub struct Row {
     pub kind: u8,
 }
 
-// What a reader of members or elements answers: the one that begins here and where the next one begins, or that none does.
+// The member or element that begins here, and where the next one begins.
 #[derive(Clone, Copy)]
-pub enum Member {
-    Here(Row, Position),
-    End,
-}
-
-// What collecting answers: how many members there are, or that there are more than 32.
-#[derive(Clone, Copy)]
-pub enum Collected {
-    Rows(usize),
-    More,
+pub struct Member {
+    pub row: Row,
+    pub next: Position,
 }
 
 // The five numbers of a row, written from a position on.
@@ -75,57 +68,59 @@ impl Position {
     }
 
     // The member that begins here.
-    pub fn member(self, s: &[u8], levels: u32, judged: bool) -> Member
+    pub fn member(self, s: &[u8], levels: u32, judged: bool) -> Option<Member>
         requires { Given judged (KnownEntry curly levels s.now self.at) }
         ensures { result ≡ member_of s.now (entry_at (value_at levels s.now) curly s.now self.at) }
     {
         let at = self.at;
-        let spelled = self.string(s);
-        let Ends::At(end) = spelled else {
-            return Member::End;
-        };
+        let end = self.string(s)?;
         let colon = end.skip_space(s);
         if colon.peek(s) != 58 {
-            return Member::End;
+            return None;
         }
         let begin = colon.step(s).skip_space(s);
-        let found = begin.value_in(s, levels, judged);
-        let Found::Value(after, kind) = found else {
-            return Member::End;
-        };
+        let found = begin.value_in(s, levels, judged)?;
         let name = Place {
             start: at + 1,
             len: prelude::minus(end.at, at + 2),
         };
         let value = Place {
             start: begin.at,
-            len: prelude::minus(after.at, begin.at),
+            len: prelude::minus(found.end.at, begin.at),
         };
-        let row = Row { name, value, kind };
-        Member::Here(row, after.next_entry(s))
+        let row = Row {
+            name,
+            value,
+            kind: found.kind,
+        };
+        let next = found.end.next_entry(s);
+        Some(Member { row, next })
     }
 
     // The element that begins here.
-    pub fn element(self, s: &[u8], levels: u32, judged: bool) -> Member
+    pub fn element(self, s: &[u8], levels: u32, judged: bool) -> Option<Member>
         requires { Given judged (Known levels s.now self.at) }
         ensures { result ≡ member_of s.now (entry_at (value_at levels s.now) square s.now self.at) }
     {
         let at = self.at;
-        let found = self.value_in(s, levels, judged);
-        let Found::Value(after, kind) = found else {
-            return Member::End;
-        };
+        let found = self.value_in(s, levels, judged)?;
         let name = Place { start: 0, len: 0 };
         let value = Place {
             start: at,
-            len: prelude::minus(after.at, at),
+            len: prelude::minus(found.end.at, at),
         };
-        let row = Row { name, value, kind };
-        Member::Here(row, after.next_entry(s))
+        let row = Row {
+            name,
+            value,
+            kind: found.kind,
+        };
+        let next = found.end.next_entry(s);
+        Some(Member { row, next })
     }
 
-    // The members of the object that begins here: the first 32 of them go into the table, five numbers each.
-    pub fn collect(self, s: &[u8], levels: u32, judged: bool, table: &mut [usize]) -> Collected
+    // How many members the object has that begins here, or nothing where they are more than 32: the first 32 of them go into
+    // the table, five numbers each.
+    pub fn collect(self, s: &[u8], levels: u32, judged: bool, table: &mut [usize]) -> Option<usize>
         requires member_room_in_bounds { member_room ≤ length table.old }
         requires given { Given judged (KnownIn curly levels s.now self.at) }
         ensures value { result ≡ collected_of (members_at levels s.now self.at) }
@@ -135,18 +130,17 @@ impl Position {
         let mut count: usize = 0;
         let mut left = s.len();
         while 0 < left {
-            let found = p.member(s, levels, judged);
-            let Member::Here(row, next) = found else {
-                return Collected::Rows(count);
+            let Some(found) = p.member(s, levels, judged) else {
+                return Some(count);
             };
             if count == MOST_MEMBERS {
-                return Collected::More;
+                return None;
             }
-            put_row(row, table, count * WIDTH);
+            put_row(found.row, table, count * WIDTH);
             count += 1;
-            p = next;
+            p = found.next;
             left -= 1;
         }
-        Collected::Rows(count)
+        Some(count)
     }
 }

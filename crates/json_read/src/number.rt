@@ -4,39 +4,39 @@ ghost use Rattle.grammar.specs.Grammar.{is_digit, is_minus, is_plus_minus};
 ghost use Rattle.grammar.specs.Reader.{perhaps_at, digits_at, int_at, fraction_at, exponent_at, number_at};
 ghost use Rattle.json_read.specs.Inner.Ends.{ends_of};
 
-use crate::{Ends, Position};
+use crate::Position;
 
 impl Position {
     // One digit or more.
-    fn digits(self, s: &[u8]) -> Ends
+    fn digits(self, s: &[u8]) -> Option<Position>
         ensures { result ≡ ends_of (digits_at is_digit s.now self.at) }
     {
         if crate::is_digit(self.peek(s)) {
-            Ends::At(self.step(s).skip_digits(s))
+            Some(self.step(s).skip_digits(s))
         } else {
-            Ends::Refused
+            None
         }
     }
 
     // A zero, or a digit from 1 to 9 and any digits.
-    fn int(self, s: &[u8]) -> Ends
+    fn int(self, s: &[u8]) -> Option<Position>
         ensures { result ≡ ends_of (int_at s.now self.at) }
     {
         if self.peek(s) == 48 {
-            Ends::At(self.step(s))
+            Some(self.step(s))
         } else {
             self.digits(s)
         }
     }
 
     // A point and digits, or nothing.
-    fn fraction(self, s: &[u8]) -> Ends
+    fn fraction(self, s: &[u8]) -> Option<Position>
         ensures { result ≡ ends_of (fraction_at s.now self.at) }
     {
         if self.peek(s) == 46 {
             self.step(s).digits(s)
         } else {
-            Ends::At(self)
+            Some(self)
         }
     }
 
@@ -65,29 +65,23 @@ impl Position {
     }
 
     // e or E, perhaps a sign, and digits; or nothing.
-    fn exponent(self, s: &[u8]) -> Ends
+    fn exponent(self, s: &[u8]) -> Option<Position>
         ensures { result ≡ ends_of (exponent_at s.now self.at) }
     {
         let c = self.peek(s);
         if (c == 101) | ((c == 69) | false) {
             self.step(s).skip_sign(s).digits(s)
         } else {
-            Ends::At(self)
+            Some(self)
         }
     }
 
     // A number that begins here.
-    pub(crate) fn number(self, s: &[u8]) -> Ends
+    pub(crate) fn number(self, s: &[u8]) -> Option<Position>
         ensures { result ≡ ends_of (number_at s.now self.at) }
     {
-        let whole = self.skip_minus(s).int(s);
-        let Ends::At(after) = whole else {
-            return whole;
-        };
-        let part = after.fraction(s);
-        let Ends::At(then) = part else {
-            return part;
-        };
-        then.exponent(s)
+        let whole = self.skip_minus(s).int(s)?;
+        let part = whole.fraction(s)?;
+        part.exponent(s)
     }
 }

@@ -1,24 +1,26 @@
 // Strings (RFC 8259 section 7), with the rule on halves of surrogate pairs. Runs of plain octets are passed over in blocks.
-ghost use Rattle.std.specs.Prelude.{◌≡◌, ◌+◌, ◌^◌, ◌≤◌, ◌<◌, true, false, not, length, drop, eqb, [], ◌∷◌};
+ghost use Rattle.std.specs.Prelude.{◌≡◌, ◌+◌, ◌^◌, ◌≤◌, ◌<◌, true, false, not, drop, [], ◌∷◌};
 ghost use Rattle.grammar.specs.Grammar.{among, is_unescaped, is_escape, is_hex};
 ghost use Rattle.grammar.specs.Strings.{hex_digit, is_high, is_low};
 ghost use Rattle.grammar.specs.Reader.{octet_at, skip, between, escaping, digit, after_unit, scan_string, string_at};
-ghost use Rattle.json_read.specs.Inner.Ends.{ends_of, hex_at, Small, resumed, Beyond, escape_of, Plain};
+ghost use Rattle.json_read.specs.Inner.Ends.{ends_of, hex_at, Small, resumed, Beyond, escape_of};
 
-use crate::{Ends, Position};
+use blocks::Kind;
+
+use crate::Position;
 
 // What an escape gives: the position after it, and whether it is a first half that waits for its second.
 #[derive(Clone, Copy)]
-pub enum Escape {
-    Next(Position, bool),
-    Wrong,
+pub struct Escape {
+    pub next: Position,
+    pub waits: bool,
 }
 
-// One digit more of \u: the position after it and what the digits say, or that none stands there.
+// One digit more of \u: the position after it and what the digits say.
 #[derive(Clone, Copy)]
-pub enum Hex {
-    More(Position, u32),
-    Wrong,
+pub struct Hex {
+    pub next: Position,
+    pub value: u32,
 }
 
 // What may follow a backslash, but for u.
@@ -80,85 +82,65 @@ fn is_high(u: u32) -> bool
 }
 
 // What the digits of \u that end before p do, after a first half or not.
-fn after_unit(p: Position, half: bool, u: u32) -> Escape
-    ensures { result ≡ escape_of p (after_unit half u) }
+fn after_unit(next: Position, half: bool, u: u32) -> Option<Escape>
+    ensures { result ≡ escape_of next (after_unit half u) }
 {
     let low = is_low(u);
     if half {
         if low {
-            return Escape::Next(p, false);
+            return Some(Escape { next, waits: false });
         }
-        return Escape::Wrong;
+        return None;
     }
     if low {
-        return Escape::Wrong;
+        return None;
     }
-    Escape::Next(p, is_high(u))
+    let waits = is_high(u);
+    Some(Escape { next, waits })
 }
 
-// Whether an octet does not stand for itself in a string.
-fn is_stop(c: u8) -> bool
-    ensures { result ≡ not (is_unescaped c) }
-{
-    (c < 32) | ((c == 34) | (c == 92))
-}
+// An octet that does not stand for itself in a string.
+#[derive(Clone, Copy)]
+struct Stop;
 
-// How many do not; counted in an octet and without another exit, so that it is done sixteen at a time.
-fn count_stops(block: &[u8]) -> u8
-    requires { length block.now ≤ 64 }
-    ensures { result ≡ 0 → Plain block.now }
-{
-    let mut count: u8 = 0;
-    let mut k: usize = 0;
-    while k < block.len() {
-        if is_stop(block[k]) {
-            count += 1;
-        }
-        k += 1;
+impl Kind for Stop {
+    ghost has = { λ kind c. not (is_unescaped c) };
+
+    fn has(self, c: u8) -> bool {
+        (c < 32) | (c == b'"') | (c == b'\\')
     }
-    count
 }
 
 impl Position {
     // One hexadecimal digit more, behind those that say x.
-    fn hex(self, s: &[u8], x: u32) -> Hex
+    fn hex(self, s: &[u8], x: u32) -> Option<Hex>
         requires { x < 16 ^ 3 }
         ensures value { result ≡ hex_at s.now self.at x }
         ensures small { Small x result }
     {
         let c = self.peek(s);
         if !is_hex(c) {
-            return Hex::Wrong;
+            return None;
         }
-        Hex::More(self.step(s), x * 16 + hex_digit(c))
+        let next = self.step(s);
+        let value = x * 16 + hex_digit(c);
+        Some(Hex { next, value })
     }
 
     // The four digits of \u that begin here, after a first half or not.
-    fn unit(self, s: &[u8], half: bool) -> Escape
+    fn unit(self, s: &[u8], half: bool) -> Option<Escape>
         ensures result_value { resumed s.now result ≡ scan_string (digit half 3 0) (drop self.at s.now) self.at }
         ensures beyond { Beyond self.at result }
     {
-        let first = self.hex(s, 0);
-        let Hex::More(second, a) = first else {
-            return Escape::Wrong;
-        };
-        let next = second.hex(s, a);
-        let Hex::More(third, b) = next else {
-            return Escape::Wrong;
-        };
-        let more = third.hex(s, b);
-        let Hex::More(fourth, c) = more else {
-            return Escape::Wrong;
-        };
-        let last = fourth.hex(s, c);
-        let Hex::More(after, u) = last else {
-            return Escape::Wrong;
-        };
-        after_unit(after, half, u)
+        let first = self.hex(s, 0)?;
+        let second = first.next.hex(s, first.value)?;
+        let third = second.next.hex(s, second.value)?;
+        let last = third.next.hex(s, third.value)?;
+        after_unit(last.next, half, last.value)
     }
 
     // An escape whose backslash stands before, after a first half or not.
-    fn escape(self, s: &[u8], half: bool) -> Escape
+    fn escape(self, s: &[u8], half: bool) -> Option<Escape>
         ensures result_value { resumed s.now result ≡ scan_string (escaping half) (drop self.at s.now) self.at }
         ensures beyond { Beyond self.at result }
     {
@@ -167,64 +149,22 @@ impl Position {
             return self.step(s).unit(s, half);
         }
         if !is_escape(c) {
-            return Escape::Wrong;
+            return None;
         }
         if half {
-            return Escape::Wrong;
+            return None;
         }
-        Escape::Next(self.step(s), false)
+        let next = self.step(s);
+        Some(Escape { next, waits: false })
     }
 
-    // Past the octets here that stand for themselves. Names and most values are short: blocks begin after sixteen octets.
+    // Past the octets here that stand for themselves.
     fn skip_plain(self, s: &[u8]) -> Position
         ensures { result.at ≡ skip is_unescaped s.now self.at }
     {
-        let mut at = self.at;
-        let mut few: usize = 0;
-        while few < 16 {
-            if s.len() <= at {
-                return Position { at };
-            }
-            if is_stop(s[at]) {
-                return Position { at };
-            }
-            at += 1;
-            few += 1;
+        Position {
+            at: blocks::seek::<Stop, 64>(Stop, s, self.at),
         }
-        Position { at }.skip_long(s)
-    }
-
-    // The same for a long run.
-    fn skip_long(self, s: &[u8]) -> Position
-        ensures { result.at ≡ skip is_unescaped s.now self.at }
-    {
-        let mut at = self.skip_blocks(s).at;
-        while at < s.len() {
-            if is_stop(s[at]) {
-                return Position { at };
-            }
-            at += 1;
-        }
-        Position { at }
-    }
-
-    // Past whole blocks of such octets.
-    fn skip_blocks(self, s: &[u8]) -> Position
-        ensures { skip is_unescaped s.now result.at ≡ skip is_unescaped s.now self.at }
-    {
-        let n = s.len();
-        let mut at = self.at;
-        if n < at {
-            return self;
-        }
-        while 64 <= n - at {
-            let e = at + 64;
-            if count_stops(&s[at..e]) != 0 {
-                break;
-            }
-            at = e;
-        }
-        Position { at }
     }
 
     // Past them, unless a first half waits.
@@ -239,11 +179,11 @@ impl Position {
     }
 
     // A string that begins here.
-    pub(crate) fn string(self, s: &[u8]) -> Ends
+    pub(crate) fn string(self, s: &[u8]) -> Option<Position>
         ensures { result ≡ ends_of (string_at s.now self.at) }
     {
         if self.peek(s) != 34 {
-            return Ends::Refused;
+            return None;
         }
         let mut at = self.step(s).at;
         let mut half = false;
@@ -252,20 +192,17 @@ impl Position {
             let c = p.peek(s);
             if c == 34 {
                 if half {
-                    return Ends::Refused;
+                    return None;
                 }
-                return Ends::At(p.step(s));
+                return Some(p.step(s));
             }
             if c != 92 {
-                return Ends::Refused;
+                return None;
             }
-            let answer = p.step(s).escape(s, half);
-            let Escape::Next(next, waits) = answer else {
-                return Ends::Refused;
-            };
-            at = next.at;
-            half = waits;
+            let escape = p.step(s).escape(s, half)?;
+            at = escape.next.at;
+            half = escape.waits;
         }
-        Ends::Refused
+        None
     }
 }

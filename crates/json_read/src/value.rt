@@ -5,7 +5,7 @@ ghost use Rattle.grammar.specs.Reader.{word_at, before_at, is_number_start, valu
 ghost use Rattle.json_read.specs.Inner.Ends.{ends_of, value_in, ends_of_kind, found_of};
 ghost use Rattle.json_read.specs.Inner.Known.{Given, Known};
 
-use crate::{Ends, Found, Position};
+use crate::{Found, Position};
 
 // What may begin a number: a minus or a digit.
 fn is_number_start(c: u16) -> bool
@@ -15,34 +15,32 @@ fn is_number_start(c: u16) -> bool
 }
 
 // The value of a kind that ends so.
-fn of_kind(ends: Ends, kind: u8) -> Found
+fn of_kind(ends: Option<Position>, kind: u8) -> Option<Found>
     ensures { result ≡ ends_of_kind kind ends }
 {
-    let Ends::At(end) = ends else {
-        return Found::Nothing;
-    };
-    Found::Value(end, kind)
+    let end = ends?;
+    Some(Found { end, kind })
 }
 
 impl Position {
     // The octets of w, one after the other.
-    fn word(self, s: &[u8], w: &[u8]) -> Ends
+    fn word(self, s: &[u8], w: &[u8]) -> Option<Position>
         ensures { result ≡ ends_of (word_at w.now s.now self.at) }
     {
         let mut p = self;
         let mut k: usize = 0;
         while k < w.len() {
             if p.peek(s) != w[k] as u16 {
-                return Ends::Refused;
+                return None;
             }
             p = p.step(s);
             k += 1;
         }
-        Ends::At(p)
+        Some(p)
     }
 
     // A value that is neither an object nor an array: one of no levels.
-    fn scalar(self, s: &[u8]) -> Found
+    fn scalar(self, s: &[u8]) -> Option<Found>
         ensures { result ≡ found_of (value_at 0 s.now self.at) }
     {
         let c = self.peek(s);
@@ -61,27 +59,24 @@ impl Position {
         if is_number_start(c) {
             return of_kind(self.number(s), 3);
         }
-        Found::Nothing
+        None
     }
 
     // A member's name and its colon, up to its value.
-    fn name(self, s: &[u8]) -> Ends
+    fn name(self, s: &[u8]) -> Option<Position>
         ensures { result ≡ ends_of (value_in (before_at curly s.now self.at)) }
     {
-        let name = self.string(s);
-        let Ends::At(end) = name else {
-            return name;
-        };
-        let colon = end.skip_space(s);
+        let name = self.string(s)?;
+        let colon = name.skip_space(s);
         if colon.peek(s) != 58 {
-            return Ends::Refused;
+            return None;
         }
-        Ends::At(colon.step(s).skip_space(s))
+        Some(colon.step(s).skip_space(s))
     }
 
     // A value that begins here.
     #[cycle(array_object_value)]
-    pub fn value(self, s: &[u8], levels: u32) -> Found
+    pub fn value(self, s: &[u8], levels: u32) -> Option<Found>
         ensures { result ≡ found_of (value_at levels s.now self.at) }
     {
         let c = self.peek(s);
@@ -96,104 +91,97 @@ impl Position {
 
     // An object, past its brace. A text has no more members than octets.
     #[cycle(array_object_value)]
-    fn object(self, s: &[u8], levels: u32) -> Found
+    fn object(self, s: &[u8], levels: u32) -> Option<Found>
         ensures { result ≡ found_of (nested_within levels curly s.now self.at) }
     {
         if levels == 0 {
-            return Found::Nothing;
+            return None;
         }
         let first = self.skip_space(s);
         if first.peek(s) == 125 {
-            return Found::Value(first.step(s), 0);
+            let end = first.step(s);
+            return Some(Found { end, kind: 0 });
         }
         let mut p = first;
         let mut left = s.len();
         while 0 < left {
-            let name = p.name(s);
-            let Ends::At(begin) = name else {
-                return Found::Nothing;
-            };
-            let inner = begin.value(s, levels - 1);
-            let Found::Value(end, _) = inner else {
-                return inner;
-            };
-            let after = end.skip_space(s);
+            let begin = p.name(s)?;
+            let inner = begin.value(s, levels - 1)?;
+            let after = inner.end.skip_space(s);
             let c = after.peek(s);
             if c == 125 {
-                return Found::Value(after.step(s), 0);
+                let end = after.step(s);
+                return Some(Found { end, kind: 0 });
             }
             if c != 44 {
-                return Found::Nothing;
+                return None;
             }
             p = after.step(s).skip_space(s);
             left -= 1;
         }
-        Found::Nothing
+        None
     }
 
     // An array, past its bracket.
     #[cycle(array_object_value)]
-    fn array(self, s: &[u8], levels: u32) -> Found
+    fn array(self, s: &[u8], levels: u32) -> Option<Found>
         ensures { result ≡ found_of (nested_within levels square s.now self.at) }
     {
         if levels == 0 {
-            return Found::Nothing;
+            return None;
         }
         let first = self.skip_space(s);
         if first.peek(s) == 93 {
-            return Found::Value(first.step(s), 1);
+            let end = first.step(s);
+            return Some(Found { end, kind: 1 });
         }
         let mut p = first;
         let mut left = s.len();
         while 0 < left {
-            let inner = p.value(s, levels - 1);
-            let Found::Value(end, _) = inner else {
-                return inner;
-            };
-            let after = end.skip_space(s);
+            let inner = p.value(s, levels - 1)?;
+            let after = inner.end.skip_space(s);
             let c = after.peek(s);
             if c == 93 {
-                return Found::Value(after.step(s), 1);
+                let end = after.step(s);
+                return Some(Found { end, kind: 1 });
             }
             if c != 44 {
-                return Found::Nothing;
+                return None;
             }
             p = after.step(s).skip_space(s);
             left -= 1;
         }
-        Found::Nothing
+        None
     }
 
     // A value that begins here, in a text that reads where a bracket opens: of an object or an array the end is sought.
     // Any other is read by `value`: `scalar` then has one caller and is compiled into it, which makes `judge` quicker.
-    fn known(self, s: &[u8], levels: u32) -> Found
+    fn known(self, s: &[u8], levels: u32) -> Option<Found>
         requires { Known levels s.now self.at }
         ensures { result ≡ found_of (value_at levels s.now self.at) }
     {
         let c = self.peek(s);
         if c == 123 {
             let inside = self.step(s);
-            return Found::Value(
-                Position {
-                    at: skip::past(s, inside.at),
-                },
-                0,
-            );
+            let at = skip::past(s, inside.at);
+            return Some(Found {
+                end: Position { at },
+                kind: 0,
+            });
         }
         if c == 91 {
             let inside = self.step(s);
-            return Found::Value(
-                Position {
-                    at: skip::past(s, inside.at),
-                },
-                1,
-            );
+            let at = skip::past(s, inside.at);
+            return Some(Found {
+                end: Position { at },
+                kind: 1,
+            });
         }
         self.value(s, levels)
     }
 
     // The same value, sought or read.
-    pub(crate) fn value_in(self, s: &[u8], levels: u32, judged: bool) -> Found
+    pub(crate) fn value_in(self, s: &[u8], levels: u32, judged: bool) -> Option<Found>
         requires { Given judged (Known levels s.now self.at) }
         ensures { result ≡ found_of (value_at levels s.now self.at) }
     {

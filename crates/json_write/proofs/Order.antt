@@ -12,7 +12,7 @@ use Rattle.prelude.specs.Limits.{longest, levels}
 use Rattle.prelude.specs.Refusals.{Test, ◌if◌, first, stage_of}
 use Rattle.prelude.proofs.Outputs.{writes_refused, writes_done}
 use Rattle.prelude.proofs.Refusals.{nonzero, nonzero_append, first_fails, first_passes, first_skip}
-use Rattle.prelude.specs.declared.Stage.TheVariants.{Passed, Refused}
+use Rattle.prelude.specs.Refusals.{Passed, Refused}
 use Rattle.names.specs.Names.{names, sound}
 use Rattle.jose.specs.declared.Sizes.{Sizes}
 use Rattle.headers.specs.Headers.{too_long, protected_entries, object_order}

@@ -1,7 +1,7 @@
 -- What the JSON writer answers, and what the lent output holds afterwards.
 use Rattle.std.specs.Prelude.{List, Bool, ℕ, length}
 use Rattle.prelude.specs.Outputs.{Writes}
-use Rattle.prelude.specs.declared.Stage.{Stage}
+use Rattle.prelude.specs.Refusals.{Stage}
 use Rattle.jwe_write.specs.Answers.{write_number, write_count}
 use Rattle.json_message.specs.JsonWrite.{RawJson, written_text, json_write_refusal}
 

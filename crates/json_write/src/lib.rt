@@ -5,12 +5,13 @@
 ghost use Rattle.std.specs.Prelude.{◌≡◌};
 ghost use Rattle.json_message.specs.JsonWrite.{raw_json};
 ghost use Rattle.json_message.specs.WriteOrder.{most_for};
+ghost use Rattle.prelude.specs.Refusals.{as_stage};
 ghost use Rattle.json_write.specs.Answers.{WritesJson};
 
 use jose::Sizes;
-use prelude::Stage;
+use json_put::message::Message;
+use prelude::refusal::Refusal;
 use prelude::limits::{LONGEST, MOST_RECIPIENTS};
-use recipients::Counted;
 
 // How many recipients a message may have, general or flattened.
 fn most_for(general: bool) -> usize
@@ -33,25 +34,31 @@ pub fn write(
     known: &[u8],
     recipients: &[u8],
     out: &mut [u8],
-) -> Stage
+) -> Result<usize, Refusal>
     ensures { WritesJson general
         (raw_json protected.now shared.now aad.now iv.now ciphertext.now
         tag.now recipients.now)
-        known.now out.old result out.new }
+        known.now out.old (as_stage result) out.new }
 {
     if !names::sound(known) {
-        return Stage::Refused(3);
+        return Err(Refusal::KnownNames);
     }
-    let counted = recipients::count(recipients);
-    let Counted::Recipients(n) = counted else {
-        return Stage::Refused(20);
+    let Some(n) = recipients::count(recipients) else {
+        return Err(Refusal::RecipientTable);
     };
     if most_for(general) < n {
-        return Stage::Refused(20);
+        return Err(Refusal::RecipientTable);
     }
-    let size = json_put::text_length(
-        general, protected, shared, aad, iv, ciphertext, tag, recipients,
-    );
+    let message = Message {
+        protected,
+        shared,
+        aad,
+        iv,
+        ciphertext,
+        tag,
+        recipients,
+    };
+    let size = json_put::text_length(general, &message);
     if LONGEST < size {
         return json_judge::judge_over(protected, shared, recipients, n);
     }
@@ -61,14 +68,9 @@ pub fn write(
         ciphertext: ciphertext.len(),
         tag: tag.len(),
     };
-    let judged = json_judge::judge_within(general, protected, shared, known, recipients, n, sizes);
-    let Stage::Passed(_) = judged else {
-        return judged;
-    };
+    json_judge::judge_within(general, protected, shared, known, recipients, n, sizes)?;
     if out.len() < size {
-        return Stage::Refused(1);
+        return Err(Refusal::ShortOutput);
     }
-    Stage::Passed(json_put::put_text(
-        general, protected, shared, aad, iv, ciphertext, tag, recipients, out,
-    ))
+    Ok(json_put::put_text(general, &message, out))
 }

@@ -12,7 +12,7 @@ use Rattle.headers.specs.Answers.{components_of}
 use Rattle.jwe.specs.Judge.{Outcome, places_in, accepted, refused, answered}
 use Rattle.jwe.specs.Answers.{numbers}
 use Rattle.jwe.specs.Inner.Stages.{Judges}
-use Rattle.jwe.specs.declared.Result.{Result}
+use Rattle.jwe.specs.Answers.{Result}
 
 module _ (message : List ℕ) (x : Outcome) where
   abbrev by : ℕ → Bool → List ℕ

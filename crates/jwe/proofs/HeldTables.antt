@@ -10,8 +10,8 @@ use lib.Seq.{length-take-le, get_or-set_same, get_or-set_other}
 use Rattle.prelude.specs.Buffer.{written}
 use Rattle.prelude.specs.Limits.{header_room}
 use Rattle.prelude.specs.Refusals.{Test, first}
-use Rattle.prelude.specs.declared.Stage.{Stage}
-use Rattle.prelude.specs.declared.Stage.TheVariants.{Refused}
+use Rattle.prelude.specs.Refusals.{Stage}
+use Rattle.prelude.specs.Refusals.{Refused}
 use Rattle.grammar.specs.Reader.{opens_object}
 use Rattle.grammar.specs.Places.{Place}
 use Rattle.rows.specs.Rows.{Entry, read_texts}
@@ -29,13 +29,13 @@ use Rattle.jwe.specs.Judge.{Held, json_held, compact_held, held, asked, Outcome,
 use Rattle.jwe.specs.Answers.{numbers, refused_by}
 use Rattle.jwe.specs.Inner.Stages.{recipients_of, LaidAt, Owned, Judges}
 use Rattle.jwe.specs.Inner.Holding.{held_of, HoldsShare, HoldsCommon, Holds, HoldsBy, Gathers}
-use Rattle.jwe.specs.declared.Holding.{Holding}
-use Rattle.jwe.specs.declared.Result.{Result}
+use Rattle.jwe.specs.Answers.{Holding}
+use Rattle.jwe.specs.Answers.{Result}
 use Rattle.jwe.proofs.RecipientRows.{asked_at}
 use Rattle.jwe.proofs.OwnHeaders.{laid_entries, gathered, gathered_room, gathered_front, gathered_printed, gathered_kept}
 use Rattle.jwe.proofs.JsonOrder.{json_rest}
 use Rattle.jwe.proofs.Answering.{answered_accepted}
-use Rattle.jwe.proofs.Reading.{judging}
+use Rattle.jwe.proofs.Handing.{judging}
 
 -- A refusal, by its number; and that of a stage, handed up.
 module _ (message : List ℕ) (order : List Test) (h : Held) (r : Holding) {n : ℕ} (fails : first order ≡ n) (some : 0 < n)

@@ -25,8 +25,8 @@ use Rattle.headers.specs.Components.{absent}
 use Rattle.headers.specs.Headers.{header_text, text_order, outermost, protected_entries, members_of}
 use Rattle.headers.specs.Headers.{header_entries, object_order}
 use Rattle.headers.specs.Answers.{header_buffer}
-use Rattle.prelude.specs.declared.Stage.{Stage}
-use Rattle.prelude.specs.declared.Stage.TheVariants.{Passed, Refused}
+use Rattle.prelude.specs.Refusals.{Stage}
+use Rattle.prelude.specs.Refusals.{Passed, Refused}
 use Rattle.headers.proofs.Stages.{passed_is, refused_is}
 use Rattle.shape.specs.Shape.{inner, component}
 use Rattle.jwe.specs.General.{is_hollow}

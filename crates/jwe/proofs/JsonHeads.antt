@@ -12,14 +12,14 @@ use Rattle.prelude.proofs.Refusals.{nonzero, nonzero_append}
 use Rattle.jose.specs.HeaderRules.{mode_in}
 use Rattle.headers.specs.Components as headers
 use Rattle.headers.specs.Answers.{components_of}
-use Rattle.prelude.specs.declared.Stage.{Stage}
-use Rattle.prelude.specs.declared.Stage.TheVariants.{Refused}
+use Rattle.prelude.specs.Refusals.{Stage}
+use Rattle.prelude.specs.Refusals.{Refused}
 use Rattle.shape.specs.Shape.{Recipient}
 use Rattle.jwe.specs.Judge.{Outcome, place, accepted, refused}
 use Rattle.jwe.specs.Answers.{numbers, refused_by}
 use Rattle.jwe.specs.Inner.Stages.{own_tests, rule_tests, ruled_tests, all_tests, headed_order, Judges}
 use Rattle.headers.specs.declared.Components.{Components}
-use Rattle.jwe.specs.declared.Result.{Result}
+use Rattle.jwe.specs.Answers.{Result}
 use Rattle.jwe.proofs.Answering.{refuses}
 use Rattle.jwe.proofs.JsonOrder.{stop, skip, own_nonzero, rule_nonzero, content_nonzero}
 

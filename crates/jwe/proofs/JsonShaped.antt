@@ -20,7 +20,7 @@ use Rattle.prelude.specs.Refusals.{Test, first, stage_of}
 use Rattle.headers.specs.Headers.{header_text, too_long, unread, text_order, outermost, protected_entries, members_of}
 use Rattle.headers.specs.Headers.{header_entries, object_order}
 use Rattle.headers.specs.Answers.{header_buffer}
-use Rattle.prelude.specs.declared.Stage.TheVariants.{Passed}
+use Rattle.prelude.specs.Refusals.{Passed}
 use Rattle.headers.proofs.Stages.{passed_is}
 use Rattle.headers.specs.Components.{absent}
 use Rattle.shape.specs.Shape.{Recipient}

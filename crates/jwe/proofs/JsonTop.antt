@@ -18,7 +18,7 @@ use Rattle.prelude.specs.Refusals.{◌if◌, first, stage_of}
 use Rattle.prelude.specs.Limits.{most_recipients}
 use Rattle.headers.specs.Components.{Components, misspelled}
 use Rattle.headers.specs.Headers.{unread, object_order}
-use Rattle.prelude.specs.declared.Stage.TheVariants.{Passed}
+use Rattle.prelude.specs.Refusals.{Passed}
 use Rattle.headers.proofs.Stages.{passed_is}
 use Rattle.shape.specs.Shape.{recipients, wrong_top, wrong_elements, Recipient, recipient_of}
 use Rattle.shape.specs.Recipients.{top_entries, top_order, elements_in, element_entries, element_order, elements_order}

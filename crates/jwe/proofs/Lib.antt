@@ -1,4 +1,5 @@
 -- The refusals of a JSON message, stage by stage.
+pub mod Exits
 pub mod JsonOrder
 -- Recipients as numbers of a table, and loops over them.
 pub mod RecipientRows
@@ -31,7 +32,7 @@ pub mod Answering
 -- What is handed out, form by form.
 pub mod Outcomes
 -- For `read`: 1 to 3, and what the lent outputs hold afterwards.
-pub mod Reading
+pub mod Handing
 -- Every number of a result fits 32 bits.
 pub mod SmallRefusals
 pub mod SmallOutcomes

@@ -19,7 +19,7 @@ use Rattle.jwe.specs.Compact.{compact_order}
 use Rattle.jwe.specs.General.{json_order}
 use Rattle.jwe.specs.Judge.{Call, order, refusal, outcome, accepted, refused, result_of}
 use Rattle.jwe.specs.Answers.{numbers}
-use Rattle.jwe.specs.declared.Result.{Result}
+use Rattle.jwe.specs.Answers.{Result}
 use Rattle.jwe.proofs.SmallRefusals.{refusal_low}
 use Rattle.jwe.proofs.SmallOutcomes.{outcome_bounded, accepted_below}
 

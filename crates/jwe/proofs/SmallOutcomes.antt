@@ -3,7 +3,7 @@
 -- and elements than the reader has turns, which are the text's octets.
 use mathlib.Core.Path.{◌≡◌, refl, ap}
 use mathlib.Core.List.{List, [], ◌∷◌, ◌++◌, map}
-use mathlib.Core.Option.{Option, none, some}
+use Rattle.std.specs.Prelude.{Option, None, Some}
 use Prim.Native.Nat.{ℕ, zero, suc, ◌+◌, ◌≤◌, ◌<◌, zero-le}
 use native.Mathlib.Omega.{arith}
 use lib.ListN.{length, drop, length-append, length-map, length-take, length-drop}
@@ -65,8 +65,8 @@ algorithm_mode EcdhEsA256Kw = omega arith
 algorithm_mode Dir = omega arith
 
 listed_mode : (x : Option Alg) → mode_of x ≤ 5
-listed_mode none = zero-le
-listed_mode (some a) = algorithm_mode a
+listed_mode None = zero-le
+listed_mode (Some a) = algorithm_mode a
 
 pub mode_low : (ts : Texts) (es : List Entry) → mode_in ts es ≤ 5
 unfolding mode_in

@@ -16,7 +16,7 @@ use Rattle.jwe.specs.Compact.{after, Stops, stops, four_stops, between, compact_
 use Rattle.headers.specs.Answers.{code_place, code_components, components_of}
 use Rattle.jwe.specs.Answers.{split_of}
 use Rattle.headers.specs.declared.Components.{Components}
-use Rattle.jwe.specs.declared.compact.FullStops.TheVariants.{Four, Other}
+use Rattle.std.specs.Prelude.{Some, None}
 
 -- One of a list, or one of those behind it
 
@@ -92,22 +92,22 @@ module _ (message : List ℕ) (a b c d e : ℕ)
   components_are = ap (components message) stops_are
 
   split_is : (t : Bool) → four_stops message ≡ t →
-      split_of message ≡ cond t (Four (code_components (compact_components message))) Other
+      split_of message ≡ cond t (Some (code_components (compact_components message))) None
   unfolding split_of
-  split_is t e = ap (λ (x : Bool). cond x (Four (code_components (compact_components message))) Other) e
+  split_is t e = ap (λ (x : Bool). cond x (Some (code_components (compact_components message))) None) e
 
-  pub split_few : length message ≤ d → Other ≡ split_of message
+  pub split_few : length message ≤ d → None ≡ split_of message
   split_few h =
       sym (split_is false (four_are ∙ ap (λ (t : Bool). t && eqb e (length message)) (le-ltb d (length message) h)))
 
-  pub split_many : d < length message → (e ≡ length message → ⊥) → Other ≡ split_of message
+  pub split_many : d < length message → (e ≡ length message → ⊥) → None ≡ split_of message
   split_many h f =
       sym (split_is false (four_are ∙ ap₂ ◌&&◌ (lt-ltb d (length message) h) (ne_eqb e (length message) f)))
 
   pub split_four : d < length message → e ≡ length message → (key iv ciphertext tag : Place) →
       key ≡ code_place (between a b) → iv ≡ code_place (between b c) → ciphertext ≡ code_place (between c d) →
       tag ≡ code_place (between d (length message)) →
-      Four (record {
+      Some (record {
         protected = record { start = 0; len = a };
         key = key;
         iv = iv;
@@ -117,7 +117,7 @@ module _ (message : List ℕ) (a b c d e : ℕ)
       })
       ≡ split_of message
   split_four h l key iv ciphertext tag k i x t =
-      ap₂ (λ (y z : Place). Four (record {
+      ap₂ (λ (y z : Place). Some (record {
         protected = record { start = 0; len = a };
         key = y;
         iv = z;
@@ -125,7 +125,7 @@ module _ (message : List ℕ) (a b c d e : ℕ)
         ciphertext = ciphertext;
         tag = tag;
       })) k i
-      ∙ ap₂ (λ (y z : Place). Four (record {
+      ∙ ap₂ (λ (y z : Place). Some (record {
         protected = record { start = 0; len = a };
         key = code_place (between a b);
         iv = code_place (between b c);
@@ -133,27 +133,27 @@ module _ (message : List ℕ) (a b c d e : ℕ)
         ciphertext = y;
         tag = z;
       })) x t
-      ∙ ap (λ (q : headers.Components). Four (code_components q)) (sym components_are)
+      ∙ ap (λ (q : headers.Components). Some (code_components q)) (sym components_are)
       ∙ sym (split_is true (four_are ∙ ap₂ ◌&&◌ (lt-ltb d (length message) h) (eq-eqb e (length message) l)))
 
 -- What the answer tells
 
 module _ (message : List ℕ) where
-  pub four_told : (q : Components) → Four q ≡ split_of message →
+  pub four_told : (q : Components) → Some q ≡ split_of message →
       (four_stops message ≡ true) × (q ≡ code_components (compact_components message))
   unfolding split_of
   four_told q e = cases (four_stops message) e
     where
-      cases : (b : Bool) → Four q ≡ cond b (Four (code_components (compact_components message))) Other →
+      cases : (b : Bool) → Some q ≡ cond b (Some (code_components (compact_components message))) None →
           (b ≡ true) × (q ≡ code_components (compact_components message))
       cases true e = (refl, cc)
       cases false e = let z : ◌≡◌ {A = ℕ} 0 1 = cc in absurd (omega arith)
 
-  pub other_told : Other ≡ split_of message → four_stops message ≡ false
+  pub other_told : None ≡ split_of message → four_stops message ≡ false
   unfolding split_of
   other_told e = cases (four_stops message) e
     where
-      cases : (b : Bool) → Other ≡ cond b (Four (code_components (compact_components message))) Other → b ≡ false
+      cases : (b : Bool) → None ≡ cond b (Some (code_components (compact_components message))) None → b ≡ false
       cases true e = let z : ◌≡◌ {A = ℕ} 0 1 = cc in absurd (omega arith)
       cases false e = refl
 

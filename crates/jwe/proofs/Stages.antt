@@ -13,7 +13,7 @@ use Rattle.prelude.specs.Refusals.{first, stage_of}
 use Rattle.jose.specs.HeaderRules.{mode_in}
 use Rattle.headers.specs.Headers.{too_long, text_order}
 use Rattle.headers.specs.Answers.{code_components, header_buffer}
-use Rattle.prelude.specs.declared.Stage.TheVariants as stage
+use Rattle.prelude.specs.Refusals as stage
 use Rattle.headers.proofs.Stages.{passed_is, not_long}
 use Rattle.jwe.specs.Compact.{compact_components}
 use Rattle.jwe.specs.Judge.{accepted}

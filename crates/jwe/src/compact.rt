@@ -12,18 +12,12 @@ ghost use Rattle.jwe.specs.Inner.Outcomes.{compact_outcome};
 ghost use Rattle.jwe.specs.Inner.Stages.{Judges};
 ghost use Rattle.jwe.specs.Inner.Holding.{HoldsBy};
 ghost use Rattle.headers.specs.Answers.{code_place, code_components, components_of};
-ghost use Rattle.jwe.specs.Answers.{split_of};
+ghost use Rattle.jwe.specs.Answers.{split_of, as_result, as_holding};
 
-use crate::{Holding, Result, handed, held, refused};
+use crate::{Holding, Reading};
 use headers::Components;
-use prelude::{Place, Stage};
-
-// The components between full stops, or that there are not exactly four full stops.
-#[derive(Clone, Copy)]
-pub enum FullStops {
-    Four(Components),
-    Other,
-}
+use prelude::Place;
+use prelude::refusal::Refusal;
 
 // What stands between two full stops.
 fn between(a: usize, b: usize) -> Place
@@ -36,8 +30,8 @@ fn between(a: usize, b: usize) -> Place
     }
 }
 
-// The components of a message.
-pub(crate) fn split(message: &[u8]) -> FullStops
+// The components between full stops; none where there are not exactly four full stops.
+pub(crate) fn split(message: &[u8]) -> Option<Components>
     requires { length message.now ≤ longest }
     ensures { result ≡ split_of message.now }
 {
@@ -48,12 +42,12 @@ pub(crate) fn split(message: &[u8]) -> FullStops
     let fourth = parts::seek(message, third + 1, 46);
     let last = parts::seek(message, fourth + 1, 46);
     if n <= fourth {
-        return FullStops::Other;
+        return None;
     }
     if last != n {
-        return FullStops::Other;
+        return None;
     }
-    FullStops::Four(Components {
+    Some(Components {
         protected: Place {
             start: 0,
             len: first,
@@ -96,24 +90,18 @@ fn judge_header(
     recipient: u32,
     text: &mut [u8],
     table: &mut [u32],
-) -> Result
+) -> Result<Reading, Refusal>
     requires message_value { four_stops message.now ≡ true }
     requires q_value { q ≡ code_components (compact_components message.now) }
     requires q_value_2 { any (misspelled message.now) (places (components_of q)) ≡ false }
     requires known_value { filled known.now ≡ true }
     requires text_len { length text.old ≡ header_room }
     requires header_table_in_bounds { header_table ≤ length table.old }
-    ensures { Judges message.now (compact_order message.now (names known.now) recipient) (compact_outcome message.now) result text.old text.new table.old table.new }
+    ensures { Judges message.now (compact_order message.now (names known.now) recipient) (compact_outcome message.now) (as_result result) text.old text.new table.old table.new }
 {
-    let decoded = headers::header(message, q.protected, text);
-    let Stage::Passed(n) = decoded else {
-        return handed(decoded);
-    };
-    let collected = headers::protected_entries(&text[..n], table);
-    let Stage::Passed(count) = collected else {
-        return handed(collected);
-    };
-    let judged = jose::judge::judge(
+    let n = headers::header(message, q.protected, text)?;
+    let count = headers::protected_entries(&text[..n], table)?;
+    let mode = jose::judge::judge(
         &text[..n],
         message,
         message,
@@ -121,22 +109,18 @@ fn judge_header(
         table,
         count,
         headers::sizes(q),
-    );
-    let Stage::Passed(mode) = judged else {
-        return handed(judged);
-    };
+    )?;
     if 1 <= recipient {
-        return refused(19);
+        return Err(Refusal::NoSuchRecipient);
     }
-    Result {
-        number: 0,
+    Ok(Reading {
         form: 0,
         recipients: 1,
         mode: mode as u32,
         components: q,
         header: n,
         parameters: count,
-    }
+    })
 }
 
 // A compact message judged in document 01's order, from 4 on; `text` and `table` are room for the decoded header and for
@@ -147,19 +131,16 @@ pub(crate) fn judge(
     recipient: u32,
     text: &mut [u8],
     table: &mut [u32],
-) -> Result
+) -> Result<Reading, Refusal>
     requires message_len_bound { length message.now ≤ longest }
     requires known_value { filled known.now ≡ true }
     requires text_len { length text.old ≡ header_room }
     requires header_table_in_bounds { header_table ≤ length table.old }
-    ensures { Judges message.now (compact_order message.now (names known.now) recipient) (compact_outcome message.now) result text.old text.new table.old table.new }
+    ensures { Judges message.now (compact_order message.now (names known.now) recipient) (compact_outcome message.now) (as_result result) text.old text.new table.old table.new }
 {
-    let found = split(message);
-    let FullStops::Four(q) = found else {
-        return refused(4);
-    };
+    let q = split(message).ok_or(Refusal::FullStops)?;
     if misspelled(message, q) {
-        return refused(5);
+        return Err(Refusal::Misspelled);
     }
     judge_header(message, q, known, recipient, text, table)
 }
@@ -172,7 +153,7 @@ pub(crate) fn hold(
     table: &mut [u32],
     of: &mut [usize],
     counts: &mut [usize],
-) -> Holding
+) -> Result<Holding, Refusal>
     requires message_len_bound { length message.now ≤ longest }
     requires known_value { filled known.now ≡ true }
     requires text_len { length text.old ≡ header_room }
@@ -180,23 +161,19 @@ pub(crate) fn hold(
     requires of_len { length of.old ≡ recipients_room }
     requires counts_len { length counts.old ≡ most_recipients }
     ensures { (own : List ℕ) → HoldsBy message.now (compact_order message.now (names known.now) 0)
-        (compact_held message.now) result text.new table.new of.new own
+        (compact_held message.now) (as_holding result) text.new table.new of.new own
         counts.new }
 {
-    let result = judge(message, known, 0, text, table);
-    if result.number != 0 {
-        return held::refused(result.number);
-    }
-    let q = result.components;
+    let reading = judge(message, known, 0, text, table)?;
+    let q = reading.components;
     of[1] = q.key.start;
     of[2] = q.key.len;
     counts[0] = 0;
-    Holding {
-        number: 0,
+    Ok(Holding {
         form: 0,
         recipients: 1,
         components: q,
-        header: result.header,
-        common: result.parameters,
-    }
+        header: reading.header,
+        common: reading.parameters,
+    })
 }

@@ -8,7 +8,7 @@ ghost use Rattle.prelude.specs.Any.{any};
 ghost use Rattle.rows.specs.Rows.{read_texts};
 ghost use Rattle.rows.specs.Tables.{entries_of, header_table, recipient_table, width};
 ghost use Rattle.rows.specs.Inner.Prints.{collected_table, Printed};
-ghost use Rattle.prelude.specs.Refusals.{first, stage_of};
+ghost use Rattle.prelude.specs.Refusals.{first, stage_of, as_stage};
 ghost use Rattle.headers.specs.Components.{absent, misspelled};
 ghost use Rattle.headers.specs.Headers.{header_text, protected_entries, header_entries, object_order};
 ghost use Rattle.headers.specs.Answers.{place_of, components_of, header_buffer};
@@ -16,7 +16,7 @@ ghost use Rattle.shape.specs.Inner.Answers.{recipient_width, recipients_room, to
 ghost use Rattle.jwe.specs.General.{all_places, json_later, json_order};
 ghost use Rattle.jwe.specs.Judge.{accepted, json_held, outcome_for};
 ghost use Rattle.jwe.specs.Inner.Outcomes.{json_outcome};
-ghost use Rattle.jwe.specs.Answers.{numbers};
+ghost use Rattle.jwe.specs.Answers.{numbers, reading_of, as_result, holding_of, as_holding};
 ghost use Rattle.jose.specs.ContentAlgorithm.{differing};
 ghost use Rattle.jose.specs.Inner.Content.{named_in};
 ghost use Rattle.jwe.specs.Inner.Stages.{recipients_of, Owned, LeavesOwn, text_tests, protected_tests, own_tests, rule_tests};
@@ -24,13 +24,14 @@ ghost use Rattle.jwe.specs.Inner.Stages.{KeepsFront, own_contents, ruled_tests};
 ghost use Rattle.jwe.specs.Inner.Stages.{HeaderKnown, HeadersKnown, all_tests, own_table, Judges};
 ghost use Rattle.jwe.specs.Inner.Holding.{Holds, HoldsBy, Gathers, held_of};
 
-use crate::{Holding, Result, held, refused};
+use crate::{Holding, Reading, held};
 use headers::Components;
 use jose::content::Named;
 use jose::lists::ENC;
 use json_read::Position;
 use prelude::limits::{MOST_MEMBERS, MOST_RECIPIENTS};
-use prelude::{Place, Stage};
+use prelude::Place;
+use prelude::refusal::Refusal;
 use rows::layout;
 use shape::held::Top;
 
@@ -73,52 +74,49 @@ fn misspelled(message: &[u8], q: Components, of: &[usize], number: usize) -> boo
 }
 
 // 6 and 7 on the protected header, if it is there: it is decoded into the buffer, and how long it is, 0 where there is none.
-fn decoded(message: &[u8], there: bool, place: Place, text: &mut [u8]) -> Stage
+fn decoded(message: &[u8], there: bool, place: Place, text: &mut [u8]) -> Result<usize, Refusal>
     requires place_value { misspelled message.now (place_of place) ≡ false }
     requires place_value_2 { there ≡ false → place_of place ≡ absent }
     requires text_len { length text.old ≡ header_room }
-    ensures value { result ≡ stage_of (first (text_tests there (header_text message.now (place_of place)))) (length (header_text message.now (place_of place))) }
+    ensures value { as_stage result ≡ stage_of (first (text_tests there (header_text message.now (place_of place)))) (length (header_text message.now (place_of place))) }
     ensures text_after { text.new ≡ header_buffer (header_text message.now (place_of place)) text.old }
 {
     if !there {
-        return Stage::Passed(0);
+        return Ok(0);
     }
     headers::header(message, place, text)
 }
 
 // 10 where the protected header is there and has no member; 8 and 9 on it: its parameters as entries of
 // the table. Where it has none, 8 and 9 pass, so that 10 is asked after them.
-fn protected(header: &[u8], there: bool, table: &mut [u32]) -> Stage
+fn protected(header: &[u8], there: bool, table: &mut [u32]) -> Result<usize, Refusal>
     requires header_len_bound { length header.now ≤ longest }
     requires header_table_in_bounds { header_table ≤ length table.old }
-    ensures value { result ≡ stage_of (first (protected_tests there header.now)) (length (protected_entries header.now)) }
+    ensures value { as_stage result ≡ stage_of (first (protected_tests there header.now)) (length (protected_entries header.now)) }
     ensures table_after { table.new ≡ collected_table 0 header.now (protected_entries header.now) table.old }
 {
     let list = jose::lists::REGISTERED;
     let at = Position { at: 0 }.skip_space(header).at;
-    let object = headers::object(header, at, 0, &list, table, 0, false);
-    let Stage::Passed(count) = object else {
-        return object;
-    };
+    let count = headers::object(header, at, 0, &list, table, 0, false)?;
     if there {
         if count == 0 {
-            return Stage::Refused(10);
+            return Err(Refusal::Shape);
         }
     }
-    Stage::Passed(count)
+    Ok(count)
 }
 
 // 8 and 9 on a header that stands in the message, if its start is not 0: its parameters as entries of the
 // table from the entry `from` on.
-fn unprotected(message: &[u8], start: usize, origin: u32, table: &mut [u32], from: usize) -> Stage
+fn unprotected(message: &[u8], start: usize, origin: u32, table: &mut [u32], from: usize) -> Result<usize, Refusal>
     requires message_len_bound { length message.now ≤ longest }
     requires header_table_in_bounds { from * width + header_table ≤ length table.old }
     requires header_known { HeaderKnown message.now start }
-    ensures value { result ≡ stage_of (first (object_order message.now (header_entries message.now origin start))) (length (header_entries message.now origin start)) }
+    ensures value { as_stage result ≡ stage_of (first (object_order message.now (header_entries message.now origin start))) (length (header_entries message.now origin start)) }
     ensures table_after { table.new ≡ collected_table from message.now (header_entries message.now origin start) table.old }
 {
     if start == 0 {
-        return Stage::Passed(0);
+        return Ok(0);
     }
     let list = jose::lists::REGISTERED;
     headers::object(message, start, origin, &list, table, from, true)
@@ -132,32 +130,28 @@ fn own_headers(
     number: usize,
     own: &mut [u32],
     counts: &mut [usize],
-) -> Stage
+) -> Result<usize, Refusal>
     requires message_len_bound { length message.now ≤ longest }
     requires number_le_most_recipients { number ≤ most_recipients }
     requires recipient_width_in_bounds { number * recipient_width ≤ length of.now }
     requires own_len { length own.old ≡ own_table }
     requires counts_len { length counts.old ≡ most_recipients }
     requires headers_known { HeadersKnown message.now (recipients_of number of.now) }
-    ensures value { result ≡ stage_of (first (own_tests message.now (recipients_of number of.now))) number }
-    ensures leaves_own { LeavesOwn number message.now of.now own.new counts.new result }
+    ensures value { as_stage result ≡ stage_of (first (own_tests message.now (recipients_of number of.now))) number }
+    ensures leaves_own { LeavesOwn number message.now of.now own.new counts.new (as_stage result) }
 {
     let mut i: usize = 0;
     while i < number {
-        let object = unprotected(
+        counts[i] = unprotected(
             message,
             of[i * shape::RECIPIENT_WIDTH],
             2,
             own,
             i * MOST_MEMBERS,
-        );
-        let Stage::Passed(count) = object else {
-            return object;
-        };
-        counts[i] = count;
+        )?;
         i += 1;
     }
-    Stage::Passed(number)
+    Ok(number)
 }
 
 // 12 to 18 on each recipient in turn. The first entries of the table, which are all recipients', stay as they are.
@@ -172,7 +166,7 @@ fn rules(
     counts: &[usize],
     table: &mut [u32],
     front: usize,
-) -> Stage
+) -> Result<usize, Refusal>
     requires known_value { filled known.now ≡ true }
     requires number_le_most_recipients { number ≤ most_recipients }
     requires recipient_width_in_bounds { number * recipient_width ≤ length of.now }
@@ -181,20 +175,17 @@ fn rules(
     requires owned { Owned number message.now of.now own.now counts.now }
     requires header_table_in_bounds { front * width + header_table ≤ length table.old }
     requires printed { Printed (read_texts header.now message.now) front table.old }
-    ensures value { result ≡ stage_of (first (rule_tests (names known.now) header.now message.now (entries_of front table.old) (components_of q) (recipients_of number of.now))) number }
+    ensures value { as_stage result ≡ stage_of (first (rule_tests (names known.now) header.now message.now (entries_of front table.old) (components_of q) (recipients_of number of.now))) number }
     ensures keeps_front { KeepsFront (read_texts header.now message.now) front table.old table.new }
 {
     let mut i: usize = 0;
     while i < number {
         let count = held::gather(own, counts, i, table, front);
         let sizes = headers::sizes(headers::with_key(q, held::key(of, i)));
-        let judged = jose::judge::judge(header, message, message, known, table, count, sizes);
-        let Stage::Passed(_) = judged else {
-            return judged;
-        };
+        jose::judge::judge(header, message, message, known, table, count, sizes)?;
         i += 1;
     }
-    Stage::Passed(number)
+    Ok(number)
 }
 
 // Where the content algorithm of a recipient's own header stands.
@@ -251,7 +242,7 @@ fn ruled(
     counts: &[usize],
     table: &mut [u32],
     front: usize,
-) -> Stage
+) -> Result<usize, Refusal>
     requires known_value { filled known.now ≡ true }
     requires number_le_most_recipients { number ≤ most_recipients }
     requires recipient_width_in_bounds { number * recipient_width ≤ length of.now }
@@ -260,22 +251,19 @@ fn ruled(
     requires owned { Owned number message.now of.now own.now counts.now }
     requires header_table_in_bounds { front * width + header_table ≤ length table.old }
     requires printed { Printed (read_texts header.now message.now) front table.old }
-    ensures value { result ≡ stage_of (first (ruled_tests (names known.now) header.now message.now (entries_of front table.old) (components_of q) (recipients_of number of.now))) number }
+    ensures value { as_stage result ≡ stage_of (first (ruled_tests (names known.now) header.now message.now (entries_of front table.old) (components_of q) (recipients_of number of.now))) number }
     ensures keeps_front { KeepsFront (read_texts header.now message.now) front table.old table.new }
 {
-    let each = rules(
+    rules(
         header, message, known, q, of, number, own, counts, table, front,
-    );
-    let Stage::Passed(_) = each else {
-        return each;
-    };
+    )?;
     if rows::ask::present(table, front, ENC) {
-        return Stage::Passed(number);
+        return Ok(number);
     }
     if contents_differ(message, own, counts, number, 0) {
-        return Stage::Refused(21);
+        return Err(Refusal::ContentAlgorithms);
     }
-    Stage::Passed(number)
+    Ok(number)
 }
 
 // All recipients judged: 8 and 9 on their own headers, whose parameters are left in a table, 12 to 18 on each, and 21. The first
@@ -291,7 +279,7 @@ fn judged(
     counts: &mut [usize],
     table: &mut [u32],
     front: usize,
-) -> Stage
+) -> Result<usize, Refusal>
     requires message_len_bound { length message.now ≤ longest }
     requires known_value { filled known.now ≡ true }
     requires number_le_most_recipients { number ≤ most_recipients }
@@ -301,14 +289,11 @@ fn judged(
     requires header_table_in_bounds { front * width + header_table ≤ length table.old }
     requires printed { Printed (read_texts header.now message.now) front table.old }
     requires headers_known { HeadersKnown message.now (recipients_of number of.now) }
-    ensures value { result ≡ stage_of (first (all_tests (names known.now) header.now message.now (entries_of front table.old) (components_of q) (recipients_of number of.now))) number }
-    ensures leaves_own { LeavesOwn number message.now of.now own.new counts.new result }
+    ensures value { as_stage result ≡ stage_of (first (all_tests (names known.now) header.now message.now (entries_of front table.old) (components_of q) (recipients_of number of.now))) number }
+    ensures leaves_own { LeavesOwn number message.now of.now own.new counts.new (as_stage result) }
     ensures keeps_front { KeepsFront (read_texts header.now message.now) front table.old table.new }
 {
-    let collected = own_headers(message, of, number, own, counts);
-    let Stage::Passed(_) = collected else {
-        return collected;
-    };
+    own_headers(message, of, number, own, counts)?;
     ruled(
         header, message, known, q, of, number, own, counts, table, front,
     )
@@ -326,7 +311,7 @@ fn shaped(
     table: &mut [u32],
     own: &mut [u32],
     counts: &mut [usize],
-) -> Holding
+) -> Result<Holding, Refusal>
     requires message_len_bound { length message.now ≤ longest }
     requires known_value { filled known.now ≡ true }
     requires le_number { 1 ≤ number }
@@ -343,22 +328,13 @@ fn shaped(
     ensures { HoldsBy message.now
         (json_later (names known.now) message.now (top_in top) (recipients_of number of.now) 0)
         (held_of message.now (top_in top) (recipients_of number of.now))
-        result text.new table.new of.now own.new counts.new }
+        (as_holding result) text.new table.new of.now own.new counts.new }
 {
-    let header = decoded(message, top.protected, top.components.protected, text);
-    let Stage::Passed(h) = header else {
-        return held::handed(header);
-    };
-    let protected_ones = protected(&text[..h], top.protected, table);
-    let Stage::Passed(p) = protected_ones else {
-        return held::handed(protected_ones);
-    };
-    let shared = unprotected(message, top.shared, 1, table, p);
-    let Stage::Passed(s) = shared else {
-        return held::handed(shared);
-    };
+    let h = decoded(message, top.protected, top.components.protected, text)?;
+    let p = protected(&text[..h], top.protected, table)?;
+    let s = unprotected(message, top.shared, 1, table, p)?;
     let q = top.components;
-    let all = judged(
+    judged(
         &text[..h],
         message,
         known,
@@ -369,18 +345,14 @@ fn shaped(
         counts,
         table,
         p + s,
-    );
-    let Stage::Passed(_) = all else {
-        return held::handed(all);
-    };
-    Holding {
-        number: 0,
+    )?;
+    Ok(Holding {
         form: top.form,
         recipients: number,
         components: q,
         header: h,
         common: p + s,
-    }
+    })
 }
 
 // A JSON message judged, and what it holds.
@@ -392,7 +364,7 @@ pub(crate) fn hold(
     of: &mut [usize],
     own: &mut [u32],
     counts: &mut [usize],
-) -> Holding
+) -> Result<Holding, Refusal>
     requires message_len_bound { length message.now ≤ longest }
     requires known_value { filled known.now ≡ true }
     requires text_len { length text.old ≡ header_room }
@@ -401,21 +373,15 @@ pub(crate) fn hold(
     requires own_len { length own.old ≡ own_table }
     requires counts_len { length counts.old ≡ most_recipients }
     ensures { HoldsBy message.now (json_order message.now (names known.now) 0)
-        (json_held message.now) result text.new table.new of.new own.new
+        (json_held message.now) (as_holding result) text.new table.new of.new own.new
         counts.new }
 {
     let mut members = [0u32; layout::HEADER_TABLE];
-    let outermost = shape::top(message, &mut members);
-    let Stage::Passed(count) = outermost else {
-        return held::handed(outermost);
-    };
-    let elements = shape::recipients(message, &members, count, of);
-    let Stage::Passed(number) = elements else {
-        return held::handed(elements);
-    };
+    let count = shape::top(message, &mut members)?;
+    let number = shape::recipients(message, &members, count, of)?;
     let top = shape::held::held(&members, count);
     if misspelled(message, top.components, of, number) {
-        return held::refused(5);
+        return Err(Refusal::Misspelled);
     }
     shaped(message, known, top, of, number, text, table, own, counts)
 }
@@ -430,20 +396,19 @@ fn hand_out(
     counts: &[usize],
     i: usize,
     table: &mut [u32],
-) -> Result
+) -> Reading
     requires text_len { length text.now ≡ header_room }
     requires table_len { length table.old ≡ recipient_table }
     requires of_len { length of.now ≡ recipients_room }
     requires own_len { length own.now ≡ own_table }
     requires counts_len { length counts.now ≡ most_recipients }
     requires i_lt_recipients { i < has.recipients }
-    requires holds { Holds message.now (json_held message.now) has text.now table.old of.now own.now counts.now }
-    ensures result_value { numbers result ≡ accepted message.now (outcome_for (json_held message.now) i) }
+    requires holds { Holds message.now (json_held message.now) (holding_of has) text.now table.old of.now own.now counts.now }
+    ensures result_value { numbers (reading_of result) ≡ accepted message.now (outcome_for (json_held message.now) i) }
     ensures gathers { Gathers message.now (json_held message.now) i has.common result.parameters table.new }
 {
     let parameters = held::gather(own, counts, i, table, has.common);
-    Result {
-        number: 0,
+    Reading {
         form: has.form,
         recipients: has.recipients,
         mode: jose::rules::mode(&text[..has.header], message, message, table, parameters),
@@ -460,23 +425,20 @@ pub(crate) fn judge(
     recipient: u32,
     text: &mut [u8],
     table: &mut [u32],
-) -> Result
+) -> Result<Reading, Refusal>
     requires message_len_bound { length message.now ≤ longest }
     requires known_value { filled known.now ≡ true }
     requires text_len { length text.old ≡ header_room }
     requires table_len { length table.old ≡ recipient_table }
-    ensures { Judges message.now (json_order message.now (names known.now) recipient) (json_outcome message.now recipient) result text.old text.new table.old table.new }
+    ensures { Judges message.now (json_order message.now (names known.now) recipient) (json_outcome message.now recipient) (as_result result) text.old text.new table.old table.new }
 {
     let mut of = [0usize; shape::RECIPIENTS_ROOM];
     let mut own = [0u32; held::OWN_TABLE];
     let mut counts = [0usize; MOST_RECIPIENTS];
-    let has = hold(message, known, text, table, &mut of, &mut own, &mut counts);
-    if has.number != 0 {
-        return refused(has.number);
-    }
+    let has = hold(message, known, text, table, &mut of, &mut own, &mut counts)?;
     let i = recipient as usize;
     if has.recipients <= i {
-        return refused(19);
+        return Err(Refusal::NoSuchRecipient);
     }
-    hand_out(message, has, text, &of, &own, &counts, i, table)
+    Ok(hand_out(message, has, text, &of, &own, &counts, i, table))
 }

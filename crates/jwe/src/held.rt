@@ -6,48 +6,13 @@ ghost use Rattle.prelude.specs.Limits.{most_members, most_recipients};
 ghost use Rattle.rows.specs.Tables.{header_table, width};
 ghost use Rattle.headers.specs.Answers.{place_of};
 ghost use Rattle.shape.specs.Inner.Answers.{recipient_width};
-ghost use Rattle.jwe.specs.Answers.{refused_by};
 ghost use Rattle.jwe.specs.Inner.Stages.{recipient_at, own_table};
 
-use crate::Holding;
-use headers::Components;
-use prelude::{Place, Stage};
+use prelude::Place;
 use rows::layout;
 
 // The room of a table for the own headers of all recipients.
 pub const OWN_TABLE: usize = 2048;
-
-// A refusal: its number with zeros.
-pub(crate) fn refused(n: u32) -> Holding
-    ensures { result.number ≡ n }
-{
-    let none = Place { start: 0, len: 0 };
-    Holding {
-        number: n,
-        form: 0,
-        recipients: 0,
-        components: Components {
-            protected: none,
-            key: none,
-            iv: none,
-            aad: none,
-            ciphertext: none,
-            tag: none,
-        },
-        header: 0,
-        common: 0,
-    }
-}
-
-// The refusal of a stage: its number with zeros.
-pub(crate) fn handed(stage: Stage) -> Holding
-    ensures { result.number ≡ refused_by stage }
-{
-    let Stage::Refused(n) = stage else {
-        return refused(0);
-    };
-    refused(n)
-}
 
 // The place of a recipient's key.
 pub fn key(of: &[usize], i: usize) -> Place

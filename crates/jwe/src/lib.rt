@@ -9,23 +9,22 @@ ghost use Rattle.jwe.specs.Compact.{compact_order};
 ghost use Rattle.jwe.specs.General.{json_order};
 ghost use Rattle.rows.specs.Tables.{recipient_table};
 ghost use Rattle.shape.specs.Inner.Answers.{recipients_room};
-ghost use Rattle.jwe.specs.Judge.{call, held, refusal, outcome, result_of, refused, header_after, list_after};
-ghost use Rattle.jwe.specs.Answers.{numbers, refused_by};
+ghost use Rattle.jwe.specs.Judge.{call, held, refusal, outcome, result_of, header_after, list_after};
+ghost use Rattle.jwe.specs.Answers.{numbers, as_result, as_holding};
 ghost use Rattle.jwe.specs.Inner.Stages.{table_room, own_table, Judges};
 ghost use Rattle.jwe.specs.Inner.Holding.{Holds};
 
 use headers::Components;
 use prelude::limits::{HEADER_ROOM, LIST_ROOM, LONGEST};
-use prelude::{Place, Stage};
+use prelude::refusal::Refusal;
 
 mod compact;
 mod general;
 pub mod held;
 
-// What the reader answers (document 01, 'What the reader hands out').
+// What the reader answers of an accepted message (document 01, 'What the reader hands out').
 #[derive(Clone, Copy)]
-pub struct Result {
-    pub number: u32,
+pub struct Reading {
     pub form: u32,
     pub recipients: usize,
     pub mode: u32,
@@ -35,11 +34,10 @@ pub struct Result {
 }
 
 // What an accepted message holds, for any recipient (specs/Judge `Held`): its form, how many recipients it has, the components but the
-// keys of JSON recipients, how long the decoded protected header is, and how many parameters are all recipients'. `number` is the
-// refusal, 0 where there is none. The rest stands in the tables that `hold` fills.
+// keys of JSON recipients, how long the decoded protected header is, and how many parameters are all recipients'. The rest stands in the
+// tables that `hold` fills.
 #[derive(Clone, Copy)]
 pub struct Holding {
-    pub number: u32,
     pub form: u32,
     pub recipients: usize,
     pub components: Components,
@@ -47,46 +45,19 @@ pub struct Holding {
     pub common: usize,
 }
 
-// A refusal: its number with zeros.
-pub(crate) fn refused(n: u32) -> Result
-    ensures { numbers result ≡ refused n }
-{
-    let none = Place { start: 0, len: 0 };
-    Result {
-        number: n,
-        form: 0,
-        recipients: 0,
-        mode: 0,
-        components: Components {
-            protected: none,
-            key: none,
-            iv: none,
-            aad: none,
-            ciphertext: none,
-            tag: none,
-        },
-        header: 0,
-        parameters: 0,
-    }
-}
-
-// The refusal of a stage: its number with zeros.
-pub(crate) fn handed(stage: Stage) -> Result
-    ensures { numbers result ≡ refused (refused_by stage) }
-{
-    let Stage::Refused(n) = stage else {
-        return refused(0);
-    };
-    refused(n)
-}
-
 // A message judged in document 01's order, from 4 on: a JSON message where it opens an object, a compact one elsewhere.
-fn judge(message: &[u8], known: &[u8], recipient: u32, text: &mut [u8], table: &mut [u32]) -> Result
+fn judge(
+    message: &[u8],
+    known: &[u8],
+    recipient: u32,
+    text: &mut [u8],
+    table: &mut [u32],
+) -> Result<Reading, Refusal>
     requires message_len_bound { length message.now ≤ longest }
     requires known_value { filled known.now ≡ true }
     requires text_len { length text.old ≡ header_room }
     requires table_len { length table.old ≡ table_room (opens_object message.now) }
-    ensures { Judges message.now (cond (opens_object message.now) (json_order message.now (names known.now) recipient) (compact_order message.now (names known.now) recipient)) (outcome message.now recipient) result text.old text.new table.old table.new }
+    ensures { Judges message.now (cond (opens_object message.now) (json_order message.now (names known.now) recipient) (compact_order message.now (names known.now) recipient)) (outcome message.now recipient) (as_result result) text.old text.new table.old table.new }
 {
     if json_read::opens_object(message) {
         return general::judge(message, known, recipient, text, table);
@@ -103,13 +74,13 @@ fn hand_over(
     table: &mut [u32],
     header: &mut [u8],
     list: &mut [u32],
-) -> Result
+) -> Result<Reading, Refusal>
     requires message_len_bound { length message.now ≤ longest }
     requires known_value { sound known.now ≡ true }
     requires table_len { length table.old ≡ table_room (opens_object message.now) }
     requires header_room_in_bounds { header_room ≤ length header.old }
     requires list_room_in_bounds { list_room ≤ length list.old }
-    ensures r_value { numbers result
+    ensures r_value { numbers (as_result result)
         ≡ result_of (call message.now known.now recipient
         (length header.old) (length list.old)) }
     ensures header_after { header.new
@@ -120,13 +91,10 @@ fn hand_over(
         (length header.old) (length list.old)) list.old }
 {
     let mut text = [0u8; HEADER_ROOM];
-    let result = judge(message, known, recipient, &mut text, table);
-    if result.number != 0 {
-        return result;
-    }
-    prelude::copy_octets(&text[..result.header], header, 0);
-    rows::copy::lay(table, result.parameters, list);
-    result
+    let reading = judge(message, known, recipient, &mut text, table)?;
+    prelude::copy_octets(&text[..reading.header], header, 0);
+    rows::copy::lay(table, reading.parameters, list);
+    Ok(reading)
 }
 
 // Reads a message for a recipient. `known` lists the extension names that the caller knows. Accepted, the header buffer
@@ -138,8 +106,8 @@ pub fn read(
     recipient: u32,
     header: &mut [u8],
     list: &mut [u32],
-) -> Result
-    ensures r_value { numbers result
+) -> Result<Reading, Refusal>
+    ensures r_value { numbers (as_result result)
         ≡ result_of (call message.now known.now recipient
         (length header.old) (length list.old)) }
     ensures header_after { header.new
@@ -150,16 +118,16 @@ pub fn read(
         (length header.old) (length list.old)) list.old }
 {
     if header.len() < HEADER_ROOM {
-        return refused(1);
+        return Err(Refusal::ShortOutput);
     }
     if list.len() < LIST_ROOM {
-        return refused(1);
+        return Err(Refusal::ShortOutput);
     }
     if LONGEST < message.len() {
-        return refused(2);
+        return Err(Refusal::LongMessage);
     }
     if !names::sound(known) {
-        return refused(3);
+        return Err(Refusal::KnownNames);
     }
     if json_read::opens_object(message) {
         let mut three = [0u32; rows::layout::RECIPIENT_TABLE];
@@ -180,21 +148,21 @@ pub fn hold(
     of: &mut [usize],
     own: &mut [u32],
     counts: &mut [usize],
-) -> Holding
+) -> Result<Holding, Refusal>
     requires text_len { length text.old ≡ header_room }
     requires table_len { length table.old ≡ recipient_table }
     requires of_len { length of.old ≡ recipients_room }
     requires own_len { length own.old ≡ own_table }
     requires counts_len { length counts.old ≡ most_recipients }
-    ensures number_value { result.number ≡ refusal (call message.now known.now 0 header_room list_room) }
-    ensures fact { (result.number ≡ 0 → Holds message.now (held message.now) result text.new
+    ensures number_value { (as_holding result).number ≡ refusal (call message.now known.now 0 header_room list_room) }
+    ensures fact { ((as_holding result).number ≡ 0 → Holds message.now (held message.now) (as_holding result) text.new
         table.new of.new own.new counts.new) }
 {
     if LONGEST < message.len() {
-        return held::refused(2);
+        return Err(Refusal::LongMessage);
     }
     if !names::sound(known) {
-        return held::refused(3);
+        return Err(Refusal::KnownNames);
     }
     if json_read::opens_object(message) {
         return general::hold(message, known, text, table, of, own, counts);

@@ -16,18 +16,19 @@ use Rattle.prelude.specs.Limits.{longest}
 use Rattle.grammar.specs.Reader.{read_text}
 use Rattle.json_read.specs.Inner.Ends.{found_of}
 use Rattle.json_read.specs.declared.Found.{Found}
+use Rattle.std.specs.Prelude as std
 use Rattle.jose.specs.declared.Sizes.{Sizes}
 use Rattle.headers.specs.Headers.{unread, text_order, protected_entries, object_order}
 use Rattle.headers.proofs.Texts.{no_value, by_reading}
 use Rattle.headers.proofs.Stages.{text_nonzero, object_nonzero, stopped}
 use Rattle.jwe_write.specs.Write.{Raw, raw_sizes, compact_text, writer_rules, parameters_order, write_order, write_refusal}
 use Rattle.jwe_write.specs.Answers.{WritesCompact}
-use Rattle.prelude.specs.declared.Stage.TheVariants.{Passed, Refused}
+use Rattle.prelude.specs.Refusals.{Passed, Refused}
 
 -- 6 and 7 on a header, by its length and its reading
 
 module _ (header : List ℕ) where
-  pub unread_is : {answer : Found} → answer ≡ found_of (read_text 12 header) → unread header ≡ no_value answer
+  pub unread_is : {answer : std.Option Found} → answer ≡ found_of (read_text 12 header) → unread header ≡ no_value answer
   unfolding unread
   unread_is a = sym (ap no_value a ∙ by_reading (read_text 12 header))
 

@@ -2,8 +2,8 @@
 use Rattle.std.specs.Prelude.{List, ℕ, length}
 use Rattle.prelude.specs.Outputs.{output_after, Writes}
 use Rattle.jwe_write.specs.Write.{Raw, compact_text, write_refusal}
-use Rattle.prelude.specs.declared.Stage.{Stage}
-use Rattle.prelude.specs.declared.Stage.TheVariants.{Passed, Refused}
+use Rattle.prelude.specs.Refusals.{Stage}
+use Rattle.prelude.specs.Refusals.{Passed, Refused}
 
 -- Document 01's number for each answer, and the octets written.
 

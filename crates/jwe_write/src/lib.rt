@@ -8,7 +8,7 @@ ghost use Rattle.prelude.specs.Limits.{header_room, longest};
 ghost use Rattle.base64url.specs.Base64url.{encoded};
 ghost use Rattle.names.specs.Names.{names, filled};
 ghost use Rattle.rows.specs.Rows.{one_text};
-ghost use Rattle.prelude.specs.Refusals.{first, stage_of};
+ghost use Rattle.prelude.specs.Refusals.{first, stage_of, as_stage};
 ghost use Rattle.jose.specs.HeaderRules.{mode_in};
 ghost use Rattle.prelude.specs.Ascii.{full_stop};
 ghost use Rattle.headers.specs.Headers.{text_order, protected_entries};
@@ -16,38 +16,44 @@ ghost use Rattle.jwe_write.specs.Write.{raw, compact_text, parameters_order};
 ghost use Rattle.jwe_write.specs.Answers.{WritesCompact};
 
 use jose::Sizes;
-use json_read::Found;
-use prelude::Stage;
+use prelude::refusal::Refusal;
 use prelude::limits::{HEADER_ROOM, LEVELS, LONGEST};
+use rows::table::{Entries, Headers, Texts};
 
 // The header
 
 // 6 and 7 on its text: how long it is.
-fn text(header: &[u8]) -> Stage
-    ensures { result ≡ stage_of (first (text_order header.now)) (length header.now) }
+fn text(header: &[u8]) -> Result<usize, Refusal>
+    ensures { as_stage result ≡ stage_of (first (text_order header.now)) (length header.now) }
 {
     if HEADER_ROOM < header.len() {
-        return Stage::Refused(6);
+        return Err(Refusal::LongHeader);
     }
-    let judged = json_read::judge(header, LEVELS);
-    let Found::Value(_, _) = judged else {
-        return Stage::Refused(7);
+    let Some(_) = json_read::judge(header, LEVELS) else {
+        return Err(Refusal::Unread);
     };
-    Stage::Passed(header.len())
+    Ok(header.len())
 }
 
 // 8, 9 and 13 to 18 on its parameters: the mode of the algorithm.
-fn parameters(header: &[u8], known: &[u8], sizes: Sizes) -> Stage
+fn parameters(header: &[u8], known: &[u8], sizes: Sizes) -> Result<usize, Refusal>
     requires header_len_bound { length header.now ≤ header_room }
     requires known_value { filled known.now ≡ true }
-    ensures { result ≡ stage_of (first (parameters_order (names known.now) header.now sizes)) (mode_in (one_text header.now) (protected_entries header.now)) }
+    ensures { as_stage result ≡ stage_of (first (parameters_order (names known.now) header.now sizes)) (mode_in (one_text header.now) (protected_entries header.now)) }
 {
     let mut table = [0u32; rows::layout::HEADER_TABLE];
-    let collected = headers::protected_entries(header, &mut table);
-    let Stage::Passed(count) = collected else {
-        return collected;
+    let count = headers::protected_entries(header, &mut table)?;
+    let texts = Texts {
+        header,
+        shared: header,
+        own: header,
     };
-    jose::judge::judge_protected(header, known, &table, count, sizes)
+    let entries = Entries {
+        table: &table,
+        count,
+    };
+    let only = Headers { texts, entries };
+    jose::judge::judge_protected(only, known, sizes)
 }
 
 // The message
@@ -127,32 +133,26 @@ pub fn write(
     tag: &[u8],
     known: &[u8],
     out: &mut [u8],
-) -> Stage
-    ensures { WritesCompact (raw header.now key.now iv.now ciphertext.now tag.now) known.now out.old result out.new }
+) -> Result<usize, Refusal>
+    ensures { WritesCompact (raw header.now key.now iv.now ciphertext.now tag.now) known.now out.old (as_stage result) out.new }
 {
     if !names::sound(known) {
-        return Stage::Refused(3);
+        return Err(Refusal::KnownNames);
     }
-    let read = text(header);
-    let Stage::Passed(_) = read else {
-        return read;
-    };
+    text(header)?;
     let sizes = Sizes {
         key: key.len(),
         iv: iv.len(),
         ciphertext: ciphertext.len(),
         tag: tag.len(),
     };
-    let ruled = parameters(header, known, sizes);
-    let Stage::Passed(_) = ruled else {
-        return ruled;
-    };
+    parameters(header, known, sizes)?;
     let n = message_length(header, key, iv, ciphertext, tag);
     if LONGEST < n {
-        return Stage::Refused(2);
+        return Err(Refusal::LongMessage);
     }
     if out.len() < n {
-        return Stage::Refused(1);
+        return Err(Refusal::ShortOutput);
     }
-    Stage::Passed(put_message(header, key, iv, ciphertext, tag, out))
+    Ok(put_message(header, key, iv, ciphertext, tag, out))
 }

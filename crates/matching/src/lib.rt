@@ -9,6 +9,7 @@ ghost use Rattle.rows.specs.Inner.Prints.{Printed};
 ghost use Rattle.rows.specs.Tables.{entries_of};
 ghost use Rattle.matching.specs.Inner.Places.{printed_prop, EachReads, each_reads_prop};
 
+use rows::table::Texts;
 use rows::{ask, layout};
 use same::Value;
 
@@ -76,7 +77,12 @@ impl<'a, 't> Side<'a, 't> {
         if ask::field(self.table, i, layout::PRINT) != print {
             return false;
         }
-        rows::repeat::says(self.header, self.message, self.message, self.table, i, w)
+        let texts = Texts {
+            header: self.header,
+            shared: self.message,
+            own: self.message,
+        };
+        texts.says(ask::entry(self.table, i), w)
     }
 
     // The first entry, from one on, whose name says what that of entry i of another side does.

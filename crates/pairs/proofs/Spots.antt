@@ -9,11 +9,10 @@ use lib.ListN.{length, length-append}
 use Rattle.grammar.specs.Grammar.{curly}
 use Rattle.grammar.specs.Places.{Member}
 use Rattle.grammar.specs.Reader.{entry_at, value_at, members_at}
-use Rattle.json_read.specs.Members.{first_in, member_of}
+use Rattle.json_read.specs.Members.{first_in, row_here, member_of}
 use Rattle.json_read.specs.Inner.Known.{KnownEntry, KnownIn}
 use Rattle.json_read.specs.declared.Position.{Position}
 use Rattle.json_read.specs.declared.member.Row.{Row}
-use Rattle.json_read.specs.declared.member.Member.TheVariants.{Here}
 use Rattle.distinct.specs.Names.{depth, same_name}
 use Rattle.distinct.specs.Inner.Walking.{row_member, rows_from}
 use Rattle.distinct.proofs.Walks.{members_all, known_all, row_more, known_more, entry_known}
@@ -37,7 +36,7 @@ module _ (t : List ℕ) (j turns q : ℕ) (c : SpotAt t j turns q) where
     pub spot_known : KnownEntry curly depth t q
     spot_known = entry_known curly t turns q h c.known
 
-    module _ (row : Row) (next : Position) (e : Here row next ≡ member_of t (entry_at (value_at depth t) curly t q)) where
+    module _ (row : Row) (next : Position) (e : row_here row next ≡ member_of t (entry_at (value_at depth t) curly t q)) where
       spot_among : members_at depth t j ≡ c.before ++ (row_member row ∷ rows_from curly t (turns - 1) next.at)
       spot_among = c.rows ∙ ap (λ r. c.before ++ r) (row_more curly t turns q h row next e)
 

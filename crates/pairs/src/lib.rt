@@ -14,7 +14,7 @@ ghost use Rattle.pairs.specs.Inner.Walks.{Spot, Table, Near, Scanned, Finds, Goi
 mod table;
 
 use json_read::Position;
-use json_read::member::{Member, Row};
+use json_read::member::Row;
 
 // Where a walk stands: at a left member, with the turns that are left; at a right member; and the left member's number in the
 // window for which the table has places.
@@ -60,12 +60,11 @@ fn near(s: &[u8], t: &[u8], row: Row, at: usize, q: Position, number: usize) -> 
     requires at_in_bounds { length (members_at depth t.now at) < length t.now }
     ensures { Near s.now t.now at (row_member row) number result }
 {
-    let beside = q.member(t, 12, true);
-    let Member::Here(other, next) = beside else {
+    let Some(beside) = q.member(t, 12, true) else {
         return Found::Other;
     };
-    if distinct::same_name(s, t, row, other) {
-        return Found::Named(other, next, number);
+    if distinct::same_name(s, t, row, beside.row) {
+        return Found::Named(beside.row, beside.next, number);
     }
     Found::Other
 }
@@ -95,14 +94,13 @@ fn scan(s: &[u8], t: &[u8], row: Row, at: usize, number: usize) -> Found
     let mut p = Position { at }.inside(t);
     let mut left = t.len();
     while 0 < left {
-        let found = p.member(t, 12, true);
-        let Member::Here(other, next) = found else {
+        let Some(found) = p.member(t, 12, true) else {
             return Found::Other;
         };
-        if distinct::same_name(s, t, row, other) {
-            return Found::Named(other, next, number);
+        if distinct::same_name(s, t, row, found.row) {
+            return Found::Named(found.row, found.next, number);
         }
-        p = next;
+        p = found.next;
         left -= 1;
     }
     Found::Other
@@ -199,19 +197,18 @@ pub fn next(
     if walk.left == 0 {
         return Step::End;
     }
-    let here = walk.at.member(s, 12, true);
-    let Member::Here(row, next) = here else {
+    let Some(here) = walk.at.member(s, 12, true) else {
         return Step::End;
     };
-    let found = find(s, t, row, at, n, walk, size, work);
+    let found = find(s, t, here.row, at, n, walk, size, work);
     let Found::Named(other, behind, number) = found else {
         return Step::Lone;
     };
     Step::Pair(
-        row,
+        here.row,
         other,
         Walk {
-            at: next,
+            at: here.next,
             left: walk.left - 1,
             cursor: behind,
             number: after(number, size),

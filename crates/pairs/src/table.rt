@@ -13,7 +13,6 @@ ghost use Rattle.distinct.specs.Inner.Filter.{Empty};
 ghost use Rattle.pairs.specs.Inner.Walks.{Table, Kept, Left};
 
 use json_read::Position;
-use json_read::member::Member;
 
 // Where the search for a fingerprint begins.
 fn start(v: u32, size: usize) -> usize
@@ -94,12 +93,11 @@ fn enter(s: &[u8], from: Position, turns: usize, size: usize, work: &mut [u32])
         if 4294967295 < number {
             return;
         }
-        let found = p.member(s, 12, true);
-        let Member::Here(row, next) = found else {
+        let Some(found) = p.member(s, 12, true) else {
             return;
         };
-        put(work, size, distinct::window::tag_of(s, row), number);
-        p = next;
+        put(work, size, distinct::window::tag_of(s, found.row), number);
+        p = found.next;
         left -= 1;
         number += 1;
     }
@@ -115,13 +113,12 @@ fn meet(t: &[u8], at: usize, size: usize, work: &mut [u32])
     let mut p = Position { at }.inside(t);
     let mut left = t.len();
     while 0 < left {
-        let found = p.member(t, 12, true);
-        let Member::Here(row, next) = found else {
+        let Some(found) = p.member(t, 12, true) else {
             return;
         };
-        let number = look(work, size, distinct::window::tag_of(t, row));
+        let number = look(work, size, distinct::window::tag_of(t, found.row));
         store(work, size, number, p.at);
-        p = next;
+        p = found.next;
         left -= 1;
     }
 }

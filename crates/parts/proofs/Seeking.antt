@@ -1,6 +1,6 @@
--- Seeking as the code does it: one octet at a time, or past a block in which the octet does not stand.
+-- Seeking an octet: it is the kind of octets that stands first, by one octet or past several in which it does not stand.
 use mathlib.Core.Path.{◌≡◌, refl, ap, sym, ◌∙◌}
-use mathlib.Core.Bool.{Bool, true, false, ◌||◌, cond, true≢false}
+use mathlib.Core.Bool.{Bool, true, false, not, ◌||◌, cond, true≢false}
 use mathlib.Core.List.{List, [], ◌∷◌, ◌++◌}
 use Prim.Native.Nat.{ℕ, zero, suc, ◌+◌, ◌-◌, ◌≤◌, ◌<◌, max}
 use native.Mathlib.Nat.{le_of_suc-le-suc, not-suc-le-zero}
@@ -10,8 +10,9 @@ use lib.ListN.{length, take, drop, get_or, length-take, length-drop, drop_of_len
 use lib.Seq.{take-suc, take-nil}
 use lib.Dec.{eqb, ltb}
 use borrow.Author.Tests.{eq-eqb, ne_eqb, eqb-true, lt-ltb, le-ltb}
+use Rattle.std.specs.List.{position_or_len}
 use Rattle.prelude.proofs.Lists.{drop_next, split_drop}
-use Rattle.parts.specs.Parts.{seek_in, seek, holds, count}
+use Rattle.parts.specs.Parts.{seek_in, seek, holds}
 
 -- One octet
 
@@ -28,40 +29,21 @@ module _ (c : ℕ) (s : List ℕ) (at : ℕ) where
     pub seek_stop : get_or s at 0 ≡ c → seek c s at ≡ at
     seek_stop e = seek_here ∙ ap (λ (b : Bool). cond b at (seek c s (at + 1))) (eq-eqb (get_or s at 0) c e)
 
-    pub seek_next : (get_or s at 0 ≡ c → ⊥) → seek c s at ≡ seek c s (at + 1)
-    seek_next n = seek_here ∙ ap (λ (b : Bool). cond b at (seek c s (at + 1))) (ne_eqb (get_or s at 0) c n)
-
--- A block
-
 module _ (c : ℕ) where
-  count_append : (a b : List ℕ) → count c (a ++ b) ≡ count c a + count c b
-  unfolding count
-  count_append [] b = omega arith
-  count_append (x ∷ a) b = omega (arith, count_append a b)
-
-  module _ (s : List ℕ) (k : ℕ) (h : k < length s) where
-    count_next : count c (take (k + 1) s) ≡ count c (take k s) + cond (eqb (get_or s k 0) c) 1 0
-    unfolding count
-    count_next =
-        ap (count c) (ap (λ (n : ℕ). take n s) (add-one k) ∙ take-suc s k 0 h)
-        ∙ count_append (take k s) (get_or s k 0 ∷ []) ∙ omega arith
-
-    pub count_one : get_or s k 0 ≡ c → count c (take (k + 1) s) ≡ count c (take k s) + 1
-    count_one e = count_next ∙ ap (λ (b : Bool). count c (take k s) + cond b 1 0) (eq-eqb (get_or s k 0) c e)
-
-    pub count_other : (get_or s k 0 ≡ c → ⊥) → count c (take (k + 1) s) ≡ count c (take k s)
-    count_other n =
-        count_next ∙ ap (λ (b : Bool). count c (take k s) + cond b 1 0) (ne_eqb (get_or s k 0) c n) ∙ omega arith
-
-  count_none : (a : List ℕ) → count c a ≡ 0 → holds c a ≡ false
-  unfolding count holds
-  count_none [] e = refl
-  count_none (x ∷ a) e = cases (eqb x c) e (count_none a)
+  -- What is sought is the first of the octets that are c.
+  seek_in_is : (t : List ℕ) (at : ℕ) → seek_in c t at ≡ at + position_or_len (λ x. eqb x c) t
+  unfolding seek_in
+  seek_in_is [] at = omega arith
+  seek_in_is (x ∷ t) at = cases (eqb x c) (seek_in_is t (at + 1))
     where
-      cases : (b : Bool) → cond b 1 0 + count c a ≡ 0 → (count c a ≡ 0 → holds c a ≡ false)
-          → (b || holds c a) ≡ false
-      cases true e later = absurd (omega (arith, e))
-      cases false e later = later (omega (arith, e))
+      cases : (b : Bool) → seek_in c t (at + 1) ≡ at + 1 + position_or_len (λ y. eqb y c) t
+          → cond b at (seek_in c t (at + 1)) ≡ at + cond (not b) (1 + position_or_len (λ y. eqb y c) t) 0
+      cases true later = omega arith
+      cases false later = omega (arith, later)
+
+  pub seek_is : (s : List ℕ) (at : ℕ) → at + position_or_len (λ x. eqb x c) (drop at s) ≡ seek c s at
+  unfolding seek
+  seek_is s at = sym (seek_in_is (drop at s) at)
 
   -- octets among which c does not stand are passed over
   pub passed : (a t : List ℕ) (at : ℕ) → holds c a ≡ false → seek_in c (a ++ t) at ≡ seek_in c t (at + length a)
@@ -83,10 +65,6 @@ module _ (c : ℕ) where
       omega (arith, length-take (e - i) (drop i s), length-drop i s) in
       sym (ap (λ (t : List ℕ). seek_in c t i) (split_drop s i e h)
       ∙ passed (take (e - i) (drop i s)) (drop e s) i none ∙ ap (seek_in c (drop e s)) size)
-
-  pub seek_block : (s : List ℕ) (i e : ℕ) → i ≤ e → e ≤ length s → count c (take (e - i) (drop i s)) ≡ 0
-      → seek c s e ≡ seek c s i
-  seek_block s i e h l none = skipped s i e h l (count_none (take (e - i) (drop i s)) none)
 
   -- Where it ends
 

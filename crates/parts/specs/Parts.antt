@@ -29,8 +29,3 @@ seek c s at = seek_in c (drop at s) at
 unfoldable pub holds : ℕ → List ℕ → Bool
 holds c [] = false
 holds c (x ∷ t) = let later = holds c t in eqb x c || later
-
--- how often it does: what is counted in vectors
-unfoldable pub count : ℕ → List ℕ → ℕ
-count c [] = 0
-count c (x ∷ t) = cond (eqb x c) 1 0 + count c t

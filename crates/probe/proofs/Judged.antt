@@ -9,9 +9,8 @@ use Rattle.grammar.specs.Grammar.{opening, curly}
 use Rattle.grammar.specs.Utf8.{utf8}
 use Rattle.grammar.specs.Reader.{octet_at, skip_space, Answer, nothing, found, value_at, wholly, read_text}
 use Rattle.grammar.proofs.Endings.{either}
-use Rattle.json_read.specs.Inner.Ends.{found_of}
+use Rattle.json_read.specs.Inner.Ends.{value_to, found_of}
 use Rattle.json_read.specs.declared.Position.{Position}
-use Rattle.json_read.specs.declared.Found.TheVariants.{Value}
 use Rattle.json_read.proofs.Levels.{not_found}
 use Rattle.json_read.proofs.ValueParts.{is_found}
 
@@ -26,6 +25,6 @@ text_reads l s e k =
     (eqb (octet_at s (skip_space s 0)) (opening curly) && utf8 s) (λ _. whole s (value_at l s (skip_space s 0)) e k)
     (λ _ g. absurd (not_found g))
 
-pub judged : (l : ℕ) (s : List ℕ) (p : Position) (k at : ℕ) → Value p k ≡ found_of (read_text l s) → at ≡ skip_space s 0 →
+pub judged : (l : ℕ) (s : List ℕ) (p : Position) (k at : ℕ) → value_to p k ≡ found_of (read_text l s) → at ≡ skip_space s 0 →
     value_at l s at ≡ found p.at k
 judged l s p k at h e = ap (value_at l s) e ∙ text_reads l s p.at k (is_found _ p k h)

@@ -12,8 +12,7 @@ ghost use Rattle.grammar.specs.Spellings.{alike, has};
 ghost use Rattle.json_read.specs.Inner.Numbers.{judge_refusal, value_kind, found_end};
 ghost use Rattle.probe.specs.Inner.Texts.{texts_same};
 
-use base64url::{Checked, Encoded};
-use json_read::{Found, Position};
+use json_read::Position;
 use same::Value;
 
 // 0 or 5.
@@ -23,8 +22,8 @@ pub extern "C" fn probe_check(text: &[u8]) -> u32
 {
     let answer = base64url::check(text);
     match answer {
-        Checked::Sound => 0,
-        Checked::Faulty => 5,
+        Ok(()) => 0,
+        Err(_) => 5,
     }
 }
 
@@ -45,11 +44,11 @@ pub extern "C" fn probe_encode(octets: &[u8], out: &mut [u8], at: usize, end: &m
 {
     let answer = base64url::encode(octets, out, at);
     match answer {
-        Encoded::End(next) => {
+        Some(next) => {
             *end = next;
             0
         }
-        Encoded::Full => {
+        None => {
             *end = 0;
             1
         }
@@ -64,11 +63,11 @@ pub extern "C" fn probe_judge(text: &[u8], levels: u32, end: &mut usize) -> u32
 {
     let answer = json_read::judge(text, levels);
     match answer {
-        Found::Value(last, _) => {
-            *end = last.at;
+        Some(object) => {
+            *end = object.end.at;
             0
         }
-        Found::Nothing => {
+        None => {
             *end = 0;
             7
         }
@@ -100,11 +99,11 @@ pub extern "C" fn probe_value(text: &[u8], at: usize, levels: u32, end: &mut usi
 {
     let answer = Position { at }.value(text, levels);
     match answer {
-        Found::Value(after, kind) => {
-            *end = after.at;
-            kind as u32
+        Some(found) => {
+            *end = found.end.at;
+            found.kind as u32
         }
-        Found::Nothing => {
+        None => {
             *end = 0;
             7
         }
@@ -116,25 +115,23 @@ pub extern "C" fn probe_value(text: &[u8], at: usize, levels: u32, end: &mut usi
 pub extern "C" fn probe_same(s: &[u8], t: &[u8]) -> u32
     ensures { result ≡ texts_same s.now t.now (found_of (read_text 12 s.now)) (found_of (read_text 12 t.now)) }
 {
-    let one = json_read::judge(s, 12);
-    let Found::Value(end, kind) = one else {
+    let Some(one) = json_read::judge(s, 12) else {
         return 2;
     };
-    let other = json_read::judge(t, 12);
-    let Found::Value(stop, sort) = other else {
+    let Some(other) = json_read::judge(t, 12) else {
         return 2;
     };
     let first = Position { at: 0 }.skip_space(s);
     let begin = Position { at: 0 }.skip_space(t);
     let a = Value {
         start: first.at,
-        len: prelude::minus(end.at, first.at),
-        kind,
+        len: prelude::minus(one.end.at, first.at),
+        kind: one.kind,
     };
     let b = Value {
         start: begin.at,
-        len: prelude::minus(stop.at, begin.at),
-        kind: sort,
+        len: prelude::minus(other.end.at, begin.at),
+        kind: other.kind,
     };
     let mut work = [0u32; 262144];
     if same::same(s, t, a, b, 12, &mut work) {

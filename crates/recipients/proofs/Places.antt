@@ -15,7 +15,7 @@ use Rattle.recipients.specs.Table.{RawRecipient}
 use Rattle.recipients.specs.Parsed.{said_count, header_length, key_length, body_start, recipient_at, recipients_from}
 use Rattle.recipients.specs.Parsed.{recipients_in, sound_table}
 use Rattle.recipients.specs.Inner.Answers.{count_answer}
-use Rattle.recipients.specs.declared.Counted.TheVariants.{Recipients, Malformed}
+use Rattle.std.specs.Prelude.{Some, None}
 
 -- Where bodies begin
 
@@ -85,16 +85,16 @@ module _ (t : List ℕ) where
       pub filled_sound : body_start t (said_count t) ≡ length t → sound_table t ≡ true
       filled_sound e = behind_second ∙ eq-eqb (body_start t (said_count t)) (length t) e
 
-  pub count_malformed : sound_table t ≡ false → Malformed ≡ count_answer t
+  pub count_malformed : sound_table t ≡ false → None ≡ count_answer t
   unfolding count_answer
-  count_malformed e = sym (ap (λ (b : Bool). cond b (Recipients (said_count t)) Malformed) e)
+  count_malformed e = sym (ap (λ (b : Bool). cond b (Some (said_count t)) None) e)
 
-  pub count_sound : sound_table t ≡ true → Recipients (said_count t) ≡ count_answer t
+  pub count_sound : sound_table t ≡ true → Some (said_count t) ≡ count_answer t
   unfolding count_answer
-  count_sound e = sym (ap (λ (b : Bool). cond b (Recipients (said_count t)) Malformed) e)
+  count_sound e = sym (ap (λ (b : Bool). cond b (Some (said_count t)) None) e)
 
   -- what the answer says of the table
-  module _ (n : ℕ) (said : count_answer t ≡ Recipients n) where
+  module _ (n : ℕ) (said : count_answer t ≡ Some n) where
     pub counted_sound : sound_table t ≡ true
     unfolding count_answer
     counted_sound = cases (sound_table t) refl
@@ -106,7 +106,7 @@ module _ (t : List ℕ) where
     pub counted : n ≡ said_count t
     counted = cc (count_sound counted_sound)
 
-  pub uncounted : count_answer t ≡ Malformed → sound_table t ≡ false
+  pub uncounted : count_answer t ≡ None → sound_table t ≡ false
   uncounted said = cases (sound_table t) refl
     where
       cases : (b : Bool) → sound_table t ≡ b → sound_table t ≡ false

@@ -9,14 +9,8 @@ ghost use Rattle.recipients.specs.Inner.Answers.{count_answer, body_at};
 use prelude::Place;
 use prelude::limits::MOST_RECIPIENTS;
 
+pub mod bodies;
 pub mod four;
-
-// How many recipients a table has, or that it is malformed.
-#[derive(Clone, Copy)]
-pub enum Counted {
-    Recipients(usize),
-    Malformed,
-}
 
 // Where a recipient's header and key stand in the table; either may have length 0.
 #[derive(Clone, Copy)]
@@ -26,33 +20,25 @@ pub struct Body {
 }
 
 // How many recipients a table has, if it is sound. The sum of at most 16 lengths of four octets does not wrap.
-pub fn count(table: &[u8]) -> Counted
+pub fn count(table: &[u8]) -> Option<usize>
     ensures { result ≡ count_answer table.now }
 {
-    if table.len() == 0 {
-        return Counted::Malformed;
-    }
-    let n = table[0] as usize;
-    if n < 1 {
-        return Counted::Malformed;
-    }
-    if MOST_RECIPIENTS < n {
-        return Counted::Malformed;
+    let n = usize::from(*table.first()?);
+    if n < 1 || MOST_RECIPIENTS < n {
+        return None;
     }
     let mut end = 1 + 8 * n;
     if table.len() < end {
-        return Counted::Malformed;
+        return None;
     }
-    let mut i: usize = 0;
-    while i < n {
+    for i in 0..n {
         let at = 1 + 8 * i;
         end += four::four_at(table, at) + four::four_at(table, at + 4);
-        i += 1;
     }
     if end != table.len() {
-        return Counted::Malformed;
+        return None;
     }
-    Counted::Recipients(n)
+    Some(n)
 }
 
 // Where the header and the key of the i-th recipient stand, counted from 0 on; `start` is where its body begins, and the

@@ -4,6 +4,7 @@ use mathlib.Core.Bool.{Bool, true, false, cond}
 use mathlib.Core.List.{List, ◌++◌}
 use Prim.Native.Nat.{ℕ, ◌+◌, ◌≤◌, ◌<◌}
 use native.Mathlib.Omega.{arith}
+use Rattle.std.specs.Prelude.{None, Some}
 use lib.ListN.{length, drop, get_or}
 use lib.Dec.{eqb, ltb}
 use borrow.Author.Tests.{lt-ltb, le-ltb, eq-eqb, ne_eqb, eqb-true}
@@ -17,11 +18,10 @@ use Rattle.rows.proofs.Entries.{listed_length}
 use Rattle.jose.specs.HeaderRules.{mode_in}
 use Rattle.jwe.specs.Judge.{refusal, Outcome, outcome, accepted, refused, result_of, list_after}
 use Rattle.jwe.specs.Answers.{numbers}
-use Rattle.jwe.specs.declared.Result.{Result}
+use Rattle.jwe.specs.Answers.{Result}
 use Rattle.meets.proofs.HandedFits.{handed_fits}
 use Rattle.report.specs.Report.{most_read, first_line, component_lines, too_long, refused_report, accepted_report, reading, report}
 use Rattle.report.specs.Answers.{report_room, report_order, report_refusal, Reports, list_lines, result_report}
-use Rattle.report.specs.declared.Reported.TheVariants.{Octets, Short}
 use Rattle.report.proofs.Listing.{listed_lines}
 
 -- The report on an accepted message
@@ -96,7 +96,7 @@ module _ (message out : List ℕ) where
   unfolding report_refusal report_order first
   by_room b e = ap (λ (t : Bool). cond t 1 0) e
 
-  pub too_short : length out < report_room → Reports message out Short out
+  pub too_short : length out < report_room → Reports message out None out
   too_short h = record {
     writes =
         writes_refused (report_refusal (length out)) (report message) out 1
@@ -110,7 +110,7 @@ module _ (message out : List ℕ) where
     Put text n last = (n ≡ length text) × ((last ≡ written 0 text out) × (n ≤ length out))
 
     reported : (text : List ℕ) → report message ≡ text → (n : ℕ) (last : List ℕ) → Put text n last →
-        Reports message out (Octets n) last
+        Reports message out (Some n) last
     reported text e n last p = record {
       writes =
           writes_done (report_refusal (length out)) (report message) out
@@ -119,7 +119,7 @@ module _ (message out : List ℕ) where
       fits = p.1.1;
     }
 
-    pub reports_long : most_read < length message → (n : ℕ) (last : List ℕ) → Put too_long n last → Reports message out (Octets n) last
+    pub reports_long : most_read < length message → (n : ℕ) (last : List ℕ) → Put too_long n last → Reports message out (Some n) last
     unfolding report
     reports_long h =
         reported too_long
@@ -138,11 +138,11 @@ module _ (message out : List ℕ) where
           (le-ltb most_read (length message) read) e
 
       pub reports_accepted : number message ≡ 0 → (text : List ℕ) → text ≡ accepted_report message (outcome message 0) →
-          (n : ℕ) (last : List ℕ) → Put text n last → Reports message out (Octets n) last
+          (n : ℕ) (last : List ℕ) → Put text n last → Reports message out (Some n) last
       reports_accepted z text e = reported text (by_number _ (eq-eqb (number message) 0 z) ∙ sym e)
 
       pub reports_refused : (k : ℕ) → k ≡ number message → (k ≡ 0 → ⊥) → (n : ℕ) (last : List ℕ) →
-          Put (refused_report k) n last → Reports message out (Octets n) last
+          Put (refused_report k) n last → Reports message out (Some n) last
       reports_refused k e z =
           reported (refused_report k)
           (by_number _ (ne_eqb (number message) 0 (λ q. z (e ∙ q))) ∙ ap refused_report (sym e))

@@ -11,7 +11,7 @@ use Rattle.grammar.specs.Places.{Place}
 use Rattle.rows.specs.Tables.{first_of}
 use Rattle.headers.specs.Answers.{components_of}
 use Rattle.jwe.specs.Answers.{numbers}
-use Rattle.jwe.specs.declared.Result.{Result}
+use Rattle.jwe.specs.Answers.{Result}
 use Rattle.jwe.proofs.Small.{limit, recipients_small, protected_small, key_small, iv_small, aad_small}
 use Rattle.jwe.proofs.Small.{ciphertext_small, tag_small}
 use Rattle.report.specs.Text.{decimal, word}

@@ -1,13 +1,11 @@
 -- What the code answers and what the lent output holds afterwards; and the lines by the numbers that the reader hands out.
-use Rattle.std.specs.Prelude.{List, [], ◌∷◌, ◌++◌, ℕ, zero, suc, ◌≤◌, length, take, drop, ltb}
+use Rattle.std.specs.Prelude.{List, [], ◌∷◌, ◌++◌, ℕ, zero, suc, Option, Some, None, ◌≤◌, length, take, drop, ltb}
 use Rattle.prelude.specs.Refusals.{Test, ◌if◌, first}
 use Rattle.prelude.specs.Outputs.{Writes}
 use Rattle.rows.specs.Tables.{first_of}
 use Rattle.headers.specs.Answers.{components_of}
-use Rattle.jwe.specs.declared.Result.{Result}
+use Rattle.jwe.specs.Answers.{Result}
 use Rattle.report.specs.Report.{first_line, component_lines, parameter_line, report}
-use Rattle.report.specs.declared.Reported.{Reported}
-use Rattle.report.specs.declared.Reported.TheVariants.{Octets, Short}
 
 -- What has to be lent: room for the longest report, of 96 parameters.
 abbrev pub report_room : ℕ
@@ -21,18 +19,18 @@ report_order lent = 1 if ltb lent report_room ∷ []
 unfoldable pub report_refusal : ℕ → ℕ
 report_refusal lent = first (report_order lent)
 
--- Document 01's number for each answer, and the octets written.
+-- Document 01's number for each answer, and the octets written: where there is no answer, too little is lent.
 
-abbrev pub report_number : Reported → ℕ
-report_number (Octets n) = 0
-report_number Short = 1
+abbrev pub report_number : Option ℕ → ℕ
+report_number (Some n) = 0
+report_number None = 1
 
-abbrev pub report_count : Reported → ℕ
-report_count (Octets n) = n
-report_count Short = 0
+abbrev pub report_count : Option ℕ → ℕ
+report_count (Some n) = n
+report_count None = 0
 
 -- The answer and the output afterwards, of a message and the output before; the octets fit.
-pub record Reports (message before : List ℕ) (answer : Reported) (after : List ℕ) : Type 0 where
+pub record Reports (message before : List ℕ) (answer : Option ℕ) (after : List ℕ) : Type 0 where
   pub writes :
       Writes (report_refusal (length before)) (report message) before (report_number answer) (report_count answer) after
   pub fits : report_count answer ≤ length before

@@ -15,13 +15,6 @@ use prelude::limits::{HEADER_ROOM, LIST_ROOM};
 mod lines;
 mod words;
 
-// The octets written, or that too little is lent.
-#[derive(Clone, Copy)]
-pub enum Reported {
-    Octets(usize),
-    Short,
-}
-
 fn put_too_long(out: &mut [u8]) -> usize
     requires { report_room ≤ length out.old }
     ensures value { result ≡ length too_long }
@@ -56,23 +49,24 @@ fn put_accepted(r: Result, list: &[u32], out: &mut [u8]) -> usize
     lines::put_parameters(list, r.parameters, out, b)
 }
 
-// Reads a message of at most 61,440 octets with no known names, for recipient 0, and writes the report on it at the
-// output's start. The rest of the output is unchanged; all of it is where fewer than 8,192 octets are lent.
-pub fn report(message: &[u8], out: &mut [u8]) -> Reported
+// Reads a message of at most 61,440 octets with no known names, for recipient 0, writes the report on it at the output's
+// start, and answers how many octets it is. The rest of the output is unchanged; all of it is where fewer than 8,192 octets
+// are lent, and the answer None.
+pub fn report(message: &[u8], out: &mut [u8]) -> Option<usize>
     ensures { Reports message.now out.old result out.new }
 {
     if out.len() < 8192 {
-        return Reported::Short;
+        return None;
     }
     if 61440 < message.len() {
-        return Reported::Octets(put_too_long(out));
+        return Some(put_too_long(out));
     }
     let known = [0u8; 1];
     let mut header = [0u8; HEADER_ROOM];
     let mut list = [0u32; LIST_ROOM];
     let answer = gateway::read(message, &known, 0, &mut header, &mut list);
     if answer.number == 0 {
-        return Reported::Octets(put_accepted(answer, &list, out));
+        return Some(put_accepted(answer, &list, out));
     }
-    Reported::Octets(put_refused(answer.number, out))
+    Some(put_refused(answer.number, out))
 }

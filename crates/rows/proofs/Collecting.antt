@@ -17,7 +17,7 @@ use Rattle.grammar.specs.Places.{Member}
 use Rattle.grammar.specs.Spellings.{undo}
 use Rattle.spelling.specs.Inner.Fingerprints.{fingerprint}
 use Rattle.json_read.specs.Members as rows
-use Rattle.json_read.specs.declared.member.Collected.TheVariants.{Rows, More}
+use Rattle.std.specs.Prelude.{Some, None}
 use Rattle.json_read.proofs.MemberTable as table
 use Rattle.json_read.specs.Members.{member_width}
 use Rattle.rows.specs.Rows.{entry_of, entries_in}
@@ -119,12 +119,12 @@ members_flat [] rest = refl
 members_flat (m ∷ ms) rest = ap (λ (l : List Member). m ∷ l) (members_flat ms rest)
 
 -- An object of at most 32 members, as json answers it
-module _ (ms : List Member) (count : ℕ) (answered : Rows count ≡ rows.collected_of ms) where
+module _ (ms : List Member) (count : ℕ) (answered : Some count ≡ rows.collected_of ms) where
   few_counted : (length ms ≤ 32) × (length ms ≡ count)
   unfolding rows.collected_of
   few_counted = cases (leb (length ms) 32) refl answered
     where
-      cases : (b : Bool) → leb (length ms) 32 ≡ b → Rows count ≡ cond b (Rows (length ms)) More →
+      cases : (b : Bool) → leb (length ms) 32 ≡ b → Some count ≡ cond b (Some (length ms)) None →
           (length ms ≤ 32) × (length ms ≡ count)
       cases true t e = let same : count ≡ length ms = cc in (leb-true (length ms) 32 t, sym same)
       cases false t e = let z : ◌≡◌ {A = ℕ} 0 1 = cc in absurd (omega arith)
@@ -158,12 +158,12 @@ module _ (ms : List Member) (count : ℕ) (answered : Rows count ≡ rows.collec
         (le-leb (length (entries_in names s o ms)) 32 fits))
 
 -- Where there are more the table is unchanged.
-pub none_collected : (ms : List Member) → More ≡ rows.collected_of ms → (names : List (List ℕ)) (s : List ℕ) (o from : ℕ)
+pub none_collected : (ms : List Member) → None ≡ rows.collected_of ms → (names : List (List ℕ)) (s : List ℕ) (o from : ℕ)
     (before : List ℕ) → before ≡ collected_table from s (entries_in names s o ms) before
 unfolding rows.collected_of collected_table entries_in
 none_collected ms answered names s o from before = cases (leb (length ms) 32) refl answered
   where
-    cases : (b : Bool) → leb (length ms) 32 ≡ b → More ≡ cond b (Rows (length ms)) More →
+    cases : (b : Bool) → leb (length ms) 32 ≡ b → None ≡ cond b (Some (length ms)) None →
         before ≡ collected_table from s (entries_in names s o ms) before
     cases true t e = let z : ◌≡◌ {A = ℕ} 0 1 = cc in absurd (omega arith)
     cases false t e =

@@ -1,10 +1,14 @@
-// Questions on a table of entries.
-ghost use Rattle.std.specs.Prelude.{◌≡◌, ◌+◌, ◌-◌, ◌*◌, ◌≤◌, ◌<◌, length, drop, get_or};
+// Questions on an entry, on its texts, and on the entries of a table.
+ghost use Rattle.std.specs.Prelude.{Bool, ◌≡◌, ◌+◌, ◌-◌, ◌*◌, ◌≤◌, ◌<◌, length, drop, get_or};
+ghost use Rattle.prelude.specs.Any.{any};
 ghost use Rattle.prelude.specs.Limits.{number_limit};
-ghost use Rattle.rows.specs.Rows.{spelled_name, spelled_value, present, having, value_of};
-ghost use Rattle.rows.specs.Tables.{first_of, entries_of, width};
+ghost use Rattle.rows.specs.Rows.{Entry as Said};
+ghost use Rattle.rows.specs.Rows.{spelled_name, spelled_value, text_of, name_in, value_in, name_says, present, having, value_of};
+ghost use Rattle.rows.specs.Tables.{first_of, width};
+ghost use Rattle.rows.specs.Inner.Views.{the_entry, the_entries, the_texts};
 
 use crate::layout;
+use crate::table::{Entries, Entry, Texts};
 use prelude::Place;
 
 // The k-th of an entry's eight numbers.
@@ -17,68 +21,173 @@ pub fn field(table: &[u32], i: usize, k: usize) -> usize
     table[i * layout::WIDTH + k] as usize
 }
 
+// The i-th entry of a table.
+pub fn entry(table: &[u32], i: usize) -> Entry
+    requires { i * width + width ≤ length table.now }
+    ensures { result.numbers.now ≡ drop (i * width) table.now }
+{
+    Entry {
+        numbers: &table[i * layout::WIDTH..],
+    }
+}
+
 // The name of an entry as it is spelled: a part of the text that it stands in.
 pub fn name<'a>(text: &'a [u8], table: &[u32], i: usize) -> &'a [u8]
     requires { i * width + width ≤ length table.now }
     ensures { result.now ≡ spelled_name text.now (first_of (drop (i * width) table.now)).member }
 {
-    let start = field(table, i, layout::NAME_START);
-    let len = field(table, i, layout::NAME_SIZE);
-    parts::part(text, start, len)
+    entry(table, i).name(text)
 }
 
-// The value of an entry, a string, without quotation marks: a part of the text that it stands in.
-pub fn value<'a>(text: &'a [u8], table: &[u32], i: usize) -> &'a [u8]
-    requires { i * width + width ≤ length table.now }
-    ensures { result.now ≡ spelled_value text.now (first_of (drop (i * width) table.now)).member }
-{
-    let begin = field(table, i, layout::VALUE_START) + 1;
-    let size = prelude::minus(field(table, i, layout::VALUE_SIZE), 2);
-    parts::part(text, begin, size)
-}
-
-// The first entry from one on that has the n-th of the names; `count` where none does.
-pub fn next(table: &[u32], from: usize, count: usize, n: u32) -> usize
-    requires width_in_bounds { count * width ≤ length table.now }
-    requires from_le_count { from ≤ count }
-    ensures lower_bound { (from ≤ result) × (result ≤ count) }
-    ensures table_value { having n (drop result (entries_of count table.now)) ≡ having n (drop from (entries_of count table.now)) }
-    ensures table_value_2 { result < count → (first_of (drop (result * width) table.now)).number ≡ n }
-{
-    let mut i = from;
-    while i < count {
-        if field(table, i, layout::NUMBER) == n as usize {
-            return i;
-        }
-        i += 1;
+impl<'a> Entry<'a> {
+    pub fn origin(self) -> u32
+        ensures { result ≡ (the_entry self.entry).origin }
+    {
+        self.numbers[layout::ORIGIN]
     }
-    count
-}
 
-// Whether one of the first entries has the n-th of the names.
-pub fn present(table: &[u32], count: usize, n: u32) -> bool
-    requires { count * width ≤ length table.now }
-    ensures { result ≡ present n (entries_of count table.now) }
-{
-    next(table, 0, count, n) < count
-}
-
-// The place of the value of the first one that does, with quotation marks; 0, 0 where there is none.
-pub fn value_of(table: &[u32], count: usize, n: u32) -> Place
-    requires { count * width ≤ length table.now }
-    ensures start_value { result.start ≡ (value_of n (entries_of count table.now)).start }
-    ensures len_value { result.len ≡ (value_of n (entries_of count table.now)).size }
-    ensures start_lt_number_limit { result.start < number_limit }
-{
-    let mut j: usize = 0;
-    while j < count {
-        if field(table, j, layout::NUMBER) == n as usize {
-            return Place {
-                start: field(table, j, layout::VALUE_START),
-                len: field(table, j, layout::VALUE_SIZE),
-            };
-        }
-        j += 1;
+    pub fn kind(self) -> u32
+        ensures { result ≡ (the_entry self.entry).member.kind }
+    {
+        self.numbers[layout::KIND]
     }
-    Place { start: 0, len: 0 }
+
+    // Which of some names it has, counted from 1; 0 for none.
+    pub fn number(self) -> u32
+        ensures { result ≡ (the_entry self.entry).number }
+    {
+        self.numbers[layout::NUMBER]
+    }
+
+    // The fingerprint of what its name says.
+    pub fn print(self) -> u32
+        ensures { result ≡ get_or self.entry.numbers.now 7 0 }
+    {
+        self.numbers[layout::PRINT]
+    }
+
+    // The place of its value, with quotation marks.
+    pub fn value_place(self) -> Place
+        ensures start_value { result.start ≡ (the_entry self.entry).member.value_start }
+        ensures len_value { result.len ≡ (the_entry self.entry).member.value_size }
+        ensures start_lt_number_limit { result.start < number_limit }
+    {
+        Place {
+            start: self.numbers[layout::VALUE_START] as usize,
+            len: self.numbers[layout::VALUE_SIZE] as usize,
+        }
+    }
+
+    // Its name as it is spelled: a part of the text that it stands in.
+    pub fn name<'b>(self, text: &'b [u8]) -> &'b [u8]
+        ensures { result.now ≡ spelled_name text.now (the_entry self.entry).member }
+    {
+        let start = self.numbers[layout::NAME_START] as usize;
+        let len = self.numbers[layout::NAME_SIZE] as usize;
+        parts::part(text, start, len)
+    }
+
+    // Its value, a string, without quotation marks: a part of the text that it stands in.
+    pub fn value<'b>(self, text: &'b [u8]) -> &'b [u8]
+        ensures { result.now ≡ spelled_value text.now (the_entry self.entry).member }
+    {
+        let place = self.value_place();
+        parts::part(text, place.start + 1, prelude::minus(place.len, 2))
+    }
+}
+
+impl<'a> Texts<'a> {
+    // The one in which entries of an origin stand.
+    pub fn of(self, origin: u32) -> &'a [u8]
+        ensures { result.now ≡ text_of (the_texts self.entry) origin }
+    {
+        match origin {
+            0 => self.header,
+            1 => self.shared,
+            _ => self.own,
+        }
+    }
+
+    // The name of an entry, and its value, a string, as they are spelled.
+
+    pub fn name(self, e: Entry) -> &'a [u8]
+        ensures { result.now ≡ name_in (the_texts self.entry) (the_entry e.entry) }
+    {
+        e.name(self.of(e.origin()))
+    }
+
+    pub fn value(self, e: Entry) -> &'a [u8]
+        ensures { result.now ≡ value_in (the_texts self.entry) (the_entry e.entry) }
+    {
+        e.value(self.of(e.origin()))
+    }
+
+    // Whether the name of an entry says what a spelling does.
+    pub fn says(self, e: Entry, w: &[u8]) -> bool
+        ensures { result ≡ name_says (the_texts self.entry) w.now (the_entry e.entry) }
+    {
+        spelling::alike(self.name(e), w)
+    }
+}
+
+impl<'a> Entries<'a> {
+    // The i-th.
+    pub fn at(self, i: usize) -> Entry<'a>
+        requires { i < self.count }
+        ensures { result.numbers.now ≡ drop (i * width) self.entry.table.now }
+    {
+        entry(self.table, i)
+    }
+
+    // Whether one of them passes a test, whatever `f` the test says.
+    pub fn any<F: Fn(Entry<'a>) -> bool>(self, test: F) -> bool
+        requires { F.IsAlwaysCallable test }
+        ensures { (f : Said → Bool) → ((e : _) (r : Bool) → F.post test e r → r ≡ f (the_entry e)) →
+            result ≡ any f (the_entries self.entry) }
+    {
+        for i in 0..self.count {
+            if test(self.at(i)) {
+                return true;
+            }
+        }
+        false
+    }
+
+    // The first from one on that has the n-th of the names; `count` where none does.
+    pub fn next(self, from: usize, n: u32) -> usize
+        requires { from ≤ self.count }
+        ensures lower_bound { (from ≤ result) × (result ≤ self.entry.count) }
+        ensures table_value { having n (drop result (the_entries self.entry)) ≡ having n (drop from (the_entries self.entry)) }
+        ensures table_value_2 { result < self.entry.count → (first_of (drop (result * width) self.entry.table.now)).number ≡ n }
+    {
+        for i in from..self.count {
+            if self.at(i).number() == n {
+                return i;
+            }
+        }
+        self.count
+    }
+
+    // Whether one of them has the n-th of the names.
+    #[tactic(auto, unfolding(crate::specs::Rows::present))]
+    pub fn present(self, n: u32) -> bool
+        ensures { result ≡ present n (the_entries self.entry) }
+    {
+        self.any(|e| e.number() == n)
+    }
+
+    // The place of the value of the first one that does, with quotation marks; 0, 0 where there is none.
+    pub fn value_of(self, n: u32) -> Place
+        ensures start_value { result.start ≡ (value_of n (the_entries self.entry)).start }
+        ensures len_value { result.len ≡ (value_of n (the_entries self.entry)).size }
+        ensures start_lt_number_limit { result.start < number_limit }
+    {
+        for i in 0..self.count {
+            let e = self.at(i);
+            if e.number() == n {
+                return e.value_place();
+            }
+        }
+        Place { start: 0, len: 0 }
+    }
 }

@@ -14,7 +14,6 @@ ghost use Rattle.rows.specs.Inner.Prints.{table_row, flat, collected_table};
 
 use crate::layout;
 use json_read::Position;
-use json_read::member::Collected;
 use prelude::limits::LEVELS;
 
 // The entry of a member, of which `row` has the five numbers, written from a position of the table on.
@@ -56,8 +55,7 @@ fn fill(
     requires width_in_bounds { from * width + count * width ≤ length table.old }
     ensures { table.new ≡ written (from * width) (flat text.now (entries_in (names list.now) text.now origin (members_of count rows.now))) table.old }
 {
-    let mut i: usize = 0;
-    while i < count {
+    for i in 0..count {
         let start = i * json_read::member::WIDTH;
         let end = start + json_read::member::WIDTH;
         put(
@@ -68,7 +66,6 @@ fn fill(
             table,
             (from + i) * layout::WIDTH,
         );
-        i += 1;
     }
 }
 
@@ -83,7 +80,7 @@ pub fn collect(
     table: &mut [u32],
     from: usize,
     judged: bool,
-) -> Collected
+) -> Option<usize>
     requires text_len_bound { length text.now ≤ longest }
     requires list_value { filled list.now ≡ true }
     requires header_table_in_bounds { from * width + header_table ≤ length table.old }
@@ -92,10 +89,7 @@ pub fn collect(
     ensures table_after { table.new ≡ collected_table from text.now (entries_in (names list.now) text.now origin (members_at levels text.now at)) table.old }
 {
     let mut rows = [0usize; json_read::member::ROOM];
-    let answer = Position { at }.collect(text, LEVELS, judged, &mut rows);
-    let Collected::Rows(count) = answer else {
-        return answer;
-    };
+    let count = Position { at }.collect(text, LEVELS, judged, &mut rows)?;
     fill(text, origin, list, &rows, count, table, from);
-    Collected::Rows(count)
+    Some(count)
 }

@@ -27,3 +27,10 @@ pub const KIND: usize = 5;
 pub const NUMBER: usize = 6;
 
 pub const PRINT: usize = 7;
+
+// Kinds that a value's parameter or member may have to be (the others are numbers, `true`, `false` and `null`).
+pub const OBJECT: u32 = 0;
+
+pub const ARRAY: u32 = 1;
+
+pub const STRING: u32 = 2;

@@ -7,3 +7,4 @@ pub mod collect;
 pub mod copy;
 pub mod layout;
 pub mod repeat;
+pub mod table;

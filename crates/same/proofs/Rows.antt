@@ -7,11 +7,10 @@ use lib.ListN.{length}
 use Rattle.grammar.specs.Grammar.{Bracket, square}
 use Rattle.grammar.specs.Places.{Member, Element, kind_nested}
 use Rattle.grammar.specs.Reader.{step, found, entry_at, value_at, as_element, members_at, elements_of, elements_at}
-use Rattle.json_read.specs.Members.{first_in, member_of}
+use Rattle.json_read.specs.Members.{first_in, row_here, member_of}
 use Rattle.json_read.specs.Inner.Known.{KnownIn}
 use Rattle.json_read.specs.declared.Position.{Position}
 use Rattle.json_read.specs.declared.member.Row.{Row}
-use Rattle.json_read.specs.declared.member.Member.TheVariants.{Here}
 use Rattle.json_read.proofs.MemberRows.{rows_first, the_read}
 use Rattle.json_read.proofs.Knowing.{value_known}
 use Rattle.json_read.proofs.RowValues as json
@@ -33,7 +32,7 @@ pub reads_in : (b : Bracket) (s : List ℕ) (x : Element) → x.kind ≡ kind_ne
 reads_in b s x e r = value_known b depth s x.start r.end (r.is ∙ ap (found r.end) e)
 
 module _ (b : Bracket) (s : List ℕ) (left at : ℕ) (h : 0 < left) (row : Row) (next : Position)
-    (e : Here row next ≡ member_of s (entry_at (value_at depth s) b s at)) where
+    (e : row_here row next ≡ member_of s (entry_at (value_at depth s) b s at)) where
   pub row_reads : Reads s (as_element (row_member row))
   row_reads =
       let read = the_read b s depth left at h row next e in

@@ -13,7 +13,7 @@ ghost use Rattle.same.specs.Same.{depth, all, own_at, spelled_at, repeats, same_
 ghost use Rattle.same.specs.Inner.Walking.{work_room, element_of, value_of, Reads, is_none};
 
 use json_read::Position;
-use json_read::member::{Member, Row};
+use json_read::member::Row;
 use pairs::Step;
 
 // How many numbers a caller lends to the comparison, which works in them. What they hold does not matter.
@@ -68,11 +68,7 @@ fn none_left(s: &[u8], p: Position, left: usize) -> bool
     if left == 0 {
         return true;
     }
-    let found = p.element(s, 12, true);
-    let Member::Here(_, _) = found else {
-        return true;
-    };
-    false
+    p.element(s, 12, true).is_none()
 }
 
 // Whether two objects can be compared by name: they have as many members, and neither has a name twice.
@@ -157,25 +153,30 @@ fn arrays(s: &[u8], t: &[u8], i: usize, j: usize, levels: u32, work: &mut [u32])
     let mut left = s.len();
     let mut right = t.len();
     while 0 < left {
-        let found = p.element(s, 12, true);
-        let Member::Here(a, next) = found else {
+        let Some(found) = p.element(s, 12, true) else {
             return none_left(t, q, right);
         };
         if right == 0 {
             return false;
         }
-        let beside = q.element(t, 12, true);
-        let Member::Here(b, after) = beside else {
+        let Some(beside) = q.element(t, 12, true) else {
             return false;
         };
         if levels == 0 {
             return false;
         }
-        if !compare(s, t, value_of(a), value_of(b), levels - 1, work) {
+        if !compare(
+            s,
+            t,
+            value_of(found.row),
+            value_of(beside.row),
+            levels - 1,
+            work,
+        ) {
             return false;
         }
-        p = next;
-        q = after;
+        p = found.next;
+        q = beside.next;
         left -= 1;
         right -= 1;
     }

@@ -14,8 +14,8 @@ use Rattle.grammar.specs.Reader.{elements_at}
 use Rattle.rows.specs.Rows.{Entry, present, value_of}
 use Rattle.prelude.specs.Refusals.{Test, ◌if◌, first, stage_of}
 use Rattle.prelude.proofs.Refusals.{nonzero}
-use Rattle.prelude.specs.declared.Stage.{Stage}
-use Rattle.prelude.specs.declared.Stage.TheVariants.{Passed, Refused}
+use Rattle.prelude.specs.Refusals.{Stage}
+use Rattle.prelude.specs.Refusals.{Passed, Refused}
 use Rattle.headers.proofs.Stages.{passed_is, refused_is}
 use Rattle.shape.specs.Shape.{Recipient, recipient_of, wrong_elements}
 use Rattle.shape.specs.Recipients.{elements_in, element_entries, element_order, elements_order, recipients_in}

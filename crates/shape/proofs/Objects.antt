@@ -14,6 +14,7 @@ use Rattle.grammar.specs.Places.{Member}
 use Rattle.grammar.specs.Reader.{Answer, nothing, found, skip_space, members_at, read_text}
 use Rattle.json_read.specs.Inner.Ends.{found_of}
 use Rattle.json_read.specs.declared.Found.{Found}
+use Rattle.std.specs.Prelude as std
 use Rattle.rows.specs.Rows.{Entry, one_text, entry_of, entries_in, repeated}
 use Rattle.rows.specs.Tables.{entries_of, width}
 use Rattle.rows.specs.Inner.Prints.{flat, collected_table}
@@ -21,8 +22,8 @@ use Rattle.rows.proofs.Entries.{flat_length, entries_written}
 use Rattle.prelude.specs.Refusals.{Test, ◌if◌, first, stage_of}
 use Rattle.prelude.proofs.Refusals.{first_fails, first_passes}
 use Rattle.headers.specs.Headers.{is_nothing, unread, outermost, object_order}
-use Rattle.prelude.specs.declared.Stage.{Stage}
-use Rattle.prelude.specs.declared.Stage.TheVariants.{Passed, Refused}
+use Rattle.prelude.specs.Refusals.{Stage}
+use Rattle.prelude.specs.Refusals.{Passed, Refused}
 use Rattle.headers.proofs.Stages.{passed_is, object_nonzero}
 use Rattle.headers.proofs.Texts.{no_value}
 use Rattle.shape.specs.Shape.{member_names, member_entries, wrong_top, wrong_element}
@@ -149,7 +150,7 @@ module _ (message : List ℕ) where
   top_entries_lem names e at p =
       ap₂ (λ (ns : List (List ℕ)) (a : ℕ). entries_in ns message 1 (members_at 12 message a)) e p
 
-  pub unread_is : (answer : Found) → answer ≡ found_of (read_text 12 message) → unread message ≡ no_value answer
+  pub unread_is : (answer : std.Option Found) → answer ≡ found_of (read_text 12 message) → unread message ≡ no_value answer
   unfolding unread
   unread_is answer a = by_reading (read_text 12 message) ∙ ap no_value (sym a)
 

@@ -14,8 +14,8 @@ use Rattle.prelude.proofs.Writing.{Writing, begin, put_part, done}
 use Rattle.prelude.specs.Refusals.{first, stage_of}
 use Rattle.prelude.proofs.Refusals.{nonzero, first_skip}
 use Rattle.headers.specs.Headers.{object_order}
-use Rattle.prelude.specs.declared.Stage.{Stage}
-use Rattle.prelude.specs.declared.Stage.TheVariants.{Passed, Refused}
+use Rattle.prelude.specs.Refusals.{Stage}
+use Rattle.prelude.specs.Refusals.{Passed, Refused}
 use Rattle.headers.proofs.Stages.{passed_is, refused_is}
 use Rattle.shape.specs.Shape.{recipient_of}
 use Rattle.shape.specs.Recipients.{element_entries, element_order}

@@ -14,8 +14,8 @@ use Rattle.grammar.specs.Places.{Element}
 use Rattle.prelude.specs.Any.{any}
 use Rattle.prelude.specs.Refusals.{first, stage_of}
 use Rattle.jose.specs.HeaderRules.{is_empty}
-use Rattle.prelude.specs.declared.Stage.{Stage}
-use Rattle.prelude.specs.declared.Stage.TheVariants.{Passed, Refused}
+use Rattle.prelude.specs.Refusals.{Stage}
+use Rattle.prelude.specs.Refusals.{Passed, Refused}
 use Rattle.shape.specs.Shape.{no_object, wrong_elements}
 use Rattle.shape.specs.Inner.Answers.{array_order, starts_of, counted, Leaves}
 

@@ -1,7 +1,7 @@
 // What the top level of a message holds, by value.
-ghost use Rattle.std.specs.Prelude.{◌≡◌, cond, ◌*◌, ◌≤◌, length};
+ghost use Rattle.std.specs.Prelude.{◌≡◌, cond};
 ghost use Rattle.rows.specs.Rows.{present};
-ghost use Rattle.rows.specs.Tables.{entries_of, width};
+ghost use Rattle.rows.specs.Inner.Views.{the_entries};
 ghost use Rattle.headers.specs.Components.{flattened_form, general_form};
 ghost use Rattle.headers.specs.Answers.{place_of};
 ghost use Rattle.shape.specs.Shape.{component, recipients};
@@ -11,7 +11,7 @@ ghost use Rattle.shape.specs.Inner.Answers.{top_in};
 use crate::number;
 use headers::Components;
 use prelude::Place;
-use rows::ask::present;
+use rows::table::Entries;
 
 // The forms.
 const FLATTENED: u32 = 1;
@@ -29,11 +29,10 @@ pub struct Top {
 }
 
 // The place of a component without its quotation marks; 0, 0 where it is absent.
-pub(crate) fn component(table: &[u32], count: usize, n: u32) -> Place
-    requires { count * width ≤ length table.now }
-    ensures { place_of result ≡ component n (entries_of count table.now) }
+pub(crate) fn component(members: Entries, n: u32) -> Place
+    ensures { place_of result ≡ component n (the_entries members.entry) }
 {
-    let value = rows::ask::value_of(table, count, n);
+    let value = members.value_of(n);
     if value.len == 0 {
         return Place { start: 0, len: 0 };
     }
@@ -44,11 +43,10 @@ pub(crate) fn component(table: &[u32], count: usize, n: u32) -> Place
 }
 
 // General where there is the member `recipients`.
-fn form(table: &[u32], count: usize) -> u32
-    requires { count * width ≤ length table.now }
-    ensures { result ≡ cond (present recipients (entries_of count table.now)) general_form flattened_form }
+fn form(members: Entries) -> u32
+    ensures { result ≡ cond (present recipients (the_entries members.entry)) general_form flattened_form }
 {
-    if present(table, count, number::RECIPIENTS) {
+    if members.present(number::RECIPIENTS) {
         GENERAL
     } else {
         FLATTENED
@@ -56,21 +54,20 @@ fn form(table: &[u32], count: usize) -> u32
 }
 
 // What the first entries hold, which are those of a top level.
-pub fn held(table: &[u32], count: usize) -> Top
-    requires { count * width ≤ length table.now }
-    ensures { top_in result ≡ top_of (entries_of count table.now) }
+pub fn held(members: Entries) -> Top
+    ensures { top_in result ≡ top_of (the_entries members.entry) }
 {
     Top {
-        form: form(table, count),
-        protected: present(table, count, number::PROTECTED),
-        shared: rows::ask::value_of(table, count, number::UNPROTECTED).start,
+        form: form(members),
+        protected: members.present(number::PROTECTED),
+        shared: members.value_of(number::UNPROTECTED).start,
         components: Components {
-            protected: component(table, count, number::PROTECTED),
+            protected: component(members, number::PROTECTED),
             key: Place { start: 0, len: 0 },
-            iv: component(table, count, number::IV),
-            aad: component(table, count, number::AAD),
-            ciphertext: component(table, count, number::CIPHERTEXT),
-            tag: component(table, count, number::TAG),
+            iv: component(members, number::IV),
+            aad: component(members, number::AAD),
+            ciphertext: component(members, number::CIPHERTEXT),
+            tag: component(members, number::TAG),
         },
     }
 }

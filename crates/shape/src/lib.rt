@@ -1,17 +1,19 @@
 // The shape of a JSON message: its top level, and its recipients.
 #![tactic(auto)]
 
-ghost use Rattle.std.specs.Prelude.{◌≡◌, ◌*◌, ◌≤◌, length};
-ghost use Rattle.rows.specs.Tables.{entries_of, header_table, width};
+ghost use Rattle.std.specs.Prelude.{◌≡◌, ◌≤◌, length};
+ghost use Rattle.rows.specs.Tables.{header_table};
+ghost use Rattle.rows.specs.Inner.Views.{the_entries};
 ghost use Rattle.prelude.specs.Buffer.{written};
 ghost use Rattle.prelude.specs.Limits.{longest};
-ghost use Rattle.prelude.specs.Refusals.{first, stage_of};
+ghost use Rattle.prelude.specs.Refusals.{first, stage_of, as_stage};
 ghost use Rattle.shape.specs.Recipients.{top_entries, top_order, elements_order, recipients_in};
 ghost use Rattle.shape.specs.Inner.Answers.{top_table, flat_recipients, written_in, recipients_room};
 
-use json_read::{Found, Position};
-use prelude::Stage;
+use json_read::Position;
+use prelude::refusal::Refusal;
 use prelude::limits::{LEVELS, MOST_RECIPIENTS};
+use rows::table::Entries;
 
 // The known members of a message, contents first.
 pub const MEMBERS: [u8; 77] = *b"\x09\
@@ -38,48 +40,44 @@ mod number;
 
 // 7, and 8 to 10 on the top level: its members as entries of the table, and how many they are. What a refusal leaves in the
 // table is `top_table` too.
-pub fn top(message: &[u8], table: &mut [u32]) -> Stage
+pub fn top(message: &[u8], table: &mut [u32]) -> Result<usize, Refusal>
     requires message_len_bound { length message.now ≤ longest }
     requires header_table_in_bounds { header_table ≤ length table.old }
-    ensures value { result ≡ stage_of (first (top_order message.now)) (length (top_entries message.now)) }
+    ensures value { as_stage result ≡ stage_of (first (top_order message.now)) (length (top_entries message.now)) }
     ensures table_after { table.new ≡ top_table message.now table.old }
 {
-    let judged = json_read::judge(message, LEVELS);
-    let Found::Value(_, _) = judged else {
-        return Stage::Refused(7);
+    let Some(_) = json_read::judge(message, LEVELS) else {
+        return Err(Refusal::Unread);
     };
     let list = MEMBERS;
     let at = Position { at: 0 }.skip_space(message).at;
-    let object = headers::object(message, at, 1, &list, table, 0, true);
-    let Stage::Passed(count) = object else {
-        return object;
+    let count = headers::object(message, at, 1, &list, table, 0, true)?;
+    let members = Entries {
+        table: &table[..],
+        count,
     };
-    if member::wrong_top(message, table, count) {
-        return Stage::Refused(10);
+    if member::wrong_top(message, members) {
+        return Err(Refusal::Shape);
     }
-    object
+    Ok(count)
 }
 
 // 10 on `recipients`, 11, and 8 to 10 on its elements: the recipients as numbers of the table, three each, and how many they
 // are. The entries are those of a top level that has passed. Where an element is refused, those before it are written.
-pub fn recipients(message: &[u8], table: &[u32], count: usize, into: &mut [usize]) -> Stage
+pub fn recipients(message: &[u8], members: Entries, into: &mut [usize]) -> Result<usize, Refusal>
     requires message_len_bound { length message.now ≤ longest }
-    requires width_in_bounds { count * width ≤ length table.now }
     requires recipients_room_in_bounds { recipients_room ≤ length into.old }
     requires message_value { first (top_order message.now) ≡ 0 }
-    requires table_value { entries_of count table.now ≡ top_entries message.now }
-    ensures value { result ≡ stage_of (first (elements_order message.now (entries_of count table.now))) (length (recipients_in message.now (entries_of count table.now))) }
-    ensures into_after { into.new ≡ written 0 (flat_recipients (written_in message.now (entries_of count table.now))) into.old }
+    requires members_value { the_entries members ≡ top_entries message.now }
+    ensures value { as_stage result ≡ stage_of (first (elements_order message.now (the_entries members.entry))) (length (recipients_in message.now (the_entries members.entry))) }
+    ensures into_after { into.new ≡ written 0 (flat_recipients (written_in message.now (the_entries members.entry))) into.old }
 {
-    if !rows::ask::present(table, count, number::RECIPIENTS) {
-        element::put(table, count, into, 0);
-        return Stage::Passed(1);
+    if !members.present(number::RECIPIENTS) {
+        element::put(members, into, 0);
+        return Ok(1);
     }
     let mut starts = [0usize; MOST_RECIPIENTS];
-    let at = rows::ask::value_of(table, count, number::RECIPIENTS).start;
-    let walked = element::walk(message, at, &mut starts);
-    let Stage::Passed(n) = walked else {
-        return walked;
-    };
+    let at = members.value_of(number::RECIPIENTS).start;
+    let n = element::walk(message, at, &mut starts)?;
     element::elements(message, &starts[..n], into)
 }

@@ -1,19 +1,23 @@
 -- What an octet does to the search, for code that reads a slice: an octet that is no mark is passed over, also many.
-use mathlib.Core.Path.{◌≡◌, refl, ap, ap₂, sym, ◌∙◌}
+use mathlib.Core.Path.{◌≡◌, refl, ap, ap₂, sym, subst, ◌∙◌}
 use mathlib.Core.Bool.{Bool, true, false, not, ◌&&◌, ◌||◌, true≢false}
 use mathlib.Core.List.{List, [], ◌∷◌}
 use Prim.Native.Nat.{ℕ, zero, suc, ◌+◌, ◌-◌, ◌≤◌, ◌<◌}
 use native.Mathlib.Omega.{arith}
-use lib.ListN.{length, take, drop, get_or, drop_of_length-le, length-take, length-drop}
-use lib.Seq.{get_or-take, get_or-drop}
+use lib.ListN.{length, drop, get_or, drop_of_length-le, length-drop}
+use lib.Seq.{get_or-drop}
 use lib.Dec.{eqb}
 use borrow.Author.Tests.{ne_eqb}
+use Rattle.std.specs.List.{position_or_len}
+use Rattle.std.proofs.Common.{inl, inr}
+use Rattle.std.proofs.lemmas.Bool.{cases_lt}
+use Rattle.std.proofs.lemmas.List.Sums.{prefix_len-le-length, fails_before_first}
 use Rattle.prelude.proofs.Lists.{drop_next}
 use Rattle.grammar.specs.Grammar.{quote, backslash}
 use Rattle.grammar.proofs.Parse.{true→T}
 use Rattle.grammar.proofs.Scan.{false_of, both_T, among_all}
 use Rattle.skip.specs.Inner.Past.{is_opening, is_closing, is_mark, State, outside, inside, escaped, Turn, partner, go_on}
-use Rattle.skip.specs.Inner.Past.{turn, past_in, past_from, Unmarked, Alike}
+use Rattle.skip.specs.Inner.Past.{turn, past_in, past_from, Alike}
 
 or_none : (a b : Bool) → (a || b) ≡ false → (a ≡ false) × (b ≡ false)
 or_none true b e = absurd (true≢false e)
@@ -166,12 +170,16 @@ alike_run s (suc n) at e p h f =
     let m : at + 1 + k ≡ at + suc k = omega arith in
     ap (λ z. is_mark (get_or s z 0)) m ∙ f (suc k) (omega arith)))
 
--- A block, as the code lends it.
-pub alike_block : (s : List ℕ) (at m : ℕ) → at + m ≤ length s → Unmarked (take (at + m - at) (drop at s)) →
-    Alike s at (at + m)
-alike_block s at m h plain =
-    let size : length (take (at + m - at) (drop at s)) ≡ m =
-    length-take (at + m - at) (drop at s) ∙ omega (arith, length-drop at s) in
-    alike_run s m at (at + m) refl h (λ k l.
-    ap is_mark (sym (get_or-take (at + m - at) (drop at s) k 0 (omega (arith, l)) ∙ get_or-drop at s k 0))
-    ∙ plain k (omega (arith, l, size)))
+-- Up to the first mark, or to the text's end; past the end there is none.
+pub alike_unmarked : (s : List ℕ) (at : ℕ) → Alike s at (at + position_or_len is_mark (drop at s))
+alike_unmarked s at =
+    let n = position_or_len is_mark (drop at s) in
+    elim (cases_lt (length s) at) [
+      | inl u ↦
+        let none : at ≡ at + n = simp (drop_of_length-le s {i = at} (omega arith)) (omega arith) in
+        subst (Alike s at) none alike_none
+      | inr u ↦
+        let size : n ≤ length (drop at s) = prefix_len-le-length (λ c. not (is_mark c)) (drop at s) in
+        alike_run s n at (at + n) refl (omega (arith, length-drop at s)) (λ k l.
+        ap is_mark (sym (get_or-drop at s k 0)) ∙ fails_before_first is_mark (drop at s) k 0 l)
+    ]

@@ -5,81 +5,41 @@
 ghost use Rattle.std.specs.Prelude.{◌≡◌, false, ℕ, ◌+◌, ◌≤◌, ◌<◌, length, get_or};
 ghost use Rattle.grammar.specs.Grammar.{quote};
 ghost use Rattle.skip.specs.Inner.Past.{is_opening, is_closing, is_mark, outside, inside, past_from, past_nested};
-ghost use Rattle.skip.specs.Inner.Past.{Unmarked, Alike};
+ghost use Rattle.skip.specs.Inner.Past.{Alike};
+
+use blocks::Kind;
 
 // [ {
 fn is_opening(c: u8) -> bool
     ensures { result ≡ is_opening c }
 {
-    (c == 91) | ((c == 123) | false)
+    (c == b'[') | (c == b'{')
 }
 
 // ] }
 fn is_closing(c: u8) -> bool
     ensures { result ≡ is_closing c }
 {
-    (c == 93) | ((c == 125) | false)
+    (c == b']') | (c == b'}')
 }
 
 // " \ [ ] { }
-fn is_mark(c: u8) -> bool
-    ensures { result ≡ is_mark c }
-{
-    (c == 34) | ((c == 92) | ((c == 91) | ((c == 93) | ((c == 123) | ((c == 125) | false)))))
+#[derive(Clone, Copy)]
+struct Mark;
+
+impl Kind for Mark {
+    ghost has = { λ kind. is_mark };
+
+    fn has(self, c: u8) -> bool {
+        (c == b'"') | (c == b'\\') | (c == b'[') | (c == b']') | (c == b'{') | (c == b'}')
+    }
 }
 
-// How many marks there are; counted in an octet and without another exit, so that it is done sixteen at a time.
-fn count_marks(block: &[u8]) -> u8
-    requires { length block.now ≤ 64 }
-    ensures { result ≡ 0 → Unmarked block.now }
-{
-    let mut count: u8 = 0;
-    let mut k: usize = 0;
-    while k < block.len() {
-        if is_mark(block[k]) {
-            count += 1;
-        }
-        k += 1;
-    }
-    count
-}
-
-// Past whole blocks without a mark.
-fn skip_blocks(s: &[u8], from: usize) -> usize
-    ensures { Alike s.now from result × (from ≤ result) }
-{
-    let n = s.len();
-    let mut at = from;
-    if n < at {
-        return from;
-    }
-    while 64 <= n - at {
-        let e = at + 64;
-        if count_marks(&s[at..e]) != 0 {
-            break;
-        }
-        at = e;
-    }
-    at
-}
-
-// Past octets that are no marks, if not always all of them. Marks often stand near: blocks begin after sixteen octets.
+// Past octets that are no marks.
 fn skip_unmarked(s: &[u8], from: usize) -> usize
     ensures { Alike s.now from result × (from ≤ result) }
 {
-    let mut at = from;
-    let mut few: usize = 0;
-    while few < 16 {
-        if s.len() <= at {
-            return at;
-        }
-        if is_mark(s[at]) {
-            return at;
-        }
-        at += 1;
-        few += 1;
-    }
-    skip_blocks(s, at)
+    blocks::seek::<Mark, 64>(Mark, s, from)
 }
 
 // Past an octet of a string that does not end it: with what a backslash takes along, or with octets behind it that are
@@ -91,7 +51,7 @@ fn skip_char(s: &[u8], at: usize) -> usize
     ensures lower_bound { at < result }
 {
     let next = at + 1;
-    if s[at] == 92 {
+    if s[at] == b'\\' {
         if next < s.len() {
             return next + 1;
         }
@@ -107,7 +67,7 @@ fn skip_string(s: &[u8], from: usize) -> usize
 {
     let mut at = from;
     while at < s.len() {
-        if s[at] == 34 {
+        if s[at] == b'"' {
             return at + 1;
         }
         at = skip_char(s, at);
@@ -132,7 +92,7 @@ fn turn(s: &[u8], at: usize, depth: usize) -> Next
 {
     let c = s[at];
     let next = at + 1;
-    if c == 34 {
+    if c == b'"' {
         return Next {
             at: skip_string(s, next),
             depth,

@@ -1,19 +1,22 @@
 -- UTF-8 as the code reads it: the first octet of a character gives the ranges of the others, by a table that is computed;
 -- each octet in its range moves the test on; and a block of octets below 128 is passed over.
 use mathlib.Core.Path.{◌≡◌, refl, ap, ap₂, sym, subst, ◌∙◌}
-use mathlib.Core.Bool.{Bool, true, false, not, ◌&&◌, ◌||◌, cond}
+use mathlib.Core.Bool.{Bool, true, false, not, ◌&&◌, ◌||◌}
 use mathlib.Core.List.{List, [], ◌∷◌}
-use mathlib.Core.Option.{Option, none, some}
+use mathlib.Core.Option.{none, some}
+use mathlib.Core.Option as maybe
+use Rattle.std.specs.Prelude.{Option, None, Some, is_some}
 use Prim.Native.Nat.{ℕ, suc, ◌+◌, ◌-◌, ◌≤◌, ◌<◌}
 use native.Mathlib.Omega.{arith}
-use lib.ListN.{length, take, drop, get_or, drop_of_length-le, length-take, length-drop}
+use lib.ListN.{length, take, drop, get_or, replicate, drop_of_length-le, length-take, length-drop}
 use lib.Seq.{get_or-take, get_or-drop}
 use lib.Dec.{T, eqb, leb}
-use borrow.Author.Tests.{le-leb, eqb-true, ne_eqb}
+use borrow.Author.Tests.{le-leb, eqb-true}
+use Rattle.std.specs.Bool.{then_some}
 use Rattle.prelude.proofs.Lists.{drop_next}
 use Rattle.prelude.proofs.Numbers.{every, below}
 use Rattle.grammar.specs.Utf8.{Range, to, within, tail, rows, follow, utf8_after, utf8}
-use Rattle.utf8.specs.Inner.Utf8Parts.{past, Low}
+use Rattle.utf8.specs.Inner.Utf8Parts.{Low, Reaches, onward}
 use Rattle.grammar.proofs.Scan.{T→true, both_T}
 use Rattle.grammar.proofs.Steps.{utf8_low_run}
 
@@ -25,7 +28,7 @@ same_ranges [] (r ∷ rs) = false
 same_ranges (q ∷ qs) [] = false
 same_ranges (q ∷ qs) (r ∷ rs) = (eqb q.low r.low && eqb q.high r.high) && same_ranges qs rs
 
-abbrev same_follow : Option (List Range) → Option (List Range) → Bool
+abbrev same_follow : maybe.Option (List Range) → maybe.Option (List Range) → Bool
 same_follow none none = true
 same_follow none (some rs) = false
 same_follow (some qs) none = false
@@ -42,158 +45,129 @@ same_ranges_lem (q ∷ qs) (r ∷ rs) t =
     ap₂ to (eqb-true _ _ (T→true (eqb q.low r.low) v.0)) (eqb-true _ _ (T→true (eqb q.high r.high) v.1)) in
     ap₂ ◌∷◌ first (same_ranges_lem qs rs u.1)
 
-same_follow_lem : (o p : Option (List Range)) → T (same_follow o p) → o ≡ p
+same_follow_lem : (o p : maybe.Option (List Range)) → T (same_follow o p) → o ≡ p
 same_follow_lem none none t = refl
 same_follow_lem none (some rs) t = absurd t
 same_follow_lem (some qs) none t = absurd t
 same_follow_lem (some qs) (some rs) t = ap some (same_ranges_lem qs rs t)
 
 -- what is computed at each octet from l to h
-follow_all : (l h : ℕ) (o : Option (List Range)) → T (every (λ n. not (leb l n) || same_follow (follow rows n) o) (suc h)) →
+follow_all : (l h : ℕ) (o : maybe.Option (List Range)) → T (every (λ n. not (leb l n) || same_follow (follow rows n) o) (suc h)) →
     (c : ℕ) → l ≤ c → c ≤ h → follow rows c ≡ o
 follow_all l h o t c low high =
     same_follow_lem (follow rows c) o
     (subst (λ b. T (not b || same_follow (follow rows c) o)) (le-leb l c low)
     (below (λ n. not (leb l n) || same_follow (follow rows n) o) (suc h) t c (omega arith)))
 
-module _ (c : ℕ) where
-  pub follow_C2 : 0xC2 ≤ c → c < 0xE0 → follow rows c ≡ some (tail ∷ [])
+-- At a position, by the row of the first octet: what is left to test after it.
+module _ (s : List ℕ) (at : ℕ) (h : at < length s) where
+  abbrev after : maybe.Option (List Range) → Bool
+  after o = elim o as (λ o. Bool) [ none ↦ false | some rs ↦ utf8_after rs (drop (at + 1) s) ]
+
+  row_here : (l m : ℕ) (o : maybe.Option (List Range)) →
+      T (every (λ n. not (leb l n) || same_follow (follow rows n) o) (suc m)) →
+      l ≤ get_or s at 0 → get_or s at 0 ≤ m → utf8 (drop at s) ≡ after o
+  unfolding utf8 utf8_after
+  row_here l m o t low high =
+      ap (utf8_after []) (drop_next s at (at + 1) refl h) ∙ ap after (follow_all l m o t (get_or s at 0) low high)
+
+  pub row_00 : get_or s at 0 ≤ 0x7F → utf8 (drop at s) ≡ utf8 (drop (at + 1) s)
+  unfolding follow utf8
+  row_00 = row_here 0x00 0x7F (some []) tt (omega arith)
+
+  pub row_C2 : 0xC2 ≤ get_or s at 0 → get_or s at 0 ≤ 0xDF → utf8 (drop at s) ≡ utf8_after (tail ∷ []) (drop (at + 1) s)
   unfolding follow
-  follow_C2 l h = follow_all 0xC2 0xDF (some (tail ∷ [])) tt c l (omega arith)
+  row_C2 = row_here 0xC2 0xDF (some (tail ∷ [])) tt
 
-  pub follow_E0 : c ≡ 0xE0 → follow rows c ≡ some (to 0xA0 0xBF ∷ tail ∷ [])
+  pub row_E0 : 0xE0 ≤ get_or s at 0 → get_or s at 0 ≤ 0xE0 → utf8 (drop at s) ≡ utf8_after (to 0xA0 0xBF ∷ tail ∷ []) (drop (at + 1) s)
   unfolding follow
-  follow_E0 e = ap (follow rows) e
+  row_E0 = row_here 0xE0 0xE0 (some (to 0xA0 0xBF ∷ tail ∷ [])) tt
 
-  pub follow_E1 : 0xE0 < c → c < 0xED → follow rows c ≡ some (tail ∷ tail ∷ [])
+  pub row_E1 : 0xE1 ≤ get_or s at 0 → get_or s at 0 ≤ 0xEC → utf8 (drop at s) ≡ utf8_after (tail ∷ tail ∷ []) (drop (at + 1) s)
   unfolding follow
-  follow_E1 l h = follow_all 0xE1 0xEC (some (tail ∷ tail ∷ [])) tt c l (omega arith)
+  row_E1 = row_here 0xE1 0xEC (some (tail ∷ tail ∷ [])) tt
 
-  pub follow_ED : c ≡ 0xED → follow rows c ≡ some (to 0x80 0x9F ∷ tail ∷ [])
+  pub row_ED : 0xED ≤ get_or s at 0 → get_or s at 0 ≤ 0xED → utf8 (drop at s) ≡ utf8_after (to 0x80 0x9F ∷ tail ∷ []) (drop (at + 1) s)
   unfolding follow
-  follow_ED e = ap (follow rows) e
+  row_ED = row_here 0xED 0xED (some (to 0x80 0x9F ∷ tail ∷ [])) tt
 
-  pub follow_EE : 0xED < c → c < 0xF0 → follow rows c ≡ some (tail ∷ tail ∷ [])
+  pub row_EE : 0xEE ≤ get_or s at 0 → get_or s at 0 ≤ 0xEF → utf8 (drop at s) ≡ utf8_after (tail ∷ tail ∷ []) (drop (at + 1) s)
   unfolding follow
-  follow_EE l h = follow_all 0xEE 0xEF (some (tail ∷ tail ∷ [])) tt c l (omega arith)
+  row_EE = row_here 0xEE 0xEF (some (tail ∷ tail ∷ [])) tt
 
-  pub follow_F0 : c ≡ 0xF0 → follow rows c ≡ some (to 0x90 0xBF ∷ tail ∷ tail ∷ [])
+  pub row_F0 : 0xF0 ≤ get_or s at 0 → get_or s at 0 ≤ 0xF0 → utf8 (drop at s) ≡ utf8_after (to 0x90 0xBF ∷ tail ∷ tail ∷ []) (drop (at + 1) s)
   unfolding follow
-  follow_F0 e = ap (follow rows) e
+  row_F0 = row_here 0xF0 0xF0 (some (to 0x90 0xBF ∷ tail ∷ tail ∷ [])) tt
 
-  pub follow_F1 : 0xF0 < c → c < 0xF4 → follow rows c ≡ some (tail ∷ tail ∷ tail ∷ [])
+  pub row_F1 : 0xF1 ≤ get_or s at 0 → get_or s at 0 ≤ 0xF3 → utf8 (drop at s) ≡ utf8_after (tail ∷ tail ∷ tail ∷ []) (drop (at + 1) s)
   unfolding follow
-  follow_F1 l h = follow_all 0xF1 0xF3 (some (tail ∷ tail ∷ tail ∷ [])) tt c l (omega arith)
+  row_F1 = row_here 0xF1 0xF3 (some (tail ∷ tail ∷ tail ∷ [])) tt
 
-  pub follow_F4 : c ≡ 0xF4 → follow rows c ≡ some (to 0x80 0x8F ∷ tail ∷ tail ∷ [])
+  pub row_F4 : 0xF4 ≤ get_or s at 0 → get_or s at 0 ≤ 0xF4 → utf8 (drop at s) ≡ utf8_after (to 0x80 0x8F ∷ tail ∷ tail ∷ []) (drop (at + 1) s)
   unfolding follow
-  follow_F4 e = ap (follow rows) e
+  row_F4 = row_here 0xF4 0xF4 (some (to 0x80 0x8F ∷ tail ∷ tail ∷ [])) tt
 
-  pub follow_80 : 0x80 ≤ c → c < 0xC2 → follow rows c ≡ none
+  -- Between two rows, and above the last.
+
+  pub row_80 : 0x80 ≤ get_or s at 0 → get_or s at 0 < 0xC2 → utf8 (drop at s) ≡ false
   unfolding follow
-  follow_80 l h = follow_all 0x80 0xC1 none tt c l (omega arith)
+  row_80 l m = row_here 0x80 0xC1 none tt l (omega arith)
 
-  pub follow_F5 : 0xF4 < c → c < 256 → follow rows c ≡ none
+  pub row_F5 : 0xF4 < get_or s at 0 → get_or s at 0 < 256 → utf8 (drop at s) ≡ false
   unfolding follow
-  follow_F5 l h = follow_all 0xF5 0xFF none tt c l (omega arith)
+  row_F5 l m = row_here 0xF5 0xFF none tt (omega arith) (omega arith)
 
--- The test at a position
-
-module _ (s : List ℕ) (at : ℕ) where
-  module _ (h : at < length s) where
-    first_here : utf8 (drop at s)
-        ≡ elim (follow rows (get_or s at 0)) as (λ o. Bool) [ none ↦ false | some rs ↦ utf8_after rs (drop (at + 1) s) ]
-    unfolding utf8 utf8_after
-    first_here = ap (utf8_after []) (drop_next s at (at + 1) refl h)
-
-    -- a first octet that has a row
-    pub first_some : (rs : List Range) → follow rows (get_or s at 0) ≡ some rs →
-        utf8_after rs (drop (at + 1) s) ≡ utf8 (drop at s)
-    first_some rs e =
-        sym (first_here
-        ∙ ap (λ (o : Option (List Range)). elim o as (λ o. Bool) [ none ↦ false | some rs ↦ utf8_after rs (drop (at + 1) s) ]) e)
-
-    -- and one that has none
-    pub first_none : follow rows (get_or s at 0) ≡ none → false ≡ utf8 (drop at s)
-    first_none e =
-        sym (first_here
-        ∙ ap (λ (o : Option (List Range)). elim o as (λ o. Bool) [ none ↦ false | some rs ↦ utf8_after rs (drop (at + 1) s) ]) e)
-
-    -- and one below 128, which is a character by itself
-    pub first_low : get_or s at 0 < 128 → utf8 (drop (at + 1) s) ≡ utf8 (drop at s)
-    unfolding utf8
-    first_low l =
-        sym (utf8_low_run s 1 at (omega arith)
-        (λ k b. let e : at ≡ at + k = omega arith in subst (λ (n : ℕ). get_or s n 0 < 128) e l))
+pub ruleset character_rows = (row_00, row_C2, row_E0, row_E1, row_ED, row_EE, row_F0, row_F1, row_F4, row_80, row_F5)
 
 -- Octets that have to be in ranges: they are, and the test goes on after them.
 
-range_here : (s : List ℕ) (at : ℕ) (r : Range) (rs : List Range) (n : ℕ) → n ≡ at + 1 → at < length s →
+pub range_here : (s : List ℕ) (at : ℕ) (r : Range) (rs : List Range) (n : ℕ) → n ≡ at + 1 → at < length s →
     utf8_after (r ∷ rs) (drop at s) ≡ (within r (get_or s at 0) && utf8_after rs (drop n s))
 unfolding utf8_after
 range_here s at r rs n e h = ap (utf8_after (r ∷ rs)) (drop_next s at n e h)
 
-and_assoc : (a b c : Bool) → (a && (b && c)) ≡ ((a && b) && c)
-and_assoc true b c = refl
-and_assoc false b c = refl
+-- One more octet of a character, after which `rs` are left.
+pub range_more : (s : List ℕ) (at : ℕ) (r : Range) (rs : List Range) (n : ℕ) (b : Bool) → n ≡ at + 1 → at < length s →
+    ((b && within r (get_or s at 0)) && utf8_after rs (drop n s)) ≡ (b && utf8_after (r ∷ rs) (drop at s))
+range_more s at r rs n true e h = sym (range_here s at r rs n e h)
+range_more s at r rs n false e h = refl
 
-module _ (s : List ℕ) (at : ℕ) where
-  pub two_here : (p : Range) → at + 2 ≤ length s →
-      utf8_after (p ∷ []) (drop (at + 1) s) ≡ (within p (get_or s (at + 1) 0) && utf8 (drop (at + 2) s))
-  unfolding utf8
-  two_here p h = range_here s (at + 1) p [] (at + 2) (omega arith) (omega arith)
+-- All octets have been tested.
+pub tested : (s : List ℕ) (b : Bool) (at n k : ℕ) → k ≡ n →
+    onward s (then_some b (at + n)) ≡ (b && utf8_after (replicate (n - k) tail) (drop (at + k) s))
+unfolding utf8
+tested s b at n k e =
+    let none : 0 ≡ n - k = omega arith in
+    cases b ∙ ap₂ (λ (m i : ℕ). b && utf8_after (replicate m tail) (drop (at + i) s)) none (sym e)
+  where
+    cases : (b : Bool) → onward s (then_some b (at + n)) ≡ (b && utf8_after [] (drop (at + n) s))
+    cases true = refl
+    cases false = refl
 
-  pub three_here : (p q : Range) → at + 3 ≤ length s →
-      utf8_after (p ∷ q ∷ []) (drop (at + 1) s)
-      ≡ ((within p (get_or s (at + 1) 0) && within q (get_or s (at + 2) 0)) && utf8 (drop (at + 3) s))
-  unfolding utf8
-  three_here p q h =
-      range_here s (at + 1) p (q ∷ []) (at + 2) (omega arith) (omega arith)
-      ∙ ap (λ (b : Bool). within p (get_or s (at + 1) 0) && b)
-      (range_here s (at + 2) q [] (at + 3) (omega arith) (omega arith))
-      ∙ and_assoc (within p (get_or s (at + 1) 0)) (within q (get_or s (at + 2) 0)) (utf8_after [] (drop (at + 3) s))
-
-  pub four_here : (p q r : Range) → at + 4 ≤ length s →
-      utf8_after (p ∷ q ∷ r ∷ []) (drop (at + 1) s)
-      ≡ ((within p (get_or s (at + 1) 0) && (within q (get_or s (at + 2) 0) && within r (get_or s (at + 3) 0)))
-      && utf8 (drop (at + 4) s))
-  unfolding utf8
-  four_here p q r h =
-      range_here s (at + 1) p (q ∷ r ∷ []) (at + 2) (omega arith) (omega arith)
-      ∙ ap (λ (b : Bool). within p (get_or s (at + 1) 0) && b)
-      (range_here s (at + 2) q (r ∷ []) (at + 3) (omega arith) (omega arith)
-      ∙ ap (λ (b : Bool). within q (get_or s (at + 2) 0) && b)
-      (range_here s (at + 3) r [] (at + 4) (omega arith) (omega arith))
-      ∙ and_assoc (within q (get_or s (at + 2) 0)) (within r (get_or s (at + 3) 0)) (utf8_after [] (drop (at + 4) s)))
-      ∙ and_assoc (within p (get_or s (at + 1) 0)) (within q (get_or s (at + 2) 0) && within r (get_or s (at + 3) 0))
-      (utf8_after [] (drop (at + 4) s))
-
-  -- Or there are too few.
-  pub too_few : (rs : List Range) → length s < at + 1 + length rs → at < length s →
-      false ≡ utf8_after rs (drop (at + 1) s)
-  unfolding utf8_after
-  too_few rs h l = short rs (drop (at + 1) s) (omega (arith, length-drop (at + 1) s))
-    where
-      short : (rs : List Range) (t : List ℕ) → length t < length rs → false ≡ utf8_after rs t
-      short [] t h = absurd (omega arith)
-      short (r ∷ rs) [] h = refl
-      short (r ∷ rs) (c ∷ t) h = cases (within r c) (short rs t (omega arith))
-        where
-          cases : (b : Bool) → false ≡ utf8_after rs t → false ≡ (b && utf8_after rs t)
-          cases true e = e
-          cases false e = refl
-
-  -- What is left after a character that is one.
-  pub past_some : (n : ℕ) → (n ≡ 0 → ⊥) → past s at n ≡ utf8 (drop (at + n) s)
-  past_some n h = ap (λ (b : Bool). cond b false (utf8 (drop (at + n) s))) (ne_eqb n 0 h)
-
-  pub past_none : (n : ℕ) → n ≡ 0 → past s at n ≡ false
-  past_none n e = ap (past s at) e
+-- Too few octets.
+pub too_few : (s : List ℕ) (at : ℕ) (rs : List Range) → length s < at + 1 + length rs → at < length s →
+    false ≡ utf8_after rs (drop (at + 1) s)
+unfolding utf8_after
+too_few s at rs h l = short rs (drop (at + 1) s) (omega (arith, length-drop (at + 1) s))
+  where
+    short : (rs : List Range) (t : List ℕ) → length t < length rs → false ≡ utf8_after rs t
+    short [] t h = absurd (omega arith)
+    short (r ∷ rs) [] h = refl
+    short (r ∷ rs) (c ∷ t) h = cases (within r c) (short rs t (omega arith))
+      where
+        cases : (b : Bool) → false ≡ utf8_after rs t → false ≡ (b && utf8_after rs t)
+        cases true e = e
+        cases false e = refl
 
 -- Nothing is left at the end.
-pub utf8_end : (s : List ℕ) (at : ℕ) → length s ≤ at → utf8 (drop at s) ≡ true
+utf8_end : (s : List ℕ) (at : ℕ) → length s ≤ at → utf8 (drop at s) ≡ true
 unfolding utf8 utf8_after
 utf8_end s at h = ap (utf8_after []) (drop_of_length-le s {i = at} h)
+
+-- Characters that are right up to the end are all there are.
+pub all_walked : (s : List ℕ) (o : Option ℕ) → Reaches (length s) s o → is_some o ≡ onward s o
+all_walked s None r = refl
+all_walked s (Some at) r = sym (utf8_end s at r.0)
 
 pub low_part : (s : List ℕ) (at m : ℕ) → at + m ≤ length s → Low (take (at + m - at) (drop at s))
     → utf8 (drop (at + m) s) ≡ utf8 (drop at s)

@@ -11,17 +11,19 @@ use borrow.Author.Tests.{lt-ltb, le-ltb, eq-eqb, ne_eqb}
 use Rattle.grammar.specs.Grammar.{curly}
 use Rattle.grammar.specs.Reader.{skip_space, read_text, Entry, entry_at, value_at}
 use Rattle.json_read.specs.Inner.Ends.{found_of}
-use Rattle.json_read.specs.Members.{first_in, member_of}
+use Rattle.json_read.specs.Members.{first_in, row_here, member_of}
 use Rattle.json_read.specs.declared.Found.{Found}
 use Rattle.json_read.specs.declared.Position.{Position}
 use Rattle.json_read.specs.declared.member.Row.{Row}
 use Rattle.json_read.specs.declared.member.Member.{Member}
-use Rattle.json_read.specs.declared.member.Member.TheVariants as member
+use Rattle.std.specs.Prelude as std
+use Rattle.std.specs.Prelude.{Some, None}
 use Rattle.prelude.specs.Refusals.{◌if◌, first, stage_of}
 use Rattle.prelude.proofs.Refusals.{first_fails, first_passes}
 use Rattle.prelude.specs.Limits.{longest}
+use Rattle.json_read.proofs.NumberParts.{same_found}
 use Rattle.headers.specs.Headers.{unread, protected_entries, object_order}
-use Rattle.prelude.specs.declared.Stage.TheVariants.{Passed, Refused}
+use Rattle.prelude.specs.Refusals.{Passed, Refused}
 use Rattle.headers.proofs.Stages.{passed_is, refused_is}
 use Rattle.headers.proofs.Texts.{no_value, by_reading}
 use Rattle.walk.specs.declared.Opening.{Opening}
@@ -31,36 +33,25 @@ use Rattle.walk.specs.Walk.{walk_order, first_offset, opening_of, stepped_of, st
 
 -- Steps
 
-step_end : (s : List ℕ) (o : Option Entry) → member.End ≡ member_of s o →
+step_end : (s : List ℕ) (o : Option Entry) → None ≡ member_of s o →
     ◌≡◌ {A = Stepped} (record { handed = handed.End; at = length s }) (stepped_of s o)
 step_end s none e = refl
 step_end s (some x) e = let z : ◌≡◌ {A = ℕ} 0 1 = cc in absurd (omega arith)
 
-step_here : (s : List ℕ) (o : Option Entry) (row : Row) (next : Position) → member.Here row next ≡ member_of s o →
+step_here : (s : List ℕ) (o : Option Entry) (row : Row) (next : Position) → row_here row next ≡ member_of s o →
     ◌≡◌ {A = Stepped} (record { handed = handed.Member row; at = next.at }) (stepped_of s o)
 step_here s none row next e = let z : ◌≡◌ {A = ℕ} 0 1 = cc in absurd (omega arith)
 step_here s (some x) row next e =
-    let r : row ≡ member_row (member_of s (some x)) = ap member_row e in
-    let p : ◌≡◌ {A = ℕ} next.at (member_at (member_of s (some x))) = ap member_at e in
-    ap (λ (q : Row). record { handed = handed.Member q; at = next.at }) r
-    ∙ ap (λ (n : ℕ). record { handed = handed.Member (member_row (member_of s (some x))); at = n }) p
-  where
-    member_row : Member → Row
-    member_row (member.Here q p) = q
-    member_row member.End = row
-
-    member_at : Member → ℕ
-    member_at (member.Here q p) = p.at
-    member_at member.End = 0
+    ap (λ (m : Member). record { handed = handed.Member m.row; at = m.next.at }) (same_found e)
 
 module _ (s : List ℕ) (at : ℕ) where
-  pub steps_end : member.End ≡ member_of s (entry_at (value_at 12 s) curly s at) →
+  pub steps_end : None ≡ member_of s (entry_at (value_at 12 s) curly s at) →
       ◌≡◌ {A = Stepped} (record { handed = handed.End; at = length s }) (step_at s at)
   unfolding step_at
   steps_end e = step_end s (entry_at (value_at 12 s) curly s at) e
 
   pub steps_here : (row : Row) (next : Position) →
-      member.Here row next ≡ member_of s (entry_at (value_at 12 s) curly s at) →
+      row_here row next ≡ member_of s (entry_at (value_at 12 s) curly s at) →
       ◌≡◌ {A = Stepped} (record { handed = handed.Member row; at = next.at }) (step_at s at)
   unfolding step_at
   steps_here row next e = step_here s (entry_at (value_at 12 s) curly s at) row next e
@@ -100,7 +91,7 @@ module _ (s : List ℕ) where
     unfolding walk_order
     passes_2 = first_passes _ _ (le-ltb longest (length s) short)
 
-    module _ (answer : Found) (a : answer ≡ found_of (read_text 12 s)) where
+    module _ (answer : std.Option Found) (a : answer ≡ found_of (read_text 12 s)) where
       unread_is : unread s ≡ no_value answer
       unfolding unread
       unread_is = sym (ap no_value a ∙ by_reading (read_text 12 s))

@@ -1,5 +1,5 @@
 -- `join` asks for the room of the header and then of the rest, so that no sum is formed that could not be held.
-use mathlib.Core.Path.{refl}
+use mathlib.Core.Path.{refl, sym, ◌∙◌}
 use mathlib.Core.List.{◌∷◌, ◌++◌}
 use native.Mathlib.Omega.{arith}
 use lib.ListN.{length, length-append}
@@ -7,39 +7,36 @@ use Rattle.aad.specs.Aad.{aad_text}
 use Rattle.aad.proofs.Joining.{header_in, without_aad, with_aad, fits, short}
 use Rattle.aad.proofs.join.Goals as goal
 
-pub returns-then-out-n : goal.returns-then-out-n
-returns-then-out-n c =
-    let given = c.args in
-    let header = given.header.now in
-    let aad = given.aad.now in
-    let all = header_in header aad given.out.now in
-    short header aad given.out.now (aad_text header aad) refl (omega (arith, all, c.if-out-n.true))
+pub returns-in_err-room : goal.returns-in_err-room
+returns-in_err-room c =
+    let header = c.args.header.now in
+    let aad = c.args.aad.now in
+    let out = c.args.out.now in
+    rw c.from_residual.ensures
+    (short header aad out (aad_text header aad) refl (omega (arith, header_in header aad out, c.in_err-room.ensures)))
 
-pub returns-then-aad-eq0 : goal.returns-then-aad-eq0
-returns-then-aad-eq0 c =
-    let given = c.args in
-    let header = given.header.now in
-    let aad = given.aad.now in
-    let none = c.if-aad-eq0.true in
-    fits header aad given.out.now header (without_aad header aad given.out.now none)
-    c.if-out-n.false (length header) _ refl c.copy_octets.ensures
+pub returns-then-is_empty : goal.returns-then-is_empty
+returns-then-is_empty c =
+    let header = c.args.header.now in
+    let aad = c.args.aad.now in
+    let out = c.args.out.now in
+    fits header aad out header (without_aad header aad out (sym c.is_empty.ensures ∙ c.if-is_empty.true))
+    c.in_ok-room.ensures.0 (length header) _ refl c.copy_octets.ensures
 
-pub returns-then-out-n-2 : goal.returns-then-out-n-2
-returns-then-out-n-2 c =
-    let given = c.args in
-    let header = given.header.now in
-    let aad = given.aad.now in
-    let sum = length-append header (46 ∷ aad) in
-    short header aad given.out.now (header ++ (46 ∷ aad)) (with_aad header aad given.out.now c.if-aad-eq0.false)
-    (omega (arith, sum, c.if-out-n-2.true, c.if-out-n.false))
+pub returns-then-room-aad : goal.returns-then-room-aad
+returns-then-room-aad c =
+    let header = c.args.header.now in
+    let aad = c.args.aad.now in
+    let out = c.args.out.now in
+    short header aad out (header ++ (46 ∷ aad)) (with_aad header aad out (sym c.is_empty.ensures ∙ c.if-is_empty.false))
+    (omega (arith, length-append header (46 ∷ aad), c.if-room-aad.true, c.in_ok-room.ensures))
 
 pub returns : goal.returns
 returns c =
-    let given = c.args in
-    let header = given.header.now in
-    let aad = given.aad.now in
-    let sum = length-append header (46 ∷ aad) in
-    fits header aad given.out.now (header ++ (46 ∷ aad))
-    (with_aad header aad given.out.now c.if-aad-eq0.false)
-    (omega (arith, sum, c.if-out-n-2.false, c.if-out-n.false))
+    let header = c.args.header.now in
+    let aad = c.args.aad.now in
+    let out = c.args.out.now in
+    fits header aad out (header ++ (46 ∷ aad))
+    (with_aad header aad out (sym c.is_empty.ensures ∙ c.if-is_empty.false))
+    (omega (arith, length-append header (46 ∷ aad), c.if-room-aad.false, c.in_ok-room.ensures))
     c.put.result _ c.put.ensures.value c.put.ensures.out_after

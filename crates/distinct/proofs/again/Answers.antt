@@ -8,29 +8,29 @@ use Rattle.distinct.proofs.again.Goals as goal
 pub loop-left-init : goal.loop-left-init
 loop-left-init c = (refl, c.requires)
 
-pub member-found-requires : goal.member-found-requires
-member-found-requires c =
+pub member-requires : goal.member-requires
+member-requires c =
     entry_known curly _ c.loop-left.left c.loop-left.p.at c.loop-left-test.true c.loop-left.invariant.1
 
 pub returns-in_default : goal.returns-in_default
 returns-in_default c =
     walk_end (of_any _) _ curly _ c.loop-left.left c.loop-left.p.at c.loop-left.invariant.0
-    c.loop-left-test.true (sym c.in_default.is ∙ c.member-found.ensures)
+    c.loop-left-test.true c.in_default.ensures
 
 pub returns-then-same_name : goal.returns-then-same_name
 returns-then-same_name c =
     walk_found (of_any _) _ curly _ c.loop-left.left c.loop-left.p.at c.loop-left.invariant.0
-    c.loop-left-test.true c.in-Here.other c.in-Here.next
-    (sym c.in-Here.is ∙ c.member-found.ensures)
+    c.loop-left-test.true c.in-Some.found.row c.in-Some.found.next
+    c.in-Some.ensures
     (sym c.same_name.ensures ∙ c.if-same_name.true)
 
 pub loop-left-preserved : goal.loop-left-preserved
 loop-left-preserved c =
-    let told = sym c.in-Here.is ∙ c.member-found.ensures in
+    let told = c.in-Some.ensures in
     let h = c.loop-left-test.true in (
-      walk_on (of_any _) _ curly _ c.loop-left.left c.loop-left.p.at c.loop-left.invariant.0 h c.in-Here.other c.in-Here.next told
+      walk_on (of_any _) _ curly _ c.loop-left.left c.loop-left.p.at c.loop-left.invariant.0 h c.in-Some.found.row c.in-Some.found.next told
           (sym c.same_name.ensures ∙ c.if-same_name.false),
-      known_more curly _ c.loop-left.left c.loop-left.p.at h c.in-Here.other c.in-Here.next told c.loop-left.invariant.1,
+      known_more curly _ c.loop-left.left c.loop-left.p.at h c.in-Some.found.row c.in-Some.found.next told c.loop-left.invariant.1,
     )
 
 pub returns : goal.returns

@@ -1,23 +1,22 @@
 -- Where the content algorithm of some entries stands, as the code finds it.
-use Rattle.std.specs.Prelude.{List, [], ◌∷◌, cond, ℕ, ◌+◌, ◌-◌, eqb}
+use Rattle.std.specs.Prelude.{List, [], ◌∷◌, cond, ℕ, ◌+◌, ◌-◌, eqb, Some, None, Option as Maybe}
 use Rattle.std.proofs.Math.Option.{Option, none, some}
 use Rattle.parts.specs.Parts.{part}
+use Rattle.prelude.specs.declared.Place.{Place}
 use Rattle.rows.specs.Rows.{Entry, having}
 use Rattle.jose.specs.Registered.{enc, string}
-use Rattle.jose.specs.declared.content.Named.{Named}
-use Rattle.jose.specs.declared.content.Named.TheVariants.{At, Nothing}
 
 -- The place of the string that a single entry has, without its quotation marks.
-abbrev pub place_of : List Entry → Named
-place_of [] = Nothing
+abbrev pub place_of : List Entry → Maybe Place
+place_of [] = None
 place_of (e ∷ []) =
-    cond (eqb e.member.kind string) (At (record { start = e.member.value_start + 1; len = e.member.value_size - 2 })) Nothing
-place_of (e ∷ (f ∷ es)) = Nothing
+    cond (eqb e.member.kind string) (Some (record { start = e.member.value_start + 1; len = e.member.value_size - 2 })) None
+place_of (e ∷ (f ∷ es)) = None
 
-unfoldable pub named_in : List Entry → Named
+unfoldable pub named_in : List Entry → Maybe Place
 named_in es = place_of (having enc es)
 
 -- What stands there in a text.
-abbrev pub shown_in : List ℕ → Named → Option (List ℕ)
-shown_in s (At p) = some (part s p.start p.len)
-shown_in s Nothing = none
+abbrev pub shown_in : List ℕ → Maybe Place → Option (List ℕ)
+shown_in s (Some p) = some (part s p.start p.len)
+shown_in s None = none

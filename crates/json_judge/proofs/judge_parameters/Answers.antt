@@ -13,72 +13,72 @@ use Rattle.json_judge.specs.Inner.Asked.{parameters_tests}
 use Rattle.json_judge.proofs.Tables.{collected, collected_length, front_is}
 use Rattle.json_judge.proofs.judge_parameters.Goals as goal
 
-pub returns-in_default : goal.returns-in_default
+pub returns-in_err-p : goal.returns-in_err-p
 unfolding parameters_tests
-returns-in_default c =
-    let r = refused_is c.in_default.field-0 _ _ (sym c.in_default.is ∙ c.protected_entries-protected.ensures.value) in
+returns-in_err-p c =
+    let r = refused_is (number_of c.in_err-p.field-0.0) _ _ (sym (ap as_stage c.in_err-p.was) ∙ c.protected_entries.ensures.value) in
     let all = stopped (object_order c.args.header.now (protected_entries c.args.header.now)) _
-    (object_nonzero c.args.header.now _) c.in_default.field-0 r.0 r.1 in
-    c.in_default.is ∙ refuses _ r.1 ∙ ap (λ (m : ℕ). stage_of m c.args.n) (sym all)
+    (object_nonzero c.args.header.now _) (number_of c.in_err-p.field-0.0) r.0 r.1 in
+    (ap as_stage c.in_err-p.was) ∙ refuses _ r.1 ∙ ap (λ (m : ℕ). stage_of m c.args.n) (sym all)
 
-pub text_entries-common-requires : goal.text_entries-common-requires
-text_entries-common-requires c =
-    let long : length c.protected_entries-protected.new.table ≡ 768 = ap length c.protected_entries-protected.ensures.table_after
+pub text_entries-requires : goal.text_entries-requires
+text_entries-requires c =
+    let long : length c.protected_entries.new.table ≡ 768 = ap length c.protected_entries.ensures.table_after
     ∙ collected_length 0 c.args.header.now (protected_entries c.args.header.now) (replicate 768 0) (omega arith) in
     let kept : (let header = c.args.header.now in
     (first (object_order header (protected_entries header)) ≡ 0)
-    × Collected header (protected_entries header) 0 (replicate 768 0) c.protected_entries-protected.new.table
-    c.in-Passed.p) = collected c.args.header.now (protected_entries c.args.header.now) 0 (replicate 768 0) _ _
-    (sym c.in-Passed.is ∙ c.protected_entries-protected.ensures.value) c.protected_entries-protected.ensures.table_after in
+    × Collected header (protected_entries header) 0 (replicate 768 0) c.protected_entries.new.table
+    c.in_ok-p.p) = collected c.args.header.now (protected_entries c.args.header.now) 0 (replicate 768 0) _ _
+    (sym (ap as_stage c.in_ok-p.was) ∙ c.protected_entries.ensures.value) c.protected_entries.ensures.table_after in
     record {
       readable = c.requires.readable;
       header_table_in_bounds = omega (arith, long, (kept).1.short);
     }
 
-pub returns-in_default-common : goal.returns-in_default-common
+pub returns-in_err-s : goal.returns-in_err-s
 unfolding parameters_tests
-returns-in_default-common c =
+returns-in_err-s c =
     let kept : (let header = c.args.header.now in
     (first (object_order header (protected_entries header)) ≡ 0)
-    × Collected header (protected_entries header) 0 (replicate 768 0) c.protected_entries-protected.new.table
-    c.in-Passed.p) = collected c.args.header.now (protected_entries c.args.header.now) 0 (replicate 768 0) _ _
-    (sym c.in-Passed.is ∙ c.protected_entries-protected.ensures.value) c.protected_entries-protected.ensures.table_after in
-    let r = refused_is c.in_default-common.field-0 _ _ (sym c.in_default-common.is ∙ c.text_entries-common.ensures.value) in
+    × Collected header (protected_entries header) 0 (replicate 768 0) c.protected_entries.new.table
+    c.in_ok-p.p) = collected c.args.header.now (protected_entries c.args.header.now) 0 (replicate 768 0) _ _
+    (sym (ap as_stage c.in_ok-p.was) ∙ c.protected_entries.ensures.value) c.protected_entries.ensures.table_after in
+    let r = refused_is (number_of c.in_err-s.field-0.0) _ _ (sym (ap as_stage c.in_err-s.was) ∙ c.text_entries.ensures.value) in
     let all = stopped (object_order c.args.shared.now (text_entries 1 c.args.shared.now)) _
-    (object_nonzero c.args.shared.now _) c.in_default-common.field-0 r.0 r.1 in
+    (object_nonzero c.args.shared.now _) (number_of c.in_err-s.field-0.0) r.0 r.1 in
     let whole = first_skip (object_order c.args.header.now (protected_entries c.args.header.now)) _
     (object_nonzero c.args.header.now _) (kept).0 in
-    c.in_default-common.is ∙ refuses _ r.1 ∙ ap (λ (m : ℕ). stage_of m c.args.n) (sym (whole ∙ all))
+    (ap as_stage c.in_err-s.was) ∙ refuses _ r.1 ∙ ap (λ (m : ℕ). stage_of m c.args.n) (sym (whole ∙ all))
 
 pub overflow_add-p : goal.overflow_add-p
 overflow_add-p c =
     let kept2 : (first (object_order c.args.shared.now (text_entries 1 c.args.shared.now)) ≡ 0)
-    × Collected c.args.shared.now (text_entries 1 c.args.shared.now) c.in-Passed.p
-    c.protected_entries-protected.new.table c.text_entries-common.new.table c.in-Passed-common.s = collected c.args.shared.now (text_entries 1 c.args.shared.now) _ _ _ _
-    (sym c.in-Passed-common.is ∙ c.text_entries-common.ensures.value) c.text_entries-common.ensures.table_after in
+    × Collected c.args.shared.now (text_entries 1 c.args.shared.now) c.in_ok-p.p
+    c.protected_entries.new.table c.text_entries.new.table c.in_ok-s.s = collected c.args.shared.now (text_entries 1 c.args.shared.now) _ _ _ _
+    (sym (ap as_stage c.in_ok-s.was) ∙ c.text_entries.ensures.value) c.text_entries.ensures.table_after in
     let kept : (let header = c.args.header.now in
     (first (object_order header (protected_entries header)) ≡ 0)
-    × Collected header (protected_entries header) 0 (replicate 768 0) c.protected_entries-protected.new.table
-    c.in-Passed.p) = collected c.args.header.now (protected_entries c.args.header.now) 0 (replicate 768 0) _ _
-    (sym c.in-Passed.is ∙ c.protected_entries-protected.ensures.value) c.protected_entries-protected.ensures.table_after in
+    × Collected header (protected_entries header) 0 (replicate 768 0) c.protected_entries.new.table
+    c.in_ok-p.p) = collected c.args.header.now (protected_entries c.args.header.now) 0 (replicate 768 0) _ _
+    (sym (ap as_stage c.in_ok-p.was) ∙ c.protected_entries.ensures.value) c.protected_entries.ensures.table_after in
     omega (arith, (kept2).1.short, (kept).1.short)
 
 pub judge_recipients-requires : goal.judge_recipients-requires
 judge_recipients-requires c =
     let kept : (let header = c.args.header.now in
     (first (object_order header (protected_entries header)) ≡ 0)
-    × Collected header (protected_entries header) 0 (replicate 768 0) c.protected_entries-protected.new.table
-    c.in-Passed.p) = collected c.args.header.now (protected_entries c.args.header.now) 0 (replicate 768 0) _ _
-    (sym c.in-Passed.is ∙ c.protected_entries-protected.ensures.value) c.protected_entries-protected.ensures.table_after in
+    × Collected header (protected_entries header) 0 (replicate 768 0) c.protected_entries.new.table
+    c.in_ok-p.p) = collected c.args.header.now (protected_entries c.args.header.now) 0 (replicate 768 0) _ _
+    (sym (ap as_stage c.in_ok-p.was) ∙ c.protected_entries.ensures.value) c.protected_entries.ensures.table_after in
     let kept2 : (first (object_order c.args.shared.now (text_entries 1 c.args.shared.now)) ≡ 0)
-    × Collected c.args.shared.now (text_entries 1 c.args.shared.now) c.in-Passed.p
-    c.protected_entries-protected.new.table c.text_entries-common.new.table c.in-Passed-common.s = collected c.args.shared.now (text_entries 1 c.args.shared.now) _ _ _ _
-    (sym c.in-Passed-common.is ∙ c.text_entries-common.ensures.value) c.text_entries-common.ensures.table_after in
-    let long : length c.protected_entries-protected.new.table ≡ 768 = ap length c.protected_entries-protected.ensures.table_after
+    × Collected c.args.shared.now (text_entries 1 c.args.shared.now) c.in_ok-p.p
+    c.protected_entries.new.table c.text_entries.new.table c.in_ok-s.s = collected c.args.shared.now (text_entries 1 c.args.shared.now) _ _ _ _
+    (sym (ap as_stage c.in_ok-s.was) ∙ c.text_entries.ensures.value) c.text_entries.ensures.table_after in
+    let long : length c.protected_entries.new.table ≡ 768 = ap length c.protected_entries.ensures.table_after
     ∙ collected_length 0 c.args.header.now (protected_entries c.args.header.now) (replicate 768 0) (omega arith) in
     let few = (kept).1.short in
     let more = (kept2).1.short in
-    let same = ap length c.text_entries-common.ensures.table_after
+    let same = ap length c.text_entries.ensures.table_after
     ∙ collected_length _ c.args.shared.now (text_entries 1 c.args.shared.now) _ (omega (arith, long, few)) in
     record {
       known_value = c.requires.known_value;
@@ -94,13 +94,13 @@ unfolding parameters_tests
 returns c =
     let kept : (let header = c.args.header.now in
     (first (object_order header (protected_entries header)) ≡ 0)
-    × Collected header (protected_entries header) 0 (replicate 768 0) c.protected_entries-protected.new.table
-    c.in-Passed.p) = collected c.args.header.now (protected_entries c.args.header.now) 0 (replicate 768 0) _ _
-    (sym c.in-Passed.is ∙ c.protected_entries-protected.ensures.value) c.protected_entries-protected.ensures.table_after in
+    × Collected header (protected_entries header) 0 (replicate 768 0) c.protected_entries.new.table
+    c.in_ok-p.p) = collected c.args.header.now (protected_entries c.args.header.now) 0 (replicate 768 0) _ _
+    (sym (ap as_stage c.in_ok-p.was) ∙ c.protected_entries.ensures.value) c.protected_entries.ensures.table_after in
     let kept2 : (first (object_order c.args.shared.now (text_entries 1 c.args.shared.now)) ≡ 0)
-    × Collected c.args.shared.now (text_entries 1 c.args.shared.now) c.in-Passed.p
-    c.protected_entries-protected.new.table c.text_entries-common.new.table c.in-Passed-common.s = collected c.args.shared.now (text_entries 1 c.args.shared.now) _ _ _ _
-    (sym c.in-Passed-common.is ∙ c.text_entries-common.ensures.value) c.text_entries-common.ensures.table_after in
+    × Collected c.args.shared.now (text_entries 1 c.args.shared.now) c.in_ok-p.p
+    c.protected_entries.new.table c.text_entries.new.table c.in_ok-s.s = collected c.args.shared.now (text_entries 1 c.args.shared.now) _ _ _ _
+    (sym (ap as_stage c.in_ok-s.was) ∙ c.text_entries.ensures.value) c.text_entries.ensures.table_after in
     let h = c.args.header.now in
     let sh = c.args.shared.now in
     let whole = first_skip (object_order h (protected_entries h)) _ (object_nonzero h _) (kept).0 in

@@ -1,18 +1,17 @@
--- Members of an object, or elements of an array, put one after the other, and measured so: a cursor says where the next one
--- goes and whether one stands before it.
-use Rattle.std.specs.Prelude.{◌≡◌, Bool, true, List, [], ◌∷◌, ◌++◌, ℕ, ◌+◌, ◌≤◌, min, length}
+-- Members of an object, or elements of an array, written one after the other: a writer says whether one stands before.
+use Rattle.std.specs.Prelude.{◌≡◌, Bool, List, [], ◌∷◌, ◌++◌, ℕ}
 use Rattle.prelude.specs.Ascii.{ascii}
-use Rattle.prelude.specs.Buffer.{written}
-use Rattle.prelude.specs.Limits.{longest}
 use Rattle.parts.specs.Parts.{part}
 use Rattle.base64url.specs.Base64url.{encoded}
 use Rattle.grammar.specs.Grammar.{colon}
 use Rattle.recipients.specs.Table.{RawRecipient}
+use Rattle.recipients.specs.Parsed.{recipients_in}
 use Rattle.recipients.specs.declared.Body.{Body}
 use Rattle.json_text.specs.Pieces.{quoted, member_text}
-use Rattle.json_text.specs.Inner.Led.{led, begun_after, led_size}
+use Rattle.json_text.specs.Inner.Led.{led, begun_after}
 use Rattle.json_message.specs.JsonText.{header_member, component_member, recipient_members}
-use Rattle.json_put.specs.declared.Cursor.{Cursor}
+use Rattle.json_message.specs.JsonWrite.{RawJson, raw_json}
+use Rattle.json_put.specs.declared.message.Message.{Message}
 
 -- A member up to its value.
 unfoldable pub name_text : List ℕ → List ℕ
@@ -22,18 +21,25 @@ name_text name = quoted name ++ (colon ∷ [])
 unfoldable pub encoded_member : List ℕ → List ℕ → List (List ℕ)
 encoded_member name octets = member_text name (quoted (encoded octets)) ∷ []
 
+-- What is given, as the writer's definitions have it.
+abbrev pub raw_of : Message → RawJson
+raw_of m = raw_json m.protected.now m.shared.now m.aad.now m.iv.now m.ciphertext.now m.tag.now m.recipients.now
+
 -- The members of a message, those up to the recipients' and those behind them.
 
-unfoldable pub head_members : Bool → List ℕ → List ℕ → List RawRecipient → List (List ℕ)
-head_members general protected shared rs =
-    component_member (ascii "protected") protected
-    ++ (header_member (ascii "unprotected") shared ++ recipient_members general rs)
+unfoldable pub head_members : Bool → Message → List (List ℕ)
+head_members general m =
+    component_member (ascii "protected") m.protected.now
+    ++ (header_member (ascii "unprotected") m.shared.now ++ recipient_members general (recipients_in m.recipients.now))
 
-unfoldable pub tail_members : List ℕ → List ℕ → List ℕ → List ℕ → List (List ℕ)
-tail_members aad iv ciphertext tag =
-    component_member (ascii "aad") aad
-    ++ (component_member (ascii "iv") iv
-    ++ (encoded_member (ascii "ciphertext") ciphertext ++ component_member (ascii "tag") tag))
+unfoldable pub tail_members : Message → List (List ℕ)
+tail_members m =
+    component_member (ascii "aad") m.aad.now
+    ++ (component_member (ascii "iv") m.iv.now
+    ++ (encoded_member (ascii "ciphertext") m.ciphertext.now ++ component_member (ascii "tag") m.tag.now))
+
+abbrev pub all_members : Bool → Message → List (List ℕ)
+all_members general m = head_members general m ++ tail_members m
 
 -- The recipient whose header and key stand at these places.
 unfoldable pub shown : List ℕ → Body → RawRecipient
@@ -42,29 +48,22 @@ shown t b = record {
   key = part t b.key.start b.key.len;
 }
 
--- Putting
+-- Members written to a sink
 
--- The cursor behind these texts.
-abbrev pub behind : Cursor → List (List ℕ) → Cursor
-behind c ws = record { at = c.at + length (led c.begun ws); begun = begun_after c.begun ws }
+-- A sink, and whether one stands before what follows
+pub record Point (S : Type 0) : Type 0 where
+  pub sink : S
+  pub begun : Bool
 
--- They fit a buffer.
-abbrev pub Room : Cursor → List (List ℕ) → List ℕ → Type 0
-Room c ws buffer = c.at + length (led c.begun ws) ≤ length buffer
+abbrev pub point : {S : Type 0} → S → Bool → Point S
+point s begun = record { sink = s; begun = begun }
 
--- They were put into a buffer, and the cursor was moved.
-pub record Puts (c : Cursor) (ws : List (List ℕ)) (before : List ℕ) (r : Cursor) (after : List ℕ) : Type 0 where
-  pub moves : r ≡ behind c ws
-  pub leaves : after ≡ written c.at (led c.begun ws) before
+module _ {S : Type 0} where
+  -- These may come next.
+  abbrev pub Room : (S → List ℕ → Type 0) → Point S → List (List ℕ) → Type 0
+  Room fits w ws = fits w.sink (led w.begun ws)
 
--- Measuring: positions stop one octet behind the longest message.
-
-abbrev pub cut : ℕ → ℕ
-cut n = min n (longest + 1)
-
-abbrev pub measured : Cursor → List (List ℕ) → Cursor
-measured c ws = record { at = cut (c.at + length (led c.begun ws)); begun = begun_after c.begun ws }
-
--- One text more, by its length.
-abbrev pub widened : Cursor → ℕ → Cursor
-widened c n = record { at = cut (c.at + led_size c.begun n); begun = true }
+  -- These came between two moments.
+  pub record Puts (gains : S → List ℕ → S → Type 0) (w : Point S) (ws : List (List ℕ)) (v : Point S) : Type 0 where
+    pub octets : gains w.sink (led w.begun ws) v.sink
+    pub begun : v.begun ≡ begun_after w.begun ws

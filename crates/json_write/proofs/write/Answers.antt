@@ -5,7 +5,7 @@ use Prim.Native.Nat.{◌≤◌, ◌<◌}
 use native.Mathlib.Omega.{arith}
 use lib.ListN.{length}
 use Rattle.prelude.specs.Refusals.{first}
-use Rattle.prelude.specs.declared.Stage.{Stage}
+use Rattle.prelude.specs.Refusals.{Stage}
 use Rattle.prelude.proofs.Lists.{all_below}
 use Rattle.names.specs.Names.{names, sound}
 use Rattle.names.proofs.Laws.{sound_filled}
@@ -34,7 +34,7 @@ pub returns-in_default : goal.returns-in_default
 returns-in_default c =
     let sounds : sound (c.args.known.now) ≡ true = sym c.sound.ensures ∙ c.if-not-sound.false in
     let wrong = wrong_sound (c.args.general) ((raw_json c.args.protected.now c.args.shared.now c.args.aad.now c.args.iv.now c.args.ciphertext.now
-    c.args.tag.now c.args.recipients.now)).recipients (uncounted _ (sym c.count-counted.ensures ∙ c.in_default.is)) in
+    c.args.tag.now c.args.recipients.now)).recipients (uncounted _ (sym c.count.ensures ∙ c.in_default.is)) in
     refuses (c.args.general) ((raw_json c.args.protected.now c.args.shared.now c.args.aad.now c.args.iv.now c.args.ciphertext.now
     c.args.tag.now c.args.recipients.now)) (c.args.known.now) (c.args.out.now) 20
     (refusal_table (c.args.general) ((raw_json c.args.protected.now c.args.shared.now c.args.aad.now c.args.iv.now c.args.ciphertext.now
@@ -43,10 +43,10 @@ returns-in_default c =
 pub returns-then-most_for-n : goal.returns-then-most_for-n
 returns-then-most_for-n c =
     let said : (sound_table ((raw_json c.args.protected.now c.args.shared.now c.args.aad.now c.args.iv.now c.args.ciphertext.now
-    c.args.tag.now c.args.recipients.now)).recipients ≡ true) × (c.in-Recipients.n ≡ said_count ((raw_json c.args.protected.now c.args.shared.now c.args.aad.now c.args.iv.now c.args.ciphertext.now
+    c.args.tag.now c.args.recipients.now)).recipients ≡ true) × (c.in-Some.n ≡ said_count ((raw_json c.args.protected.now c.args.shared.now c.args.aad.now c.args.iv.now c.args.ciphertext.now
     c.args.tag.now c.args.recipients.now)).recipients) = (let t = ((raw_json c.args.protected.now c.args.shared.now c.args.aad.now c.args.iv.now c.args.ciphertext.now
     c.args.tag.now c.args.recipients.now)).recipients in
-    let e = sym c.count-counted.ensures ∙ c.in-Recipients.is in
+    let e = sym c.count.ensures ∙ c.in-Some.is in
     (counted_sound t _ e, counted t _ e)) in
     let sounds : sound (c.args.known.now) ≡ true = sym c.sound.ensures ∙ c.if-not-sound.false in
     let wrong = wrong_count (c.args.general) ((raw_json c.args.protected.now c.args.shared.now c.args.aad.now c.args.iv.now c.args.ciphertext.now
@@ -56,23 +56,16 @@ returns-then-most_for-n c =
     (refusal_table (c.args.general) ((raw_json c.args.protected.now c.args.shared.now c.args.aad.now c.args.iv.now c.args.ciphertext.now
     c.args.tag.now c.args.recipients.now)) (c.args.known.now) (length (c.args.out.now)) (sounds) wrong) (omega arith)
 
-pub text_length-size-requires : goal.text_length-size-requires
-text_length-size-requires c =
-    let said : (sound_table ((raw_json c.args.protected.now c.args.shared.now c.args.aad.now c.args.iv.now c.args.ciphertext.now
-    c.args.tag.now c.args.recipients.now)).recipients ≡ true) × (c.in-Recipients.n ≡ said_count ((raw_json c.args.protected.now c.args.shared.now c.args.aad.now c.args.iv.now c.args.ciphertext.now
-    c.args.tag.now c.args.recipients.now)).recipients) = (let t = ((raw_json c.args.protected.now c.args.shared.now c.args.aad.now c.args.iv.now c.args.ciphertext.now
-    c.args.tag.now c.args.recipients.now)).recipients in
-    let e = sym c.count-counted.ensures ∙ c.in-Recipients.is in
-    (counted_sound t _ e, counted t _ e)) in
-    (said).0
+pub invariant_of-message : goal.invariant_of-message
+invariant_of-message c = record { sound = counted_sound c.args.recipients.now _ (sym c.count.ensures ∙ c.in-Some.is) }
 
 pub judge_over-requires : goal.judge_over-requires
 judge_over-requires c =
     let said : (sound_table ((raw_json c.args.protected.now c.args.shared.now c.args.aad.now c.args.iv.now c.args.ciphertext.now
-    c.args.tag.now c.args.recipients.now)).recipients ≡ true) × (c.in-Recipients.n ≡ said_count ((raw_json c.args.protected.now c.args.shared.now c.args.aad.now c.args.iv.now c.args.ciphertext.now
+    c.args.tag.now c.args.recipients.now)).recipients ≡ true) × (c.in-Some.n ≡ said_count ((raw_json c.args.protected.now c.args.shared.now c.args.aad.now c.args.iv.now c.args.ciphertext.now
     c.args.tag.now c.args.recipients.now)).recipients) = (let t = ((raw_json c.args.protected.now c.args.shared.now c.args.aad.now c.args.iv.now c.args.ciphertext.now
     c.args.tag.now c.args.recipients.now)).recipients in
-    let e = sym c.count-counted.ensures ∙ c.in-Recipients.is in
+    let e = sym c.count.ensures ∙ c.in-Some.is in
     (counted_sound t _ e, counted t _ e)) in
     let both = said in
     record { recipients_value = both.0; n_value = both.1 }
@@ -81,10 +74,10 @@ pub returns-then-size-gt-LONGEST : goal.returns-then-size-gt-LONGEST
 returns-then-size-gt-LONGEST c =
     let sounds : sound (c.args.known.now) ≡ true = sym c.sound.ensures ∙ c.if-not-sound.false in
     let said : (sound_table ((raw_json c.args.protected.now c.args.shared.now c.args.aad.now c.args.iv.now c.args.ciphertext.now
-    c.args.tag.now c.args.recipients.now)).recipients ≡ true) × (c.in-Recipients.n ≡ said_count ((raw_json c.args.protected.now c.args.shared.now c.args.aad.now c.args.iv.now c.args.ciphertext.now
+    c.args.tag.now c.args.recipients.now)).recipients ≡ true) × (c.in-Some.n ≡ said_count ((raw_json c.args.protected.now c.args.shared.now c.args.aad.now c.args.iv.now c.args.ciphertext.now
     c.args.tag.now c.args.recipients.now)).recipients) = (let t = ((raw_json c.args.protected.now c.args.shared.now c.args.aad.now c.args.iv.now c.args.ciphertext.now
     c.args.tag.now c.args.recipients.now)).recipients in
-    let e = sym c.count-counted.ensures ∙ c.in-Recipients.is in
+    let e = sym c.count.ensures ∙ c.in-Some.is in
     (counted_sound t _ e, counted t _ e)) in
     let few : said_count ((raw_json c.args.protected.now c.args.shared.now c.args.aad.now c.args.iv.now c.args.ciphertext.now
     c.args.tag.now c.args.recipients.now)).recipients ≤ most_for (c.args.general) = omega (arith, c.if-most_for-n.false, c.most_for.ensures, (said).1) in
@@ -110,14 +103,14 @@ returns-then-size-gt-LONGEST c =
     c.args.tag.now c.args.recipients.now)) (c.args.known.now) (c.args.out.now) _ is (over_nonzero (c.args.general) ((raw_json c.args.protected.now c.args.shared.now c.args.aad.now c.args.iv.now c.args.ciphertext.now
     c.args.tag.now c.args.recipients.now)) (names (c.args.known.now))))
 
-pub judge_within-judged-requires : goal.judge_within-judged-requires
-judge_within-judged-requires c =
+pub judge_within-requires : goal.judge_within-requires
+judge_within-requires c =
     let sounds : sound (c.args.known.now) ≡ true = sym c.sound.ensures ∙ c.if-not-sound.false in
     let said : (sound_table ((raw_json c.args.protected.now c.args.shared.now c.args.aad.now c.args.iv.now c.args.ciphertext.now
-    c.args.tag.now c.args.recipients.now)).recipients ≡ true) × (c.in-Recipients.n ≡ said_count ((raw_json c.args.protected.now c.args.shared.now c.args.aad.now c.args.iv.now c.args.ciphertext.now
+    c.args.tag.now c.args.recipients.now)).recipients ≡ true) × (c.in-Some.n ≡ said_count ((raw_json c.args.protected.now c.args.shared.now c.args.aad.now c.args.iv.now c.args.ciphertext.now
     c.args.tag.now c.args.recipients.now)).recipients) = (let t = ((raw_json c.args.protected.now c.args.shared.now c.args.aad.now c.args.iv.now c.args.ciphertext.now
     c.args.tag.now c.args.recipients.now)).recipients in
-    let e = sym c.count-counted.ensures ∙ c.in-Recipients.is in
+    let e = sym c.count.ensures ∙ c.in-Some.is in
     (counted_sound t _ e, counted t _ e)) in
     let short : length ((written_text (c.args.general) ((raw_json c.args.protected.now c.args.shared.now c.args.aad.now c.args.iv.now c.args.ciphertext.now
     c.args.tag.now c.args.recipients.now)))) ≤ 16777216 = omega (arith, c.text_length-size.ensures, c.if-size-gt-LONGEST.false) in
@@ -148,14 +141,14 @@ judge_within-judged-requires c =
           (omega (arith, count, few)));
     }
 
-pub returns-in_default-judged : goal.returns-in_default-judged
-returns-in_default-judged c =
+pub returns-in_err-judge_within : goal.returns-in_err-judge_within
+returns-in_err-judge_within c =
     let sounds : sound (c.args.known.now) ≡ true = sym c.sound.ensures ∙ c.if-not-sound.false in
     let said : (sound_table ((raw_json c.args.protected.now c.args.shared.now c.args.aad.now c.args.iv.now c.args.ciphertext.now
-    c.args.tag.now c.args.recipients.now)).recipients ≡ true) × (c.in-Recipients.n ≡ said_count ((raw_json c.args.protected.now c.args.shared.now c.args.aad.now c.args.iv.now c.args.ciphertext.now
+    c.args.tag.now c.args.recipients.now)).recipients ≡ true) × (c.in-Some.n ≡ said_count ((raw_json c.args.protected.now c.args.shared.now c.args.aad.now c.args.iv.now c.args.ciphertext.now
     c.args.tag.now c.args.recipients.now)).recipients) = (let t = ((raw_json c.args.protected.now c.args.shared.now c.args.aad.now c.args.iv.now c.args.ciphertext.now
     c.args.tag.now c.args.recipients.now)).recipients in
-    let e = sym c.count-counted.ensures ∙ c.in-Recipients.is in
+    let e = sym c.count.ensures ∙ c.in-Some.is in
     (counted_sound t _ e, counted t _ e)) in
     let few : said_count ((raw_json c.args.protected.now c.args.shared.now c.args.aad.now c.args.iv.now c.args.ciphertext.now
     c.args.tag.now c.args.recipients.now)).recipients ≤ most_for (c.args.general) = omega (arith, c.if-most_for-n.false, c.most_for.ensures, (said).1) in
@@ -172,14 +165,14 @@ returns-in_default-judged c =
     }) in
     let short : length ((written_text (c.args.general) ((raw_json c.args.protected.now c.args.shared.now c.args.aad.now c.args.iv.now c.args.ciphertext.now
     c.args.tag.now c.args.recipients.now)))) ≤ 16777216 = omega (arith, c.text_length-size.ensures, c.if-size-gt-LONGEST.false) in
-    let r = refused_is c.in_default-judged.field-0 _ _ (sym c.in_default-judged.is ∙ c.judge_within-judged.ensures) in
+    let r = refused_is (number_of c.in_err-judge_within.field-0.0) _ _ (sym (ap as_stage c.in_err-judge_within.was) ∙ c.judge_within.ensures) in
     subst (λ (x : Stage). WritesJson (c.args.general) ((raw_json c.args.protected.now c.args.shared.now c.args.aad.now c.args.iv.now c.args.ciphertext.now
-    c.args.tag.now c.args.recipients.now)) (c.args.known.now) (c.args.out.now) x (c.args.out.now)) (sym c.in_default-judged.is)
+    c.args.tag.now c.args.recipients.now)) (c.args.known.now) (c.args.out.now) x (c.args.out.now)) (sym (ap as_stage c.in_err-judge_within.was))
     (refuses (c.args.general) ((raw_json c.args.protected.now c.args.shared.now c.args.aad.now c.args.iv.now c.args.ciphertext.now
-    c.args.tag.now c.args.recipients.now)) (c.args.known.now) (c.args.out.now) c.in_default-judged.field-0
+    c.args.tag.now c.args.recipients.now)) (c.args.known.now) (c.args.out.now) (number_of c.in_err-judge_within.field-0.0)
     (refusal_judged (c.args.general) ((raw_json c.args.protected.now c.args.shared.now c.args.aad.now c.args.iv.now c.args.ciphertext.now
     c.args.tag.now c.args.recipients.now)) (c.args.known.now) (length (c.args.out.now)) (sounds) (said).0 (few) (octets) (short)
-    c.in_default-judged.field-0 r.0 r.1) r.1)
+    (number_of c.in_err-judge_within.field-0.0) r.0 r.1) r.1)
 
 pub returns-then-out-size : goal.returns-then-out-size
 returns-then-out-size c =
@@ -187,10 +180,10 @@ returns-then-out-size c =
     c.args.tag.now c.args.recipients.now)))) ≤ 16777216 = omega (arith, c.text_length-size.ensures, c.if-size-gt-LONGEST.false) in
     let sounds : sound (c.args.known.now) ≡ true = sym c.sound.ensures ∙ c.if-not-sound.false in
     let said : (sound_table ((raw_json c.args.protected.now c.args.shared.now c.args.aad.now c.args.iv.now c.args.ciphertext.now
-    c.args.tag.now c.args.recipients.now)).recipients ≡ true) × (c.in-Recipients.n ≡ said_count ((raw_json c.args.protected.now c.args.shared.now c.args.aad.now c.args.iv.now c.args.ciphertext.now
+    c.args.tag.now c.args.recipients.now)).recipients ≡ true) × (c.in-Some.n ≡ said_count ((raw_json c.args.protected.now c.args.shared.now c.args.aad.now c.args.iv.now c.args.ciphertext.now
     c.args.tag.now c.args.recipients.now)).recipients) = (let t = ((raw_json c.args.protected.now c.args.shared.now c.args.aad.now c.args.iv.now c.args.ciphertext.now
     c.args.tag.now c.args.recipients.now)).recipients in
-    let e = sym c.count-counted.ensures ∙ c.in-Recipients.is in
+    let e = sym c.count.ensures ∙ c.in-Some.is in
     (counted_sound t _ e, counted t _ e)) in
     let few : said_count ((raw_json c.args.protected.now c.args.shared.now c.args.aad.now c.args.iv.now c.args.ciphertext.now
     c.args.tag.now c.args.recipients.now)).recipients ≤ most_for (c.args.general) = omega (arith, c.if-most_for-n.false, c.most_for.ensures, (said).1) in
@@ -206,7 +199,7 @@ returns-then-out-size c =
       tag = all_below 256 g.tag (λ k h. (c.shared_slice_known-6-1.given k).fits);
     }) in
     let passed : first (within (c.args.general) ((raw_json c.args.protected.now c.args.shared.now c.args.aad.now c.args.iv.now c.args.ciphertext.now
-    c.args.tag.now c.args.recipients.now)) (names (c.args.known.now))) ≡ 0 = (passed_is _ _ _ (sym c.in-Passed.is ∙ c.judge_within-judged.ensures)).0 in
+    c.args.tag.now c.args.recipients.now)) (names (c.args.known.now))) ≡ 0 = (passed_is _ _ _ (sym c.in-Passed.is ∙ c.judge_within.ensures)).0 in
     let less : length (c.args.out.now) < length ((written_text (c.args.general) ((raw_json c.args.protected.now c.args.shared.now c.args.aad.now c.args.iv.now c.args.ciphertext.now
     c.args.tag.now c.args.recipients.now)))) = omega (arith, c.if-out-size.true, c.text_length-size.ensures, short) in
     refuses (c.args.general) ((raw_json c.args.protected.now c.args.shared.now c.args.aad.now c.args.iv.now c.args.ciphertext.now
@@ -217,18 +210,9 @@ returns-then-out-size c =
 
 pub put_text-requires : goal.put_text-requires
 put_text-requires c =
-    let said : (sound_table ((raw_json c.args.protected.now c.args.shared.now c.args.aad.now c.args.iv.now c.args.ciphertext.now
-    c.args.tag.now c.args.recipients.now)).recipients ≡ true) × (c.in-Recipients.n ≡ said_count ((raw_json c.args.protected.now c.args.shared.now c.args.aad.now c.args.iv.now c.args.ciphertext.now
-    c.args.tag.now c.args.recipients.now)).recipients) = (let t = ((raw_json c.args.protected.now c.args.shared.now c.args.aad.now c.args.iv.now c.args.ciphertext.now
-    c.args.tag.now c.args.recipients.now)).recipients in
-    let e = sym c.count-counted.ensures ∙ c.in-Recipients.is in
-    (counted_sound t _ e, counted t _ e)) in
     let short : length ((written_text (c.args.general) ((raw_json c.args.protected.now c.args.shared.now c.args.aad.now c.args.iv.now c.args.ciphertext.now
     c.args.tag.now c.args.recipients.now)))) ≤ 16777216 = omega (arith, c.text_length-size.ensures, c.if-size-gt-LONGEST.false) in
-    record {
-      table_value = (said).0;
-      table_in_bounds = omega (arith, c.if-out-size.false, c.text_length-size.ensures, short);
-    }
+    omega (arith, c.if-out-size.false, c.text_length-size.ensures, short)
 
 pub returns : goal.returns
 returns c =
@@ -236,10 +220,10 @@ returns c =
     c.args.tag.now c.args.recipients.now)))) ≤ 16777216 = omega (arith, c.text_length-size.ensures, c.if-size-gt-LONGEST.false) in
     let sounds : sound (c.args.known.now) ≡ true = sym c.sound.ensures ∙ c.if-not-sound.false in
     let said : (sound_table ((raw_json c.args.protected.now c.args.shared.now c.args.aad.now c.args.iv.now c.args.ciphertext.now
-    c.args.tag.now c.args.recipients.now)).recipients ≡ true) × (c.in-Recipients.n ≡ said_count ((raw_json c.args.protected.now c.args.shared.now c.args.aad.now c.args.iv.now c.args.ciphertext.now
+    c.args.tag.now c.args.recipients.now)).recipients ≡ true) × (c.in-Some.n ≡ said_count ((raw_json c.args.protected.now c.args.shared.now c.args.aad.now c.args.iv.now c.args.ciphertext.now
     c.args.tag.now c.args.recipients.now)).recipients) = (let t = ((raw_json c.args.protected.now c.args.shared.now c.args.aad.now c.args.iv.now c.args.ciphertext.now
     c.args.tag.now c.args.recipients.now)).recipients in
-    let e = sym c.count-counted.ensures ∙ c.in-Recipients.is in
+    let e = sym c.count.ensures ∙ c.in-Some.is in
     (counted_sound t _ e, counted t _ e)) in
     let few : said_count ((raw_json c.args.protected.now c.args.shared.now c.args.aad.now c.args.iv.now c.args.ciphertext.now
     c.args.tag.now c.args.recipients.now)).recipients ≤ most_for (c.args.general) = omega (arith, c.if-most_for-n.false, c.most_for.ensures, (said).1) in
@@ -255,7 +239,7 @@ returns c =
       tag = all_below 256 g.tag (λ k h. (c.shared_slice_known-6-1.given k).fits);
     }) in
     let passed : first (within (c.args.general) ((raw_json c.args.protected.now c.args.shared.now c.args.aad.now c.args.iv.now c.args.ciphertext.now
-    c.args.tag.now c.args.recipients.now)) (names (c.args.known.now))) ≡ 0 = (passed_is _ _ _ (sym c.in-Passed.is ∙ c.judge_within-judged.ensures)).0 in
+    c.args.tag.now c.args.recipients.now)) (names (c.args.known.now))) ≡ 0 = (passed_is _ _ _ (sym c.in-Passed.is ∙ c.judge_within.ensures)).0 in
     let enough : length ((written_text (c.args.general) ((raw_json c.args.protected.now c.args.shared.now c.args.aad.now c.args.iv.now c.args.ciphertext.now
     c.args.tag.now c.args.recipients.now)))) ≤ length (c.args.out.now) = omega (arith, c.if-out-size.false, c.text_length-size.ensures, short) in
     accepts (c.args.general) ((raw_json c.args.protected.now c.args.shared.now c.args.aad.now c.args.iv.now c.args.ciphertext.now

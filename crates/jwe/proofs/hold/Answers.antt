@@ -6,16 +6,17 @@ use Rattle.names.specs.Names.{names}
 use Rattle.names.proofs.Laws.{sound_filled}
 use Rattle.prelude.specs.Limits.{header_room, list_room}
 use Rattle.jwe.specs.Judge.{call}
-use Rattle.jwe.proofs.Reading.{refusal_long, refusal_names, refusal_judged}
+use Rattle.jwe.proofs.Handing.{refusal_long, refusal_names, refusal_judged}
 use Rattle.jwe.proofs.HeldTables.{holds_as}
+use Rattle.jwe.specs.Answers.{as_holding}
 use Rattle.jwe.proofs.hold.Goals as goal
 
 pub returns-then-message-gt-LONGEST : goal.returns-then-message-gt-LONGEST
 returns-then-message-gt-LONGEST c =
     let two = refusal_long ((call c.args.message.now c.args.known.now 0 header_room list_room)) (omega arith) (omega arith) c.if-message-gt-LONGEST.true in
     record {
-      number_value = c.refused.ensures ∙ sym two;
-      fact = λ z. absurd (omega (arith, z, c.refused.ensures));
+      number_value = sym two;
+      fact = λ z. absurd (omega (arith, z));
     }
 
 pub returns-then-not-sound : goal.returns-then-not-sound
@@ -23,8 +24,8 @@ returns-then-not-sound c =
     let three = refusal_names ((call c.args.message.now c.args.known.now 0 header_room list_room)) (omega arith) (omega arith) c.if-message-gt-LONGEST.false
     (sym c.sound.ensures ∙ c.if-not-sound.true) in
     record {
-      number_value = c.refused-then-not-sound.ensures ∙ sym three;
-      fact = λ z. absurd (omega (arith, z, c.refused-then-not-sound.ensures));
+      number_value = sym three;
+      fact = λ z. absurd (omega (arith, z));
     }
 
 pub hold-requires : goal.hold-requires
@@ -45,7 +46,7 @@ returns-then-opens_object c =
     let known = names c.args.known.now in
     let judged = refusal_judged ((call c.args.message.now c.args.known.now 0 header_room list_room)) (omega arith) (omega arith) c.if-message-gt-LONGEST.false
     (sym c.sound.ensures ∙ c.if-not-sound.false) in
-    let k = holds_as m known true (sym c.opens_object.ensures ∙ c.if-opens_object.true) c.hold.result _ _ _ _ _
+    let k = holds_as m known true (sym c.opens_object.ensures ∙ c.if-opens_object.true) (as_holding c.hold.result) _ _ _ _ _
     c.hold.ensures in
     record {
       number_value = k.number ∙ sym judged;
@@ -69,7 +70,7 @@ returns c =
     let known = names c.args.known.now in
     let judged = refusal_judged ((call c.args.message.now c.args.known.now 0 header_room list_room)) (omega arith) (omega arith) c.if-message-gt-LONGEST.false
     (sym c.sound.ensures ∙ c.if-not-sound.false) in
-    let k = holds_as m known false (sym c.opens_object.ensures ∙ c.if-opens_object.false) c.hold-2.result _ _ _ _ _
+    let k = holds_as m known false (sym c.opens_object.ensures ∙ c.if-opens_object.false) (as_holding c.hold-2.result) _ _ _ _ _
     (c.hold-2.ensures c.args.own.now) in
     record {
       number_value = k.number ∙ sym judged;

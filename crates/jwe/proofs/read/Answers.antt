@@ -4,8 +4,10 @@ use native.Mathlib.Omega.{arith}
 use lib.ListN.{length}
 use Rattle.jwe.specs.Judge.{call}
 use Rattle.jwe.specs.Inner.Stages.{table_room}
-use Rattle.jwe.proofs.Reading.{answers_refused}
-use Rattle.jwe.proofs.Reading.{refusal_header, refusal_list, refusal_long, refusal_names}
+use Rattle.jwe.proofs.Handing.{answers_refused}
+use Rattle.jwe.proofs.Handing.{refusal_header, refusal_list, refusal_long, refusal_names}
+use Rattle.prelude.specs.declared.refusal.Refusal.TheVariants.{ShortOutput, LongMessage, KnownNames}
+use Rattle.jwe.proofs.Exits.{refused_as}
 use Rattle.jwe.proofs.read.Goals as goal
 
 pub returns-then-header-lt-HEADER_ROOM : goal.returns-then-header-lt-HEADER_ROOM
@@ -14,7 +16,7 @@ returns-then-header-lt-HEADER_ROOM c =
     call given.message.now given.known.now given.recipient (length given.header.now) (length given.list.now))) c.args.header.now c.args.list.now 1
     (refusal_header ((let given = c.args in
     call given.message.now given.known.now given.recipient (length given.header.now) (length given.list.now))) c.if-header-lt-HEADER_ROOM.true) (omega arith)
-    c.refused.result c.refused.ensures in
+    _ (refused_as ShortOutput) in
     record { r_value = both.0; header_after = both.1.0; list_after = both.1.1 }
 
 pub returns-then-list-lt-LIST_ROOM : goal.returns-then-list-lt-LIST_ROOM
@@ -24,7 +26,7 @@ returns-then-list-lt-LIST_ROOM c =
     (refusal_list ((let given = c.args in
     call given.message.now given.known.now given.recipient (length given.header.now) (length given.list.now)))
     c.if-header-lt-HEADER_ROOM.false c.if-list-lt-LIST_ROOM.true) (omega arith)
-    c.refused-then-list-lt-LIST_ROOM.result c.refused-then-list-lt-LIST_ROOM.ensures in
+    _ (refused_as ShortOutput) in
     record { r_value = both.0; header_after = both.1.0; list_after = both.1.1 }
 
 pub returns-then-message-gt-LONGEST : goal.returns-then-message-gt-LONGEST
@@ -34,7 +36,7 @@ returns-then-message-gt-LONGEST c =
     (refusal_long ((let given = c.args in
     call given.message.now given.known.now given.recipient (length given.header.now) (length given.list.now)))
     c.if-header-lt-HEADER_ROOM.false c.if-list-lt-LIST_ROOM.false c.if-message-gt-LONGEST.true) (omega arith)
-    c.refused-then-message-gt-LONGEST.result c.refused-then-message-gt-LONGEST.ensures in
+    _ (refused_as LongMessage) in
     record { r_value = both.0; header_after = both.1.0; list_after = both.1.1 }
 
 pub returns-then-not-sound : goal.returns-then-not-sound
@@ -45,7 +47,7 @@ returns-then-not-sound c =
     call given.message.now given.known.now given.recipient (length given.header.now) (length given.list.now)))
     c.if-header-lt-HEADER_ROOM.false c.if-list-lt-LIST_ROOM.false c.if-message-gt-LONGEST.false
     (sym c.sound.ensures ∙ c.if-not-sound.true)) (omega arith)
-    c.refused-then-not-sound.result c.refused-then-not-sound.ensures in
+    _ (refused_as KnownNames) in
     record { r_value = both.0; header_after = both.1.0; list_after = both.1.1 }
 
 pub hand_over-requires : goal.hand_over-requires

@@ -13,7 +13,7 @@ use Rattle.shape.specs.Inner.Answers.{recipient_width}
 use Rattle.jwe.specs.General.{shared_entries, own_entries}
 use Rattle.jwe.specs.Judge.{Share, Held, asked}
 use Rattle.jwe.specs.Inner.Stages.{recipient_at}
-use Rattle.jwe.specs.declared.Holding.{Holding}
+use Rattle.jwe.specs.Answers.{Holding}
 
 -- As `json_held`, by what the top level holds and by the recipients.
 abbrev pub held_of : List ℕ → Top → List Recipient → Held

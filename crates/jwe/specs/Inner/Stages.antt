@@ -14,15 +14,15 @@ use Rattle.jose.specs.HeaderRules.{recipient_order}
 use Rattle.jose.specs.ContentAlgorithm.{content_algorithm, differing}
 use Rattle.jose.specs.Inner.Content.{named_in, shown_in}
 use Rattle.headers.specs.Headers.{text_order, outermost, protected_entries, object_order}
-use Rattle.prelude.specs.declared.Stage.{Stage}
-use Rattle.prelude.specs.declared.Stage.TheVariants.{Passed, Refused}
+use Rattle.prelude.specs.Refusals.{Stage}
+use Rattle.prelude.specs.Refusals.{Passed, Refused}
 use Rattle.headers.specs.Components.{Components, with_key, sizes_of}
 use Rattle.shape.specs.Shape.{Recipient}
 use Rattle.shape.specs.Inner.Answers.{recipient_width}
 use Rattle.jwe.specs.General.{own_entries, is_hollow}
 use Rattle.jwe.specs.Judge.{Outcome, answered}
 use Rattle.jwe.specs.Answers.{numbers, BeginsWith}
-use Rattle.jwe.specs.declared.Result.{Result}
+use Rattle.jwe.specs.Answers.{Result}
 
 -- The room for the entries that are handed out: those of a recipient's three headers where the message is JSON, else of the
 -- protected one.

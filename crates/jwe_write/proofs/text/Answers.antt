@@ -19,7 +19,7 @@ returns-in_default c =
     let header = c.args.header.now in
     sym (ap (λ (n : ℕ). stage_of n (length header))
     (text_7 header c.if-header-gt-HEADER_ROOM.false
-    (unread_is header c.judge-judged.ensures ∙ ap no_value c.in_default.is)))
+    (unread_is header c.judge.ensures ∙ ap no_value c.in_default.is)))
 
 pub returns : goal.returns
 unfolding stage_of
@@ -27,4 +27,4 @@ returns c =
     let header = c.args.header.now in
     sym (ap (λ (n : ℕ). stage_of n (length header))
     (text_0 header c.if-header-gt-HEADER_ROOM.false
-    (unread_is header c.judge-judged.ensures ∙ ap no_value c.in-Value.is)))
+    (unread_is header c.judge.ensures ∙ ap no_value c.in-Some.is)))

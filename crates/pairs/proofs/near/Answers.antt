@@ -3,8 +3,8 @@ use mathlib.Core.Path.{refl, sym, ◌∙◌}
 use Rattle.pairs.proofs.Spots.{spot_some, spot_known, spot_partner}
 use Rattle.pairs.proofs.near.Goals as goal
 
-pub member-beside-requires : goal.member-beside-requires
-member-beside-requires c =
+pub member-requires : goal.member-requires
+member-requires c =
     let at = c.requires.spot in
     spot_known _ c.args.at at.turns _ at.spot (spot_some _ c.args.at at.turns _ at.spot c.requires.at_in_bounds)
 
@@ -16,7 +16,7 @@ returns-then-same_name c =
     let at = c.requires.spot in (
       spot_partner c.args.t.now c.args.at at.turns c.args.q.at at.spot
           (spot_some _ c.args.at at.turns _ at.spot c.requires.at_in_bounds)
-          c.in-Here.other c.in-Here.next (sym c.in-Here.is ∙ c.member-beside.ensures) c.args.s.now _
+          c.in-Some.beside.row c.in-Some.beside.next c.in-Some.ensures c.args.s.now _
           (sym c.same_name.ensures ∙ c.if-same_name.true),
       refl,
     )

@@ -1,5 +1,5 @@
 -- A step of the walk.
-use mathlib.Core.Path.{sym, subst, ◌∙◌}
+use mathlib.Core.Path.{subst}
 use Prim.Native.Nat.{◌-◌}
 use native.Mathlib.Omega.{arith}
 use Rattle.grammar.specs.Grammar.{curly}
@@ -12,14 +12,14 @@ pub returns-then-walk-eq0 : goal.returns-then-walk-eq0
 returns-then-walk-eq0 c =
     none_spent curly c.args.s.now c.args.walk.left c.args.walk.at.at c.if-walk-eq0.true
 
-pub member-here-requires : goal.member-here-requires
-member-here-requires c =
+pub member-requires : goal.member-requires
+member-requires c =
     entry_known curly c.args.s.now c.args.walk.left c.args.walk.at.at (omega (arith, c.if-walk-eq0.false)) c.requires.going.known
 
 pub returns-in_default : goal.returns-in_default
 returns-in_default c =
     none_here curly c.args.s.now c.args.walk.left c.args.walk.at.at (omega (arith, c.if-walk-eq0.false))
-    (sym c.in_default.is ∙ c.member-here.ensures)
+    c.in_default.ensures
 
 pub find-found-requires : goal.find-found-requires
 find-found-requires c =
@@ -36,14 +36,14 @@ shape_of-work-in_default-found c = c.find-found.auto.work
 pub returns-in_default-found : goal.returns-in_default-found
 returns-in_default-found c =
     record {
-      one = row_member c.in-Here.row;
-      others = rows_from curly c.args.s.now (c.args.walk.left - 1) c.in-Here.next.at;
+      one = row_member c.in-Some.here.row;
+      others = rows_from curly c.args.s.now (c.args.walk.left - 1) c.in-Some.here.next.at;
       rows =
-          row_more curly c.args.s.now c.args.walk.left c.args.walk.at.at (omega (arith, c.if-walk-eq0.false)) c.in-Here.row
-          c.in-Here.next (sym c.in-Here.is ∙ c.member-here.ensures);
+          row_more curly c.args.s.now c.args.walk.left c.args.walk.at.at (omega (arith, c.if-walk-eq0.false)) c.in-Some.here.row
+          c.in-Some.here.next c.in-Some.ensures;
       none =
           subst (Finds c.args.s.now c.args.t.now c.args.at c.args.size c.find-found.new.work
-          (row_member c.in-Here.row)) c.in_default-found.is c.find-found.ensures;
+          (row_member c.in-Some.here.row)) c.in_default-found.is c.find-found.ensures;
     }
 
 pub shape_of-work : goal.shape_of-work
@@ -54,18 +54,18 @@ pub returns : goal.returns
 returns c =
     let f =
     subst (Finds c.args.s.now c.args.t.now c.args.at c.args.size c.find-found.new.work
-    (row_member c.in-Here.row)) c.in-Named.is c.find-found.ensures in
-    let told = sym c.in-Here.is ∙ c.member-here.ensures in
+    (row_member c.in-Some.here.row)) c.in-Named.is c.find-found.ensures in
+    let told = c.in-Some.ensures in
     record {
       rows =
-          row_more curly c.args.s.now c.args.walk.left c.args.walk.at.at (omega (arith, c.if-walk-eq0.false)) c.in-Here.row
-          c.in-Here.next told;
+          row_more curly c.args.s.now c.args.walk.left c.args.walk.at.at (omega (arith, c.if-walk-eq0.false)) c.in-Some.here.row
+          c.in-Some.here.next told;
       falls = omega (arith, c.if-walk-eq0.false);
       partner = f.0;
       going = record {
         known =
-            known_more curly c.args.s.now c.args.walk.left c.args.walk.at.at (omega (arith, c.if-walk-eq0.false)) c.in-Here.row
-            c.in-Here.next told c.requires.going.known;
+            known_more curly c.args.s.now c.args.walk.left c.args.walk.at.at (omega (arith, c.if-walk-eq0.false)) c.in-Some.here.row
+            c.in-Some.here.next told c.requires.going.known;
         cursor = f.0.on;
         table = λ h. f.1 (c.after.ensures h);
       };

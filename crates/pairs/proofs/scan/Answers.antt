@@ -16,19 +16,19 @@ loop-left-init c = (
   spot_start c.args.t.now c.args.at c.inside-p.result.at c.inside-p.ensures c.requires,
 )
 
-pub member-found-requires : goal.member-found-requires
-member-found-requires c =
+pub member-requires : goal.member-requires
+member-requires c =
     spot_known _ c.args.at c.loop-left.left c.loop-left.p.at c.loop-left.invariant.1 c.loop-left-test.true
 
 pub returns-in_default : goal.returns-in_default
 returns-in_default c =
     sym (walk_end (of_any _) _ curly _ c.loop-left.left c.loop-left.p.at c.loop-left.invariant.0 c.loop-left-test.true
-    (sym c.in_default.is ∙ c.member-found.ensures))
+    c.in_default.ensures)
 
 pub returns-then-same_name : goal.returns-then-same_name
 returns-then-same_name c = (
   spot_partner c.args.t.now c.args.at c.loop-left.left c.loop-left.p.at c.loop-left.invariant.1 c.loop-left-test.true
-      c.in-Here.other c.in-Here.next (sym c.in-Here.is ∙ c.member-found.ensures) c.args.s.now _
+      c.in-Some.found.row c.in-Some.found.next c.in-Some.ensures c.args.s.now _
       (sym c.same_name.ensures ∙ c.if-same_name.true),
   refl,
 )
@@ -36,10 +36,10 @@ returns-then-same_name c = (
 pub loop-left-preserved : goal.loop-left-preserved
 loop-left-preserved c = (
   walk_on (of_any _) _ curly _ c.loop-left.left c.loop-left.p.at c.loop-left.invariant.0 c.loop-left-test.true
-      c.in-Here.other c.in-Here.next (sym c.in-Here.is ∙ c.member-found.ensures)
+      c.in-Some.found.row c.in-Some.found.next c.in-Some.ensures
       (sym c.same_name.ensures ∙ c.if-same_name.false),
   spot_next c.args.t.now c.args.at c.loop-left.left c.loop-left.p.at c.loop-left.invariant.1 c.loop-left-test.true
-      c.in-Here.other c.in-Here.next (sym c.in-Here.is ∙ c.member-found.ensures),
+      c.in-Some.found.row c.in-Some.found.next c.in-Some.ensures,
 )
 
 pub returns : goal.returns

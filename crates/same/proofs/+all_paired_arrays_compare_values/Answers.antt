@@ -97,8 +97,8 @@ arrays-loop-left-init t c =
       ),
     )
 
-pub arrays-element-found-requires : goal.arrays-element-found-requires
-arrays-element-found-requires t c =
+pub arrays-element-requires : goal.arrays-element-requires
+arrays-element-requires t c =
     known_element depth c.args.s.now c.loop-left.left c.loop-left.p.at c.loop-left-test.true c.loop-left.invariant.1.0
 
 pub arrays-none_left-requires : goal.arrays-none_left-requires
@@ -108,38 +108,38 @@ pub arrays-returns-in_default : goal.arrays-returns-in_default
 arrays-returns-in_default t c =
     c.none_left.ensures
     ∙ choices.order_end (inner_at c.args.levels c.args.s.now c.args.t.now) _ (rows_from square c.args.t.now c.loop-left.right c.loop-left.q.at)
-    (none_here square c.args.s.now c.loop-left.left c.loop-left.p.at c.loop-left-test.true (sym c.in_default.is ∙ c.element-found.ensures))
+    (none_here square c.args.s.now c.loop-left.left c.loop-left.p.at c.loop-left-test.true c.in_default.ensures)
     ∙ c.loop-left.invariant.0
 
 pub arrays-returns-then-right-eq0 : goal.arrays-returns-then-right-eq0
 arrays-returns-then-right-eq0 t c =
     choices.order_short (inner_at c.args.levels c.args.s.now c.args.t.now)
     (rows_from square c.args.s.now c.loop-left.left c.loop-left.p.at) (rows_from square c.args.t.now c.loop-left.right c.loop-left.q.at)
-    (row_member c.in-Here.a) (rows_from square c.args.s.now (c.loop-left.left - 1) c.in-Here.next.at)
-    (row_more square c.args.s.now c.loop-left.left c.loop-left.p.at c.loop-left-test.true c.in-Here.a c.in-Here.next (sym c.in-Here.is ∙ c.element-found.ensures))
+    (row_member c.in-Some.found.row) (rows_from square c.args.s.now (c.loop-left.left - 1) c.in-Some.found.next.at)
+    (row_more square c.args.s.now c.loop-left.left c.loop-left.p.at c.loop-left-test.true c.in-Some.found.row c.in-Some.found.next c.in-Some.ensures)
     (none_spent square c.args.t.now c.loop-left.right c.loop-left.q.at c.if-right-eq0.true) ∙ c.loop-left.invariant.0
 
-pub arrays-element-beside-requires : goal.arrays-element-beside-requires
-arrays-element-beside-requires t c =
+pub arrays-element-requires-in-loop-left : goal.arrays-element-requires-in-loop-left
+arrays-element-requires-in-loop-left t c =
     known_element depth c.args.t.now c.loop-left.right c.loop-left.q.at (omega (arith, c.if-right-eq0.false)) c.loop-left.invariant.1.1
 
-pub arrays-returns-in_default-beside : goal.arrays-returns-in_default-beside
-arrays-returns-in_default-beside t c =
+pub arrays-returns-in_default-element : goal.arrays-returns-in_default-element
+arrays-returns-in_default-element t c =
     choices.order_short (inner_at c.args.levels c.args.s.now c.args.t.now)
     (rows_from square c.args.s.now c.loop-left.left c.loop-left.p.at) (rows_from square c.args.t.now c.loop-left.right c.loop-left.q.at)
-    (row_member c.in-Here.a) (rows_from square c.args.s.now (c.loop-left.left - 1) c.in-Here.next.at)
-    (row_more square c.args.s.now c.loop-left.left c.loop-left.p.at c.loop-left-test.true c.in-Here.a c.in-Here.next (sym c.in-Here.is ∙ c.element-found.ensures))
+    (row_member c.in-Some.found.row) (rows_from square c.args.s.now (c.loop-left.left - 1) c.in-Some.found.next.at)
+    (row_more square c.args.s.now c.loop-left.left c.loop-left.p.at c.loop-left-test.true c.in-Some.found.row c.in-Some.found.next c.in-Some.ensures)
     (none_here square c.args.t.now c.loop-left.right c.loop-left.q.at (omega (arith, c.if-right-eq0.false))
-    (sym c.in_default-beside.is ∙ c.element-beside.ensures)) ∙ c.loop-left.invariant.0
+    c.in_default-element.ensures) ∙ c.loop-left.invariant.0
 
 pub arrays-returns-then-levels-eq0 : goal.arrays-returns-then-levels-eq0
 arrays-returns-then-levels-eq0 t c =
     choices.order_differs (inner_at c.args.levels c.args.s.now c.args.t.now)
     (rows_from square c.args.s.now c.loop-left.left c.loop-left.p.at) (rows_from square c.args.t.now c.loop-left.right c.loop-left.q.at)
-    (row_member c.in-Here.a) (rows_from square c.args.s.now (c.loop-left.left - 1) c.in-Here.next.at)
-    (row_more square c.args.s.now c.loop-left.left c.loop-left.p.at c.loop-left-test.true c.in-Here.a c.in-Here.next (sym c.in-Here.is ∙ c.element-found.ensures))
-    (row_member c.in-Here-beside.b) (rows_from square c.args.t.now (c.loop-left.right - 1) c.in-Here-beside.after.at)
-    (row_more square c.args.t.now c.loop-left.right c.loop-left.q.at (omega (arith, c.if-right-eq0.false)) c.in-Here-beside.b c.in-Here-beside.after (sym c.in-Here-beside.is ∙ c.element-beside.ensures))
+    (row_member c.in-Some.found.row) (rows_from square c.args.s.now (c.loop-left.left - 1) c.in-Some.found.next.at)
+    (row_more square c.args.s.now c.loop-left.left c.loop-left.p.at c.loop-left-test.true c.in-Some.found.row c.in-Some.found.next c.in-Some.ensures)
+    (row_member c.in-Some-element.beside.row) (rows_from square c.args.t.now (c.loop-left.right - 1) c.in-Some-element.beside.next.at)
+    (row_more square c.args.t.now c.loop-left.right c.loop-left.q.at (omega (arith, c.if-right-eq0.false)) c.in-Some-element.beside.row c.in-Some-element.beside.next c.in-Some-element.ensures)
     (choices.inner_none c.args.levels c.args.s.now c.args.t.now _ _ c.if-levels-eq0.true) ∙ c.loop-left.invariant.0
 
 pub arrays-compare-requires : goal.arrays-compare-requires
@@ -147,10 +147,10 @@ arrays-compare-requires t c = (
   omega (arith, c.decreases, c.if-levels-eq0.false),
   (
     subst (λ v. Reads c.args.s.now (element_of v)) (sym c.value_of.ensures)
-        (row_reads square c.args.s.now c.loop-left.left c.loop-left.p.at c.loop-left-test.true c.in-Here.a c.in-Here.next (sym c.in-Here.is ∙ c.element-found.ensures)),
+        (row_reads square c.args.s.now c.loop-left.left c.loop-left.p.at c.loop-left-test.true c.in-Some.found.row c.in-Some.found.next c.in-Some.ensures),
     subst (λ v. Reads c.args.t.now (element_of v)) (sym c.value_of-in-loop-left.ensures)
-        (row_reads square c.args.t.now c.loop-left.right c.loop-left.q.at (omega (arith, c.if-right-eq0.false)) c.in-Here-beside.b
-        c.in-Here-beside.after (sym c.in-Here-beside.is ∙ c.element-beside.ensures)),
+        (row_reads square c.args.t.now c.loop-left.right c.loop-left.q.at (omega (arith, c.if-right-eq0.false)) c.in-Some-element.beside.row
+        c.in-Some-element.beside.next c.in-Some-element.ensures),
   ),
 )
 
@@ -158,10 +158,10 @@ pub arrays-returns-then-not-compare : goal.arrays-returns-then-not-compare
 arrays-returns-then-not-compare t c =
     choices.order_differs (inner_at c.args.levels c.args.s.now c.args.t.now)
     (rows_from square c.args.s.now c.loop-left.left c.loop-left.p.at) (rows_from square c.args.t.now c.loop-left.right c.loop-left.q.at)
-    (row_member c.in-Here.a) (rows_from square c.args.s.now (c.loop-left.left - 1) c.in-Here.next.at)
-    (row_more square c.args.s.now c.loop-left.left c.loop-left.p.at c.loop-left-test.true c.in-Here.a c.in-Here.next (sym c.in-Here.is ∙ c.element-found.ensures))
-    (row_member c.in-Here-beside.b) (rows_from square c.args.t.now (c.loop-left.right - 1) c.in-Here-beside.after.at)
-    (row_more square c.args.t.now c.loop-left.right c.loop-left.q.at (omega (arith, c.if-right-eq0.false)) c.in-Here-beside.b c.in-Here-beside.after (sym c.in-Here-beside.is ∙ c.element-beside.ensures))
+    (row_member c.in-Some.found.row) (rows_from square c.args.s.now (c.loop-left.left - 1) c.in-Some.found.next.at)
+    (row_more square c.args.s.now c.loop-left.left c.loop-left.p.at c.loop-left-test.true c.in-Some.found.row c.in-Some.found.next c.in-Some.ensures)
+    (row_member c.in-Some-element.beside.row) (rows_from square c.args.t.now (c.loop-left.right - 1) c.in-Some-element.beside.next.at)
+    (row_more square c.args.t.now c.loop-left.right c.loop-left.q.at (omega (arith, c.if-right-eq0.false)) c.in-Some-element.beside.row c.in-Some-element.beside.next c.in-Some-element.ensures)
     (choices.inner_less c.args.levels c.args.s.now c.args.t.now _ _ c.if-levels-eq0.false
     ∙ sym (ap₂ (λ v w. same_at (c.args.levels - 1) c.args.s.now c.args.t.now (element_of v) (element_of w))
     c.value_of.ensures c.value_of-in-loop-left.ensures)
@@ -171,19 +171,19 @@ pub arrays-loop-left-preserved : goal.arrays-loop-left-preserved
 arrays-loop-left-preserved t c = (
   choices.order_on (inner_at c.args.levels c.args.s.now c.args.t.now)
       (rows_from square c.args.s.now c.loop-left.left c.loop-left.p.at) (rows_from square c.args.t.now c.loop-left.right c.loop-left.q.at)
-      (row_member c.in-Here.a) (rows_from square c.args.s.now (c.loop-left.left - 1) c.in-Here.next.at)
-      (row_more square c.args.s.now c.loop-left.left c.loop-left.p.at c.loop-left-test.true c.in-Here.a c.in-Here.next (sym c.in-Here.is ∙ c.element-found.ensures))
-      (row_member c.in-Here-beside.b) (rows_from square c.args.t.now (c.loop-left.right - 1) c.in-Here-beside.after.at)
-      (row_more square c.args.t.now c.loop-left.right c.loop-left.q.at (omega (arith, c.if-right-eq0.false)) c.in-Here-beside.b c.in-Here-beside.after (sym c.in-Here-beside.is ∙ c.element-beside.ensures))
+      (row_member c.in-Some.found.row) (rows_from square c.args.s.now (c.loop-left.left - 1) c.in-Some.found.next.at)
+      (row_more square c.args.s.now c.loop-left.left c.loop-left.p.at c.loop-left-test.true c.in-Some.found.row c.in-Some.found.next c.in-Some.ensures)
+      (row_member c.in-Some-element.beside.row) (rows_from square c.args.t.now (c.loop-left.right - 1) c.in-Some-element.beside.next.at)
+      (row_more square c.args.t.now c.loop-left.right c.loop-left.q.at (omega (arith, c.if-right-eq0.false)) c.in-Some-element.beside.row c.in-Some-element.beside.next c.in-Some-element.ensures)
       (choices.inner_less c.args.levels c.args.s.now c.args.t.now _ _ c.if-levels-eq0.false
       ∙ sym (ap₂ (λ v w. same_at (c.args.levels - 1) c.args.s.now c.args.t.now (element_of v) (element_of w))
       c.value_of.ensures c.value_of-in-loop-left.ensures)
       ∙ sym c.compare.ensures ∙ c.if-not-compare.false) ∙ c.loop-left.invariant.0,
   (
-    known_more square c.args.s.now c.loop-left.left c.loop-left.p.at c.loop-left-test.true c.in-Here.a c.in-Here.next (sym c.in-Here.is ∙ c.element-found.ensures)
+    known_more square c.args.s.now c.loop-left.left c.loop-left.p.at c.loop-left-test.true c.in-Some.found.row c.in-Some.found.next c.in-Some.ensures
         c.loop-left.invariant.1.0,
-    known_more square c.args.t.now c.loop-left.right c.loop-left.q.at (omega (arith, c.if-right-eq0.false)) c.in-Here-beside.b
-        c.in-Here-beside.after (sym c.in-Here-beside.is ∙ c.element-beside.ensures) c.loop-left.invariant.1.1,
+    known_more square c.args.t.now c.loop-left.right c.loop-left.q.at (omega (arith, c.if-right-eq0.false)) c.in-Some-element.beside.row
+        c.in-Some-element.beside.next c.in-Some-element.ensures c.loop-left.invariant.1.1,
   ),
 )
 

@@ -10,7 +10,7 @@ use Rattle.names.proofs.Laws.{names_of_lem}
 use Rattle.rows.specs.Inner.Prints.{collected_table}
 use Rattle.grammar.specs.Grammar.{curly}
 use Rattle.json_read.specs.Inner.Known.{KnownIn}
-use Rattle.prelude.specs.Refusals.{first, stage_of}
+use Rattle.prelude.specs.Refusals.{first, stage_of, as_stage}
 use Rattle.headers.specs.Headers.{unread, object_order}
 use Rattle.headers.proofs.Texts.{no_value}
 use Rattle.shape.specs.Shape.{member_names, wrong_top}
@@ -21,23 +21,24 @@ use Rattle.shape.proofs.Objects.{object_refused, object_wrong, object_passed}
 use Rattle.shape.proofs.Objects.{top_entries_lem, unread_is, top_unread, top_order_lem, top_kept, top_collected}
 use Rattle.shape.proofs.Known.{top_object}
 use borrow.Author.Rules.{rules}
+use Rattle.prelude.proofs.Exits.{handed_up}
 use Rattle.shape.proofs.top.Goals as goal
 
 pub returns-in_default : goal.returns-in_default
 returns-in_default c =
     let args = c.args in
-    let none = unread_is args.message.now c.judge-judged.result c.judge-judged.ensures
+    let none = unread_is args.message.now c.judge.result c.judge.ensures
     ∙ ap no_value c.in_default.is in
     record {
       value = top_unread args.message.now _ none;
       table_after = sym (top_kept args.message.now args.table.now none);
     }
 
-pub object-object-requires : goal.object-object-requires
+pub object-requires : goal.object-requires
 unfolding filled total
-object-object-requires c =
-    let reads = unread_is (c.args.message.now) c.judge-judged.result c.judge-judged.ensures
-    ∙ ap no_value c.in-Value.is in
+object-requires c =
+    let reads = unread_is (c.args.message.now) c.judge.result c.judge.ensures
+    ∙ ap no_value c.in-Some.is in
     let known = top_object (c.args.message.now) reads in
     record {
       s_len_bound = search rules;
@@ -46,93 +47,94 @@ object-object-requires c =
       given = subst (KnownIn curly 12 (c.args.message.now)) (sym c.skip_space-at.ensures) known;
     }
 
-pub returns-in_default-object : goal.returns-in_default-object
+pub returns-in_err-count : goal.returns-in_err-count
 unfolding list_of member_names ascii flatten
-returns-in_default-object c =
-    let answer : c.object-object.result
+returns-in_err-count c =
+    let answer : (as_stage c.object.result)
     ≡ stage_of (first (object_order (c.args.message.now) (top_entries (c.args.message.now))))
     (length (top_entries (c.args.message.now))) = object_answer (c.args.message.now) _ _ _
     (top_entries_lem (c.args.message.now) _ (names_of_lem member_names) c.skip_space-at.result.at c.skip_space-at.ensures) _
-    c.object-object.ensures.value in
-    let is_read : unread (c.args.message.now) ≡ false = unread_is (c.args.message.now) c.judge-judged.result c.judge-judged.ensures
-    ∙ ap no_value c.in-Value.is in
-    let left : c.object-object.new.table
+    c.object.ensures.value in
+    let is_read : unread (c.args.message.now) ≡ false = unread_is (c.args.message.now) c.judge.result c.judge.ensures
+    ∙ ap no_value c.in-Some.is in
+    let left : c.object.new.table
     ≡ collected_table 0 (c.args.message.now) (top_entries (c.args.message.now)) c.args.table.now = object_table_lem _ _ _ c.args.table.now _
     (top_entries_lem (c.args.message.now) _ (names_of_lem member_names) c.skip_space-at.result.at c.skip_space-at.ensures)
-    c.object-object.ensures.table_after in
-    let whole : c.object-object.new.table ≡ top_table (c.args.message.now) c.args.table.now = left ∙ sym (top_collected (c.args.message.now) c.args.table.now (is_read)) in
+    c.object.ensures.table_after in
+    let whole : c.object.new.table ≡ top_table (c.args.message.now) c.args.table.now = left ∙ sym (top_collected (c.args.message.now) c.args.table.now (is_read)) in
     let s = c.args.message.now in
     record {
-      value = object_refused _ _ _ (answer) (wrong_top s (top_entries s)) c.in_default-object.field-0 c.in_default-object.is
+      value = handed_up _ _ c.from_residual.ensures.1 _ c.in_err-count.was
+          ∙ object_refused _ _ _ (answer) (wrong_top s (top_entries s)) _ (ap as_stage c.in_err-count.was)
           ∙ top_order_lem s _ (is_read);
       table_after = whole;
     }
 
-pub wrong_top-requires : goal.wrong_top-requires
+pub invariant_of-members : goal.invariant_of-members
 unfolding list_of member_names ascii flatten
-wrong_top-requires c =
-    let left : c.object-object.new.table
+invariant_of-members c =
+    let left : c.object.new.table
     ≡ collected_table 0 (c.args.message.now) (top_entries (c.args.message.now)) c.args.table.now = object_table_lem _ _ _ c.args.table.now _
     (top_entries_lem (c.args.message.now) _ (names_of_lem member_names) c.skip_space-at.result.at c.skip_space-at.ensures)
-    c.object-object.ensures.table_after in
-    let answer : c.object-object.result
+    c.object.ensures.table_after in
+    let answer : (as_stage c.object.result)
     ≡ stage_of (first (object_order (c.args.message.now) (top_entries (c.args.message.now))))
     (length (top_entries (c.args.message.now))) = object_answer (c.args.message.now) _ _ _
     (top_entries_lem (c.args.message.now) _ (names_of_lem member_names) c.skip_space-at.result.at c.skip_space-at.ensures) _
-    c.object-object.ensures.value in
-    let holds : Entered (top_entries (c.args.message.now)) c.object-object.new.table
-    c.in-Passed.count = entered _ _ _ _ (left) c.requires.header_table_in_bounds _ (answer) c.in-Passed.count
-    c.in-Passed.is in
-    (holds).fits
+    c.object.ensures.value in
+    let holds : Entered (top_entries (c.args.message.now)) c.object.new.table
+    c.in_ok-count.count = entered _ _ _ _ (left) c.requires.header_table_in_bounds _ (answer) c.in_ok-count.count
+    (ap as_stage c.in_ok-count.was) in
+    record { fits = (holds).fits }
 
 pub returns-then-wrong_top : goal.returns-then-wrong_top
 unfolding list_of member_names ascii flatten
 returns-then-wrong_top c =
-    let left : c.object-object.new.table
+    let left : c.object.new.table
     ≡ collected_table 0 (c.args.message.now) (top_entries (c.args.message.now)) c.args.table.now = object_table_lem _ _ _ c.args.table.now _
     (top_entries_lem (c.args.message.now) _ (names_of_lem member_names) c.skip_space-at.result.at c.skip_space-at.ensures)
-    c.object-object.ensures.table_after in
-    let answer : c.object-object.result
+    c.object.ensures.table_after in
+    let answer : (as_stage c.object.result)
     ≡ stage_of (first (object_order (c.args.message.now) (top_entries (c.args.message.now))))
     (length (top_entries (c.args.message.now))) = object_answer (c.args.message.now) _ _ _
     (top_entries_lem (c.args.message.now) _ (names_of_lem member_names) c.skip_space-at.result.at c.skip_space-at.ensures) _
-    c.object-object.ensures.value in
-    let holds : Entered (top_entries (c.args.message.now)) c.object-object.new.table
-    c.in-Passed.count = entered _ _ _ _ (left) c.requires.header_table_in_bounds _ (answer) c.in-Passed.count
-    c.in-Passed.is in
-    let is_read : unread (c.args.message.now) ≡ false = unread_is (c.args.message.now) c.judge-judged.result c.judge-judged.ensures
-    ∙ ap no_value c.in-Value.is in
-    let whole : c.object-object.new.table ≡ top_table (c.args.message.now) c.args.table.now = left ∙ sym (top_collected (c.args.message.now) c.args.table.now (is_read)) in
+    c.object.ensures.value in
+    let holds : Entered (top_entries (c.args.message.now)) c.object.new.table
+    c.in_ok-count.count = entered _ _ _ _ (left) c.requires.header_table_in_bounds _ (answer) c.in_ok-count.count
+    (ap as_stage c.in_ok-count.was) in
+    let is_read : unread (c.args.message.now) ≡ false = unread_is (c.args.message.now) c.judge.result c.judge.ensures
+    ∙ ap no_value c.in-Some.is in
+    let whole : c.object.new.table ≡ top_table (c.args.message.now) c.args.table.now = left ∙ sym (top_collected (c.args.message.now) c.args.table.now (is_read)) in
     let s = c.args.message.now in
     let wrong = sym (ap (wrong_top s) (holds).entries)
     ∙ sym c.wrong_top.ensures ∙ c.if-wrong_top.true in
     record {
-      value = object_wrong _ _ _ (answer) _ c.in-Passed.count c.in-Passed.is wrong ∙ top_order_lem s _ (is_read);
+      value = object_wrong _ _ _ (answer) _ c.in_ok-count.count (ap as_stage c.in_ok-count.was) wrong ∙ top_order_lem s _ (is_read);
       table_after = whole;
     }
 
 pub returns : goal.returns
 unfolding list_of member_names ascii flatten
 returns c =
-    let left : c.object-object.new.table
+    let left : c.object.new.table
     ≡ collected_table 0 (c.args.message.now) (top_entries (c.args.message.now)) c.args.table.now = object_table_lem _ _ _ c.args.table.now _
     (top_entries_lem (c.args.message.now) _ (names_of_lem member_names) c.skip_space-at.result.at c.skip_space-at.ensures)
-    c.object-object.ensures.table_after in
-    let answer : c.object-object.result
+    c.object.ensures.table_after in
+    let answer : (as_stage c.object.result)
     ≡ stage_of (first (object_order (c.args.message.now) (top_entries (c.args.message.now))))
     (length (top_entries (c.args.message.now))) = object_answer (c.args.message.now) _ _ _
     (top_entries_lem (c.args.message.now) _ (names_of_lem member_names) c.skip_space-at.result.at c.skip_space-at.ensures) _
-    c.object-object.ensures.value in
-    let holds : Entered (top_entries (c.args.message.now)) c.object-object.new.table
-    c.in-Passed.count = entered _ _ _ _ (left) c.requires.header_table_in_bounds _ (answer) c.in-Passed.count
-    c.in-Passed.is in
-    let is_read : unread (c.args.message.now) ≡ false = unread_is (c.args.message.now) c.judge-judged.result c.judge-judged.ensures
-    ∙ ap no_value c.in-Value.is in
-    let whole : c.object-object.new.table ≡ top_table (c.args.message.now) c.args.table.now = left ∙ sym (top_collected (c.args.message.now) c.args.table.now (is_read)) in
+    c.object.ensures.value in
+    let holds : Entered (top_entries (c.args.message.now)) c.object.new.table
+    c.in_ok-count.count = entered _ _ _ _ (left) c.requires.header_table_in_bounds _ (answer) c.in_ok-count.count
+    (ap as_stage c.in_ok-count.was) in
+    let is_read : unread (c.args.message.now) ≡ false = unread_is (c.args.message.now) c.judge.result c.judge.ensures
+    ∙ ap no_value c.in-Some.is in
+    let whole : c.object.new.table ≡ top_table (c.args.message.now) c.args.table.now = left ∙ sym (top_collected (c.args.message.now) c.args.table.now (is_read)) in
     let s = c.args.message.now in
     let right = sym (ap (wrong_top s) (holds).entries)
     ∙ sym c.wrong_top.ensures ∙ c.if-wrong_top.false in
     record {
-      value = sym c.in-Passed.is ∙ object_passed _ _ _ (answer) _ c.in-Passed.count c.in-Passed.is right ∙ top_order_lem s _ (is_read);
+      value = sym (ap as_stage c.in_ok-count.was) ∙ object_passed _ _ _ (answer) _ c.in_ok-count.count (ap as_stage c.in_ok-count.was) right ∙ top_order_lem s _ (is_read);
       table_after = whole;
     }

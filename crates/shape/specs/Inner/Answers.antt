@@ -6,8 +6,8 @@ use Rattle.rows.specs.Rows.{Entry, present}
 use Rattle.rows.specs.Inner.Prints.{collected_table}
 use Rattle.prelude.specs.Refusals.{Test, ◌if◌, first}
 use Rattle.prelude.specs.Limits.{most_recipients}
-use Rattle.prelude.specs.declared.Stage.{Stage}
-use Rattle.prelude.specs.declared.Stage.TheVariants.{Passed, Refused}
+use Rattle.prelude.specs.Refusals.{Stage}
+use Rattle.prelude.specs.Refusals.{Passed, Refused}
 use Rattle.shape.specs.Shape.{Recipient, recipient_of, recipients, wrong_elements}
 use Rattle.headers.specs.Headers.{unread}
 use Rattle.headers.specs.Answers.{components_of}

@@ -1,7 +1,7 @@
 -- Where an object or an array ends, told by its brackets alone: those in strings do not count, and a backslash in a
 -- string takes the octet behind it along. Nothing else is looked at, so that the answer is an end only in a text that
 -- reads: proofs/Law.antt says so.
-use Rattle.std.specs.Prelude.{List, [], ◌∷◌, Bool, false, cond, ◌≡◌, ℕ, zero, suc, ◌+◌, ◌<◌, length, drop, get_or, eqb}
+use Rattle.std.specs.Prelude.{List, [], ◌∷◌, Bool, false, cond, ◌≡◌, ℕ, zero, suc, ◌+◌, drop, eqb}
 use Rattle.grammar.specs.Grammar.{quote, backslash, among}
 
 -- [ {
@@ -53,10 +53,6 @@ abbrev pub past_nested : List ℕ → ℕ → ℕ
 past_nested = past_from (outside 0)
 
 -- For the parts of the code
-
--- No octet of a block is looked at.
-abbrev pub Unmarked : List ℕ → Type 0
-Unmarked block = (k : ℕ) → k < length block → is_mark (get_or block k 0) ≡ false
 
 -- From two positions the search comes to the same end, in a string or outside.
 pub record Alike (s : List ℕ) (at r : ℕ) : Type 0 where

@@ -1,4 +1,4 @@
--- The loop's invariant: what is left from here on is well-formed where the whole is. The measure is what is left of the text.
+-- What is left from here on is well-formed where the whole is. The measure is what is left of the text.
 use Prim.Native.Nat.{◌-◌, ◌≤◌}
 use mathlib.Core.Path.{◌≡◌}
 use lib.ListN.{length, drop}

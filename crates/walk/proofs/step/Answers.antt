@@ -1,11 +1,10 @@
 -- `step` hands out what the reader of members finds.
-use mathlib.Core.Path.{sym, ◌∙◌}
 use Rattle.walk.proofs.Opens.{steps_end, steps_here}
 use Rattle.walk.proofs.step.Goals as goal
 
 pub returns-in_default : goal.returns-in_default
-returns-in_default c = steps_end _ _ (sym c.in_default.is ∙ c.member-found.ensures)
+returns-in_default c = steps_end _ _ c.in_default.ensures
 
 pub returns : goal.returns
 returns c =
-    steps_here _ _ _ _ (sym c.in-Here.is ∙ c.member-found.ensures)
+    steps_here _ _ _ _ c.in-Some.ensures

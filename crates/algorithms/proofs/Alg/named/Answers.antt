@@ -5,7 +5,7 @@ use Prim.Native.Nat.{ℕ}
 use Rattle.prelude.specs.Ascii.{ascii}
 use Rattle.names.specs.Names.{list_of, number_in}
 use Rattle.names.proofs.Contents.{names_of_lem, filled_list}
-use Rattle.algorithms.specs.Algorithms.{algs, alg_name, alg_names, nth, named_alg}
+use Rattle.algorithms.specs.Algorithms.{algs, alg_name, alg_names, nth}
 use Rattle.algorithms.proofs.Alg.named.Goals as goal
 
 pub find-requires : goal.find-requires
@@ -17,5 +17,4 @@ unfolding list_of flatten ascii algs alg_name alg_names
 returns c =
     let spelled = c.args.spelled.now in
     c.numbered.ensures
-    ∙ ap (λ (n : ℕ). named_alg (nth algs n))
-    (c.find.ensures ∙ ap (λ (ns : List (List ℕ)). number_in ns spelled) (names_of_lem alg_names))
+    ∙ ap (nth algs) (c.find.ensures ∙ ap (λ (ns : List (List ℕ)). number_in ns spelled) (names_of_lem alg_names))

@@ -14,38 +14,38 @@ pub first_octet-requires : goal.first_octet-requires
 first_octet-requires c =
     let below = value_below c.args.text.now c.requires.all_below in (
       rw c.six_bits-p.ensures
-          (below 0 (omega (arith, c.requires.text_len))),
+          (below 0 (omega arith)),
       rw c.six_bits-q.ensures
-          (below 1 (omega (arith, c.requires.text_len))),
+          (below 1 (omega arith)),
     )
 
 pub bounds-out-at : goal.bounds-out-at
 bounds-out-at c =
-    omega (arith, c.requires.text_len, c.requires.text_in_bounds, decoded_length_lem c.args.text.now)
+    omega (arith, decoded_length_lem c.args.text.now)
 
 pub second_octet-requires : goal.second_octet-requires
 second_octet-requires c =
     rw c.six_bits-r.ensures
-    (value_below c.args.text.now c.requires.all_below 2 (omega (arith, c.requires.text_len)))
+    (value_below c.args.text.now c.requires.all_below 2 (omega arith))
 
 pub bounds-out-at-2 : goal.bounds-out-at-2
 bounds-out-at-2 c =
-    simp length-set (omega (arith, c.requires.text_len, c.requires.text_in_bounds, decoded_length_lem c.args.text.now))
+    simp length-set (omega (arith, decoded_length_lem c.args.text.now))
 
 pub third_octet-requires : goal.third_octet-requires
 third_octet-requires c =
     rw c.six_bits-s.ensures
-    (value_below c.args.text.now c.requires.all_below 3 (omega (arith, c.requires.text_len)))
+    (value_below c.args.text.now c.requires.all_below 3 (omega arith))
 
 pub bounds-out-at-3 : goal.bounds-out-at-3
 bounds-out-at-3 c =
-    simp length-set (omega (arith, c.requires.text_len, c.requires.text_in_bounds, decoded_length_lem c.args.text.now))
+    simp length-set (omega (arith, decoded_length_lem c.args.text.now))
 
 pub returns : goal.returns
 returns c =
     let text = c.args.text.now in
     let at = c.args.at in
-    let parts = decoded_of_four text c.requires.text_len in
+    let parts = decoded_of_four text c.told-text in
     let group : decoded text ≡ c.first_octet.result ∷ c.second_octet.result ∷ c.third_octet.result ∷ [] =
     rw (c.first_octet.ensures, c.second_octet.ensures, c.third_octet.ensures, c.six_bits-p.ensures, c.six_bits-q.ensures, c.six_bits-r.ensures, c.six_bits-s.ensures) parts in
     let opened =

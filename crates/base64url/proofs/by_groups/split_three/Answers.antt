@@ -11,19 +11,19 @@ use Rattle.base64url.proofs.by_groups.split_three.Goals as goal
 
 pub bounds-into-at : goal.bounds-into-at
 bounds-into-at c =
-    omega (arith, c.requires.octets_len, c.requires.octets_in_bounds, sextets_length c.args.octets.now)
+    omega (arith, sextets_length c.args.octets.now)
 
 pub bounds-into-at-2 : goal.bounds-into-at-2
 bounds-into-at-2 c =
-    simp length-set (omega (arith, c.requires.octets_len, c.requires.octets_in_bounds, sextets_length c.args.octets.now))
+    simp length-set (omega (arith, sextets_length c.args.octets.now))
 
 pub bounds-into-at-3 : goal.bounds-into-at-3
 bounds-into-at-3 c =
-    simp length-set (omega (arith, c.requires.octets_len, c.requires.octets_in_bounds, sextets_length c.args.octets.now))
+    simp length-set (omega (arith, sextets_length c.args.octets.now))
 
 pub bounds-into-at-4 : goal.bounds-into-at-4
 bounds-into-at-4 c =
-    simp length-set (omega (arith, c.requires.octets_len, c.requires.octets_in_bounds, sextets_length c.args.octets.now))
+    simp length-set (omega (arith, sextets_length c.args.octets.now))
 
 pub shape_of-into : goal.shape_of-into
 shape_of-into c = simp length-set
@@ -32,12 +32,12 @@ pub returns : goal.returns
 returns c =
     let octets = c.args.octets.now in
     let at = c.args.at in
-    let parts = sextets_of_three octets c.requires.octets_len in
+    let parts = sextets_of_three octets c.told-octets in
     let group : sextets octets ≡ (get_or octets 0 0 / 4) ∷ c.second_value.result ∷ c.third_value.result ∷ (get_or octets 2 0 % 64) ∷ [] =
     rw (c.second_value.ensures, c.third_value.ensures) parts in
     let opened =
     begin_as at (sextets octets) ((get_or octets 0 0 / 4) ∷ c.second_value.result ∷ c.third_value.result ∷ (get_or octets 2 0 % 64) ∷ [])
-    c.args.into.now group c.requires.octets_in_bounds in
+    c.args.into.now group c.requires in
     let one = put _ (at + 1) refl opened in
     let two = put _ (at + 2) (omega arith) one in
     let three = put _ (at + 3) (omega arith) two in

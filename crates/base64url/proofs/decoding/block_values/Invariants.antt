@@ -1,5 +1,4 @@
 -- `block_values` writes a number near each character's value: a loop that writes a function of each element.
-use Prim.Native.Nat.{◌-◌, ◌≤◌}
 use mathlib.Core.List.{map}
 use lib.ListN.{drop}
 use Rattle.prelude.proofs.Writing.{Writing}
@@ -7,7 +6,4 @@ use Rattle.base64url.specs.Inner.Step.{near}
 use Rattle.base64url.proofs.decoding.block_values.Given as goal
 
 abbrev pub invariant-loop-k : goal.invariant-loop-k
-invariant-loop-k l = (l.k ≤ 128) × Writing 0 (map near l.text) l.initial.six (map near (drop l.k l.text)) l.k l.six
-
-abbrev pub decreases-loop-k : goal.decreases-loop-k
-decreases-loop-k l = 128 - l.k
+invariant-loop-k l = Writing 0 (map near l.text) l.initial.six (map near (drop l.k l.text)) l.k l.six

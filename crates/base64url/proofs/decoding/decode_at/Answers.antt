@@ -1,77 +1,39 @@
 -- `decode_at` writes a text's octets: block by block, and the rest group by group, by the table that it lends.
-use borrow.Author.Rules.{rules}
-use Prim.Native.Nat.{◌+◌, ◌-◌}
-use mathlib.Core.Path.{◌≡◌, subst, ◌∙◌}
-use mathlib.Core.List.{[], map}
+use mathlib.Core.Path.{refl}
 use native.Mathlib.Omega.{arith}
-use lib.ListN.{length, take, drop, length-take, length-drop}
-use Rattle.prelude.specs.Buffer.{AllBelow}
-use Rattle.prelude.proofs.Lists.{below_part, map_part, rest_part}
-use Rattle.prelude.proofs.Writing.{begin, put_part, room_part, ended}
+use Rattle.prelude.proofs.Writing.{begin}
 use Rattle.base64url.specs.Base64url.{six_bits, decoded}
-use Rattle.base64url.proofs.Groups.{decoded_block}
+use Rattle.base64url.proofs.Chunks.{Chunked, chunk_below, rest_below, block_room, block_done, rest_room, rest_done}
+use Rattle.base64url.proofs.Groups.{decoded_by}
 use Rattle.base64url.proofs.decoding.decode_at.Goals as goal
 
-pub loop-i-init : goal.loop-i-init
-loop-i-init c =
-    (search rules, begin c.args.at (decoded c.args.text.now) c.args.out.now c.requires.text_in_bounds)
+pub loop-block-init : goal.loop-block-init
+loop-block-init c = begin c.args.at (decoded c.args.text.now) c.args.out.now c.requires.text_in_bounds
 
 pub decode_block-j-requires : goal.decode_block-j-requires
 decode_block-j-requires c =
-    let text = c.args.text.now in
-    let i = c.loop-i.i in
-    let part = take (i + 128 - i) (drop i text) in
-    let parts = decoded_block text i (i + 128) (omega arith) (omega arith) in
-    let size : length part ≡ 128 = length-take (i + 128 - i) (drop i text) ∙ omega (arith, length-drop i text) in
-    let below =
-    subst (AllBelow 64) (map_part six_bits text i (i + 128 - i))
-    (below_part 64 (map six_bits text) i (i + 128 - i) c.requires.all_below) in
+    let chunks : Chunked 128 c.args.text.now c.as_chunks.result.0.now c.as_chunks.result.1.now = record { front = c.as_chunks.ensures.front; count = c.as_chunks.ensures.front_len; back = c.as_chunks.ensures.back } in
     record {
-      text_len = size;
-      all_below = below;
-      text_in_bounds = room_part (decoded part) (decoded (drop (i + 128) text)) parts c.loop-i.invariant.1;
+      all_below = chunk_below chunks c.loop-block.block-index c.loop-block-test.true 64 six_bits c.requires.all_below;
+      text_in_bounds = block_room chunks (decoded_by 128 refl) c.loop-block.invariant c.loop-block-test.true;
     }
 
-pub loop-i-preserved : goal.loop-i-preserved
-loop-i-preserved c =
-    let text = c.args.text.now in
-    let i = c.loop-i.i in
-    let part = take (i + 128 - i) (drop i text) in
-    let parts = decoded_block text i (i + 128) (omega arith) (omega arith) in (
-      omega arith,
-      put_part (decoded part) (decoded (drop (i + 128) text)) parts c.loop-i.invariant.1 c.decode_block-j.ensures.value
-          c.decode_block-j.ensures.out_after,
-    )
+pub loop-block-preserved : goal.loop-block-preserved
+loop-block-preserved c =
+    let chunks : Chunked 128 c.args.text.now c.as_chunks.result.0.now c.as_chunks.result.1.now = record { front = c.as_chunks.ensures.front; count = c.as_chunks.ensures.front_len; back = c.as_chunks.ensures.back } in
+    block_done chunks (decoded_by 128 refl) c.loop-block.invariant c.loop-block-test.true c.decode_block-j.ensures.value c.decode_block-j.ensures.out_after
 
 pub decode_groups-requires : goal.decode_groups-requires
 decode_groups-requires c =
-    let text = c.args.text.now in
-    let i = c.loop-i.i in
-    let part = take (length text - i) (drop i text) in
-    let parts = rest_part decoded text i in
-    let below =
-    subst (AllBelow 64) (map_part six_bits text i (length text - i))
-    (below_part 64 (map six_bits text) i (length text - i) c.requires.all_below) in
+    let chunks : Chunked 128 c.args.text.now c.as_chunks.result.0.now c.as_chunks.result.1.now = record { front = c.as_chunks.ensures.front; count = c.as_chunks.ensures.front_len; back = c.as_chunks.ensures.back } in
     record {
       tabled = c.table-table.ensures;
-      all_below = below;
-      text_in_bounds = room_part (decoded part) [] parts c.loop-i.invariant.1;
+      all_below = rest_below chunks 64 six_bits c.requires.all_below;
+      text_in_bounds = rest_room chunks (decoded_by 128 refl) c.loop-block.invariant (omega arith);
     }
-
-pub shape_of-out : goal.shape_of-out
-shape_of-out c =
-    let text = c.args.text.now in
-    let i = c.loop-i.i in
-    let part = take (length text - i) (drop i text) in
-    let parts = rest_part decoded text i in
-    let end = put_part (decoded part) [] parts c.loop-i.invariant.1 c.decode_groups.ensures.value c.decode_groups.ensures.out_after in
-    end.same
 
 pub returns : goal.returns
 returns c =
-    let text = c.args.text.now in
-    let i = c.loop-i.i in
-    let part = take (length text - i) (drop i text) in
-    let parts = rest_part decoded text i in
-    let both = ended (put_part (decoded part) [] parts c.loop-i.invariant.1 c.decode_groups.ensures.value c.decode_groups.ensures.out_after) in
+    let chunks : Chunked 128 c.args.text.now c.as_chunks.result.0.now c.as_chunks.result.1.now = record { front = c.as_chunks.ensures.front; count = c.as_chunks.ensures.front_len; back = c.as_chunks.ensures.back } in
+    let both = rest_done chunks (decoded_by 128 refl) c.loop-block.invariant (omega arith) c.decode_groups.ensures.value c.decode_groups.ensures.out_after in
     record { value = both.0; out_after = both.1 }

@@ -1,13 +1,9 @@
 -- `decode_at` writes a text's octets: block by block, and the rest group by group, by the table that it lends.
-use Prim.Native.Nat.{◌-◌, ◌≤◌}
-use lib.ListN.{length, drop}
+use Prim.Native.Nat.{◌*◌}
+use lib.ListN.{drop}
 use Rattle.prelude.proofs.Writing.{Writing}
 use Rattle.base64url.specs.Base64url.{decoded}
 use Rattle.base64url.proofs.decoding.decode_at.Given as goal
 
-abbrev pub invariant-loop-i : goal.invariant-loop-i
-invariant-loop-i l =
-    (l.i ≤ length l.text) × Writing l.at (decoded l.text) l.initial.out (decoded (drop l.i l.text)) l.j l.out
-
-abbrev pub decreases-loop-i : goal.decreases-loop-i
-decreases-loop-i l = length l.text - l.i
+abbrev pub invariant-loop-block : goal.invariant-loop-block
+invariant-loop-block l = Writing l.at (decoded l.text) l.initial.out (decoded (drop (l.block-index * 128) l.text)) l.j l.out

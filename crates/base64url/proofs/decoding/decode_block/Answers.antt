@@ -1,47 +1,26 @@
 -- `decode_block` writes a block's octets: values, words, octets, and the laws that these are what the text decodes to.
-use Prim.Native.Nat.{ℕ}
-use mathlib.Core.Path.{refl, ap, ◌∙◌}
-use mathlib.Core.List.{List}
+use Prim.Native.Nat.{◌+◌, ◌-◌}
+use mathlib.Core.Path.{ap, ◌∙◌}
 use native.Mathlib.Omega.{arith}
-use lib.ListN.{length, length-map}
-use Rattle.prelude.specs.Buffer.{written}
 use Rattle.prelude.proofs.Lists.{all_below}
-use Rattle.base64url.specs.Inner.Step.{near}
 use Rattle.base64url.specs.Inner.Words.{words_of, octets_of}
+use Rattle.base64url.specs.Base64url.{decoded}
+use Rattle.base64url.proofs.Covering.{copied}
 use Rattle.base64url.proofs.Laws.{decoded_length_lem}
-use Rattle.base64url.proofs.Joining.{words_of_length, block_octets}
+use Rattle.base64url.proofs.Joining.{block_octets}
 use Rattle.base64url.proofs.decoding.decode_block.Goals as goal
 
-pub block_words-requires : goal.block_words-requires
-block_words-requires c =
-    let text = c.args.text.now in
-    record {
-      six_len = ap length c.block_values.ensures ∙ length-map text near ∙ c.requires.text_len;
-      words_len = refl;
-    }
-
-pub put_words-requires : goal.put_words-requires
-put_words-requires c =
-    let text = c.args.text.now in
-    let values = ap length c.block_values.ensures ∙ length-map text near
-    ∙ c.requires.text_len in
-    let words = ap length c.block_words.ensures
-    ∙ words_of_length c.block_values.new.six in
-    record {
-      words_len = omega (arith, values, words);
-      at_in_bounds = omega (arith, c.requires.text_len, c.requires.text_in_bounds, decoded_length_lem text);
-    }
+pub slice_bounds-put_words-end : goal.slice_bounds-put_words-end
+slice_bounds-put_words-end c = omega (arith, decoded_length_lem c.args.text.now)
 
 pub returns : goal.returns
 returns c =
     let text = c.args.text.now in
-    let at = c.args.at in
-    let known = c.type_inv.text in
-    let octet = all_below 256 text (λ k h. omega (arith, known k)) in
-    let words = c.block_words.ensures
-    ∙ ap words_of c.block_values.ensures in
-    let whole = block_octets text octet c.requires.all_below (omega (arith, c.requires.text_len)) in
+    let octet = all_below 256 text (λ k h. c.fits-text k) in
+    let words = c.block_words.ensures ∙ ap words_of c.block_values.ensures in
+    let whole = block_octets text octet c.requires.all_below (omega arith) in
     record {
-      value = omega (arith, c.put_words.ensures.value, decoded_length_lem text, c.requires.text_len);
-      out_after = c.put_words.ensures.out_after ∙ ap (λ (l : List ℕ). written at l c.args.out.now) (ap octets_of words ∙ whole);
+      value = omega (arith, decoded_length_lem text);
+      out_after = copied c.args.at (c.args.at + 96 - c.args.at) c.args.out.now _ (decoded text)
+          (c.put_words.ensures ∙ ap octets_of words ∙ whole) (omega (arith, decoded_length_lem text));
     }

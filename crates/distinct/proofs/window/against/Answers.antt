@@ -10,8 +10,8 @@ pub loop-rest-init : goal.loop-rest-init
 loop-rest-init c =
     (refl, (c.requires.known_from_2, (c.requires.every, refl)))
 
-pub member-found-requires : goal.member-found-requires
-member-found-requires c =
+pub member-requires : goal.member-requires
+member-requires c =
     entry_known curly _ c.loop-rest.rest c.loop-rest.p.at c.loop-rest-test.true c.loop-rest.invariant.1.0
 
 pub shape_of-filter-in_default : goal.shape_of-filter-in_default
@@ -20,7 +20,7 @@ shape_of-filter-in_default c = c.loop-rest.invariant.1.1.1
 pub returns-in_default : goal.returns-in_default
 returns-in_default c =
     walk_end (of_any _) _ curly _ c.loop-rest.rest c.loop-rest.p.at c.loop-rest.invariant.0 c.loop-rest-test.true
-    (sym c.in_default.is ∙ c.member-found.ensures)
+    c.in_default.ensures
 
 pub clashes-requires : goal.clashes-requires
 clashes-requires c =
@@ -37,16 +37,16 @@ shape_of-filter-then-clashes c =
 pub returns-then-clashes : goal.returns-then-clashes
 returns-then-clashes c =
     walk_found (of_any _) _ curly _ c.loop-rest.rest c.loop-rest.p.at c.loop-rest.invariant.0 c.loop-rest-test.true
-    c.in-Here.row c.in-Here.next (sym c.in-Here.is ∙ c.member-found.ensures)
+    c.in-Some.found.row c.in-Some.found.next c.in-Some.ensures
     (sym c.clashes.ensures.value ∙ c.if-clashes.true)
 
 pub loop-rest-preserved : goal.loop-rest-preserved
 loop-rest-preserved c = (
   walk_on (of_any _) _ curly _ c.loop-rest.rest c.loop-rest.p.at c.loop-rest.invariant.0 c.loop-rest-test.true
-      c.in-Here.row c.in-Here.next (sym c.in-Here.is ∙ c.member-found.ensures)
+      c.in-Some.found.row c.in-Some.found.next c.in-Some.ensures
       (sym c.clashes.ensures.value ∙ c.if-clashes.false),
   (
-    known_more curly _ c.loop-rest.rest c.loop-rest.p.at c.loop-rest-test.true c.in-Here.row c.in-Here.next (sym c.in-Here.is ∙ c.member-found.ensures) c.loop-rest.invariant.1.0,
+    known_more curly _ c.loop-rest.rest c.loop-rest.p.at c.loop-rest-test.true c.in-Some.found.row c.in-Some.found.next c.in-Some.ensures c.loop-rest.invariant.1.0,
     (c.clashes.ensures.marked.1, c.clashes.auto.filter ∙ c.loop-rest.invariant.1.1.1),
   ),
 )

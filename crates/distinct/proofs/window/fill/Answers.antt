@@ -21,8 +21,8 @@ returns-then-done-left c =
     filling_end c.args.size c.args.s.now c.loop-done.filter c.args.left c.args.from.at c.loop-done.q.at c.loop-done.done c.loop-done.invariant.0 c.requires.known_from
     (none_spent curly _ _ _ (omega (arith, c.if-done-left.true)))
 
-pub member-found-requires : goal.member-found-requires
-member-found-requires c =
+pub member-requires : goal.member-requires
+member-requires c =
     entry_known curly c.args.s.now (c.args.left - c.loop-done.done) c.loop-done.q.at
     (omega (arith, c.if-done-left.false, c.loop-done.invariant.0.fits)) c.loop-done.invariant.0.known
 
@@ -33,7 +33,7 @@ pub returns-in_default : goal.returns-in_default
 returns-in_default c =
     filling_end c.args.size c.args.s.now c.loop-done.filter c.args.left c.args.from.at c.loop-done.q.at c.loop-done.done c.loop-done.invariant.0 c.requires.known_from
     (none_here curly c.args.s.now (c.args.left - c.loop-done.done) c.loop-done.q.at (omega (arith, c.if-done-left.false, c.loop-done.invariant.0.fits))
-    (sym c.in_default.is ∙ c.member-found.ensures))
+    c.in_default.ensures)
 
 pub clashes-requires : goal.clashes-requires
 clashes-requires c =
@@ -50,15 +50,15 @@ shape_of-filter-then-clashes c =
 pub returns-then-clashes : goal.returns-then-clashes
 returns-then-clashes c =
     filling_found c.args.size c.args.s.now c.loop-done.filter c.args.left c.args.from.at c.loop-done.q.at c.loop-done.done c.loop-done.invariant.0
-    c.in-Here.row c.in-Here.next (omega (arith, c.if-done-left.false, c.loop-done.invariant.0.fits))
-    (sym c.in-Here.is ∙ c.member-found.ensures)
+    c.in-Some.found.row c.in-Some.found.next (omega (arith, c.if-done-left.false, c.loop-done.invariant.0.fits))
+    c.in-Some.ensures
     (sym c.clashes.ensures.value ∙ c.if-clashes.true)
 
 pub loop-done-preserved : goal.loop-done-preserved
 loop-done-preserved c = (
   filling_more c.args.size c.args.s.now c.loop-done.filter c.args.left c.args.from.at c.loop-done.q.at c.loop-done.done c.loop-done.invariant.0
-      c.in-Here.row c.in-Here.next (omega (arith, c.if-done-left.false, c.loop-done.invariant.0.fits))
-      (sym c.in-Here.is ∙ c.member-found.ensures)
+      c.in-Some.found.row c.in-Some.found.next (omega (arith, c.if-done-left.false, c.loop-done.invariant.0.fits))
+      c.in-Some.ensures
       c.clashes.new.filter (sym c.clashes.ensures.value ∙ c.if-clashes.false) c.clashes.ensures.marked.1 (c.clashes.ensures.marked.0 refl),
   (c.clashes.auto.filter ∙ c.loop-done.invariant.1.0, search rules),
 )

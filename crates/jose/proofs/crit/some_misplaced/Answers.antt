@@ -2,8 +2,7 @@
 use mathlib.Core.Path.{ap, sym, ◌∙◌}
 use native.Mathlib.Omega.{arith}
 use Rattle.prelude.specs.Any.{any}
-use Rattle.rows.specs.Rows.{texts}
-use Rattle.rows.specs.Tables.{entries_of}
+use Rattle.rows.specs.Inner.Views.{the_entries, the_texts}
 use Rattle.jose.specs.HeaderRules.{misplaced}
 use Rattle.jose.proofs.Elements.{elements_all}
 use Rattle.jose.proofs.Walks.{of_any, walk_spent, walk_end, walk_found, walk_on}
@@ -13,27 +12,26 @@ pub loop-left-init : goal.loop-left-init
 loop-left-init c =
     let given = c.args in
     let s = given.s.now in
-    let es = entries_of given.count given.table.now in
-    ap (any (misplaced (texts given.header.now given.shared.now given.own.now) es s))
+    ap (any (misplaced (the_texts given.h.texts) (the_entries given.h.entries) s))
     (elements_all s given.at c.inside-p.result.at c.inside-p.ensures)
 
 pub returns-in_default : goal.returns-in_default
 returns-in_default c =
     walk_end (of_any _) _ _ c.loop-left.left c.loop-left.p.at c.loop-left.invariant c.loop-left-test.true
-    (sym c.in_default.is ∙ c.element-found.ensures)
+    c.in_default.ensures
 
 pub returns-then-misplaced : goal.returns-then-misplaced
 returns-then-misplaced c =
     walk_found (of_any _) _ _ c.loop-left.left c.loop-left.p.at c.loop-left.invariant
-    c.loop-left-test.true c.in-Here.row c.in-Here.next
-    (sym c.in-Here.is ∙ c.element-found.ensures)
+    c.loop-left-test.true c.in-Some.found.row c.in-Some.found.next
+    c.in-Some.ensures
     (sym c.misplaced.ensures ∙ c.if-misplaced.true)
 
 pub loop-left-preserved : goal.loop-left-preserved
 loop-left-preserved c =
     walk_on (of_any _) _ _ c.loop-left.left c.loop-left.p.at c.loop-left.invariant
-    c.loop-left-test.true c.in-Here.row c.in-Here.next
-    (sym c.in-Here.is ∙ c.element-found.ensures)
+    c.loop-left-test.true c.in-Some.found.row c.in-Some.found.next
+    c.in-Some.ensures
     (sym c.misplaced.ensures ∙ c.if-misplaced.false)
 
 pub returns : goal.returns

@@ -2,8 +2,7 @@
 use mathlib.Core.Path.{◌≡◌}
 use Rattle.grammar.specs.Reader.{elements_at}
 use Rattle.prelude.specs.Any.{any}
-use Rattle.rows.specs.Rows.{texts}
-use Rattle.rows.specs.Tables.{entries_of}
+use Rattle.rows.specs.Inner.Views.{the_entries, the_texts}
 use Rattle.jose.specs.HeaderRules.{misplaced}
 use Rattle.prelude.specs.Limits.{levels}
 use Rattle.jose.specs.Inner.Elements.{elements_from}
@@ -11,8 +10,8 @@ use Rattle.jose.proofs.crit.some_misplaced.Given as goal
 
 abbrev pub invariant-loop-left : goal.invariant-loop-left
 invariant-loop-left l =
-    any (misplaced (texts l.header l.shared l.own) (entries_of l.count l.table) l.s) (elements_from l.s l.left l.p.at)
-    ≡ any (misplaced (texts l.header l.shared l.own) (entries_of l.count l.table) l.s) (elements_at levels l.s l.at)
+    any (misplaced (the_texts l.h.texts) (the_entries l.h.entries) l.s) (elements_from l.s l.left l.p.at)
+    ≡ any (misplaced (the_texts l.h.texts) (the_entries l.h.entries) l.s) (elements_at levels l.s l.at)
 
 abbrev pub decreases-loop-left : goal.decreases-loop-left
 decreases-loop-left l = l.left

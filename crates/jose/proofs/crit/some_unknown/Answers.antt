@@ -17,20 +17,20 @@ loop-left-init c =
 pub returns-in_default : goal.returns-in_default
 returns-in_default c =
     walk_end (of_any _) _ _ c.loop-left.left c.loop-left.p.at c.loop-left.invariant c.loop-left-test.true
-    (sym c.in_default.is ∙ c.element-found.ensures)
+    c.in_default.ensures
 
 pub returns-then-unknown : goal.returns-then-unknown
 returns-then-unknown c =
     walk_found (of_any _) _ _ c.loop-left.left c.loop-left.p.at c.loop-left.invariant
-    c.loop-left-test.true c.in-Here.row c.in-Here.next
-    (sym c.in-Here.is ∙ c.element-found.ensures)
+    c.loop-left-test.true c.in-Some.found.row c.in-Some.found.next
+    c.in-Some.ensures
     (sym c.unknown.ensures ∙ c.if-unknown.true)
 
 pub loop-left-preserved : goal.loop-left-preserved
 loop-left-preserved c =
     walk_on (of_any _) _ _ c.loop-left.left c.loop-left.p.at c.loop-left.invariant
-    c.loop-left-test.true c.in-Here.row c.in-Here.next
-    (sym c.in-Here.is ∙ c.element-found.ensures)
+    c.loop-left-test.true c.in-Some.found.row c.in-Some.found.next
+    c.in-Some.ensures
     (sym c.unknown.ensures ∙ c.if-unknown.false)
 
 pub returns : goal.returns

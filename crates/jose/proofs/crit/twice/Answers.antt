@@ -16,20 +16,20 @@ loop-left-init c =
 pub returns-in_default : goal.returns-in_default
 returns-in_default c =
     walk_end (of_pair _) _ _ c.loop-left.left c.loop-left.p.at c.loop-left.invariant c.loop-left-test.true
-    (sym c.in_default.is ∙ c.element-found.ensures)
+    c.in_default.ensures
 
 pub returns-then-again : goal.returns-then-again
 returns-then-again c =
     walk_found (of_pair _) _ _ c.loop-left.left c.loop-left.p.at c.loop-left.invariant
-    c.loop-left-test.true c.in-Here.row c.in-Here.next
-    (sym c.in-Here.is ∙ c.element-found.ensures)
+    c.loop-left-test.true c.in-Some.found.row c.in-Some.found.next
+    c.in-Some.ensures
     (sym c.again.ensures ∙ c.if-again.true)
 
 pub loop-left-preserved : goal.loop-left-preserved
 loop-left-preserved c =
     walk_on (of_pair _) _ _ c.loop-left.left c.loop-left.p.at c.loop-left.invariant
-    c.loop-left-test.true c.in-Here.row c.in-Here.next
-    (sym c.in-Here.is ∙ c.element-found.ensures)
+    c.loop-left-test.true c.in-Some.found.row c.in-Some.found.next
+    c.in-Some.ensures
     (sym c.again.ensures ∙ c.if-again.false)
 
 pub returns : goal.returns

@@ -1,45 +1,31 @@
 -- `mode_at` takes what the value names, and its mode.
-use mathlib.Core.Path.{sym, ap, ◌∙◌}
+use mathlib.Core.Path.{◌≡◌, sym, ap, ◌∙◌}
 use mathlib.Core.List.{List, flatten}
-use Prim.Native.Nat.{ℕ, ◌*◌}
-use lib.ListN.{drop}
+use Prim.Native.Nat.{ℕ}
+use Rattle.std.specs.Prelude.{Option}
 use Rattle.prelude.specs.Ascii.{ascii}
-use Rattle.names.specs.Names.{list_of, number_in}
+use Rattle.names.specs.Names.{names, list_of, number_in}
 use Rattle.names.proofs.Contents.{names_of_lem, filled_list}
-use Rattle.rows.specs.Rows.{texts, value_in}
-use Rattle.rows.specs.Tables.{first_of, width}
-use Rattle.algorithms.specs.Algorithms.{algs, alg_name, alg_names, nth, named_alg}
-use Rattle.algorithms.proofs.Numbered.{unlisted_mode, listed_mode}
+use Rattle.algorithms.specs.Algorithms.{algs, alg_name, alg_names, nth, mode_of}
+use Rattle.algorithms.specs.declared.Alg.{Alg}
 use borrow.Author.Rules.{rules}
 use Rattle.jose.proofs.rules.mode_at.Goals as goal
 
 pub number_in-requires : goal.number_in-requires
 unfolding list_of flatten ascii algs alg_name alg_names
-number_in-requires c =
-    record {
-      list_value = filled_list alg_names;
-      width_in_bounds = search rules;
-    }
+number_in-requires c = filled_list alg_names
 
-pub returns-in_default : goal.returns-in_default
-unfolding list_of flatten ascii algs alg_name alg_names
-returns-in_default c =
-    let args = c.args in
-    let value = value_in (texts args.header.now args.shared.now args.own.now) (first_of (drop (args.i * width) args.table.now)) in
-    unlisted_mode (nth algs (number_in alg_names value))
-    (sym c.in_default.is ∙ c.numbered.ensures
-    ∙ ap (λ (n : ℕ). named_alg (nth algs n))
-    (c.number_in.ensures
-    ∙ ap (λ (ns : List (List ℕ)). number_in ns value) (names_of_lem alg_names)))
+-- the mode by the number that the value has in the list of names
+mode_found : {o : Option Alg} {i : ℕ} (v : List ℕ) → o ≡ nth algs i → i ≡ number_in (names (list_of alg_names)) v →
+    mode_of o ≡ mode_of (nth algs (number_in alg_names v))
+mode_found v e f =
+    ap mode_of (e ∙ ap (nth algs) (f ∙ ap (λ (ns : List (List ℕ)). number_in ns v) (names_of_lem alg_names)))
 
-pub returns : goal.returns
+pub returns-in-Some : goal.returns-in-Some
 unfolding list_of flatten ascii algs alg_name alg_names
-returns c =
-    let args = c.args in
-    let value = value_in (texts args.header.now args.shared.now args.own.now) (first_of (drop (args.i * width) args.table.now)) in
-    c.mode.ensures
-    ∙ listed_mode (nth algs (number_in alg_names value)) _
-    (sym c.in-Alg.is ∙ c.numbered.ensures
-    ∙ ap (λ (n : ℕ). named_alg (nth algs n))
-    (c.number_in.ensures
-    ∙ ap (λ (ns : List (List ℕ)). number_in ns value) (names_of_lem alg_names)))
+returns-in-Some c =
+    c.mode.ensures ∙ ap mode_of (sym c.in-Some.is) ∙ mode_found _ c.numbered.ensures c.number_in.ensures
+
+pub returns-in-None : goal.returns-in-None
+unfolding list_of flatten ascii algs alg_name alg_names
+returns-in-None c = ap mode_of (sym c.in-None.is) ∙ mode_found _ c.numbered.ensures c.number_in.ensures

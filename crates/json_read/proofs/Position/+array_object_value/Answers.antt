@@ -19,32 +19,33 @@ pub array-returns-then-peek-eq93 : goal.array-returns-then-peek-eq93
 array-returns-then-peek-eq93 t c =
     let a = c.args in
     let s = a.s.now in
-    ap found_of (nested_empty s a.levels square a.self.at c.if-levels-eq0.false c.skip_space-first.result.at c.peek.result c.skip_space-first.ensures c.peek.ensures c.step.result.at c.if-peek-eq93.true c.step.ensures)
+    ap found_of (nested_empty s a.levels square a.self.at c.if-levels-eq0.false c.skip_space-first.result.at c.peek.result c.skip_space-first.ensures c.peek.ensures c.step-end.result.at c.if-peek-eq93.true c.step-end.ensures)
 
-pub array-returns-in_default : goal.array-returns-in_default
-array-returns-in_default t c =
+pub array-returns-in_err-inner : goal.array-returns-in_err-inner
+array-returns-in_err-inner t c =
     let a = c.args in
     let s = a.s.now in
     let whole = c.loop-left.invariant ∙ nested_open s a.levels square a.self.at c.if-levels-eq0.false c.skip_space-first.result.at c.peek.result c.skip_space-first.ensures c.peek.ensures c.if-peek-eq93.false in
-    c.in_default.is ∙ ap found_of (turn_nothing (value_at (a.levels - 1) s) square s c.loop-left.left c.loop-left.p.at c.loop-left-test.true c.loop-left.p.at (element_here s c.loop-left.p.at) (is_nothing_lem _ c.in_default.ensures) ∙ whole)
+    c.from_residual.ensures
+    ∙ ap found_of (turn_nothing (value_at (a.levels - 1) s) square s c.loop-left.left c.loop-left.p.at c.loop-left-test.true c.loop-left.p.at (element_here s c.loop-left.p.at) (is_nothing_lem _ c.in_err-inner.ensures) ∙ whole)
 
 pub array-returns-then-c-eq93 : goal.array-returns-then-c-eq93
 array-returns-then-c-eq93 t c =
     let a = c.args in
     let s = a.s.now in
     let whole = c.loop-left.invariant ∙ nested_open s a.levels square a.self.at c.if-levels-eq0.false c.skip_space-first.result.at c.peek.result c.skip_space-first.ensures c.peek.ensures c.if-peek-eq93.false in
-    let read = is_found _ c.in-Value.end c.in-Value.field-1 c.in-Value.ensures in
-    let next = turn_found (value_at (a.levels - 1) s) square s c.loop-left.left c.loop-left.p.at c.loop-left-test.true c.loop-left.p.at (element_here s c.loop-left.p.at) c.in-Value.end.at c.in-Value.field-1 c.skip_space-after.result.at read c.skip_space-after.ensures in
+    let read = is_found _ c.in_ok-inner.inner.end c.in_ok-inner.inner.kind c.in_ok-inner.ensures in
+    let next = turn_found (value_at (a.levels - 1) s) square s c.loop-left.left c.loop-left.p.at c.loop-left-test.true c.loop-left.p.at (element_here s c.loop-left.p.at) c.in_ok-inner.inner.end.at c.in_ok-inner.inner.kind c.skip_space-after.result.at read c.skip_space-after.ensures in
     let others = entries_at (value_at (a.levels - 1) s) square s (c.loop-left.left - 1) in
-    ap found_of (close_end s square others c.skip_space-after.result.at c.peek-c.result c.peek-c.ensures c.step-then-c-eq93.result.at c.if-c-eq93.true c.step-then-c-eq93.ensures ∙ next ∙ whole)
+    ap found_of (close_end s square others c.skip_space-after.result.at c.peek-c.result c.peek-c.ensures c.step-end-then-c-eq93.result.at c.if-c-eq93.true c.step-end-then-c-eq93.ensures ∙ next ∙ whole)
 
 pub array-returns-then-c-ne44 : goal.array-returns-then-c-ne44
 array-returns-then-c-ne44 t c =
     let a = c.args in
     let s = a.s.now in
     let whole = c.loop-left.invariant ∙ nested_open s a.levels square a.self.at c.if-levels-eq0.false c.skip_space-first.result.at c.peek.result c.skip_space-first.ensures c.peek.ensures c.if-peek-eq93.false in
-    let read = is_found _ c.in-Value.end c.in-Value.field-1 c.in-Value.ensures in
-    let next = turn_found (value_at (a.levels - 1) s) square s c.loop-left.left c.loop-left.p.at c.loop-left-test.true c.loop-left.p.at (element_here s c.loop-left.p.at) c.in-Value.end.at c.in-Value.field-1 c.skip_space-after.result.at read c.skip_space-after.ensures in
+    let read = is_found _ c.in_ok-inner.inner.end c.in_ok-inner.inner.kind c.in_ok-inner.ensures in
+    let next = turn_found (value_at (a.levels - 1) s) square s c.loop-left.left c.loop-left.p.at c.loop-left-test.true c.loop-left.p.at (element_here s c.loop-left.p.at) c.in_ok-inner.inner.end.at c.in_ok-inner.inner.kind c.skip_space-after.result.at read c.skip_space-after.ensures in
     let others = entries_at (value_at (a.levels - 1) s) square s (c.loop-left.left - 1) in
     ap found_of (close_bad s square others c.skip_space-after.result.at c.peek-c.result c.peek-c.ensures c.if-c-eq93.false c.if-c-ne44.true ∙ next ∙ whole)
 
@@ -52,10 +53,10 @@ pub array-loop-left-preserved : goal.array-loop-left-preserved
 array-loop-left-preserved t c =
     let a = c.args in
     let s = a.s.now in
-    let read = is_found _ c.in-Value.end c.in-Value.field-1 c.in-Value.ensures in
-    let next = turn_found (value_at (a.levels - 1) s) square s c.loop-left.left c.loop-left.p.at c.loop-left-test.true c.loop-left.p.at (element_here s c.loop-left.p.at) c.in-Value.end.at c.in-Value.field-1 c.skip_space-after.result.at read c.skip_space-after.ensures in
+    let read = is_found _ c.in_ok-inner.inner.end c.in_ok-inner.inner.kind c.in_ok-inner.ensures in
+    let next = turn_found (value_at (a.levels - 1) s) square s c.loop-left.left c.loop-left.p.at c.loop-left-test.true c.loop-left.p.at (element_here s c.loop-left.p.at) c.in_ok-inner.inner.end.at c.in_ok-inner.inner.kind c.skip_space-after.result.at read c.skip_space-after.ensures in
     let others = entries_at (value_at (a.levels - 1) s) square s (c.loop-left.left - 1) in
-    let behind = c.skip_space-p.ensures ∙ ap (skip_space s) c.step-in-loop-left.ensures in
+    let behind = c.skip_space-p.ensures ∙ ap (skip_space s) c.step.ensures in
     close_more s square others c.skip_space-after.result.at c.peek-c.result c.peek-c.ensures c.skip_space-p.result.at c.if-c-eq93.false c.if-c-ne44.false behind ∙ next ∙ c.loop-left.invariant
 
 pub array-returns : goal.array-returns
@@ -74,42 +75,44 @@ pub object-returns-then-peek-eq125 : goal.object-returns-then-peek-eq125
 object-returns-then-peek-eq125 t c =
     let a = c.args in
     let s = a.s.now in
-    ap found_of (nested_empty s a.levels curly a.self.at c.if-levels-eq0.false c.skip_space-first.result.at c.peek.result c.skip_space-first.ensures c.peek.ensures c.step.result.at c.if-peek-eq125.true c.step.ensures)
+    ap found_of (nested_empty s a.levels curly a.self.at c.if-levels-eq0.false c.skip_space-first.result.at c.peek.result c.skip_space-first.ensures c.peek.ensures c.step-end.result.at c.if-peek-eq125.true c.step-end.ensures)
 
-pub object-returns-in_default : goal.object-returns-in_default
-object-returns-in_default t c =
+pub object-returns-in_err-begin : goal.object-returns-in_err-begin
+object-returns-in_err-begin t c =
     let a = c.args in
     let s = a.s.now in
     let whole = c.loop-left.invariant ∙ nested_open s a.levels curly a.self.at c.if-levels-eq0.false c.skip_space-first.result.at c.peek.result c.skip_space-first.ensures c.peek.ensures c.if-peek-eq125.false in
-    ap found_of (turn_no_name (value_at (a.levels - 1) s) curly s c.loop-left.left c.loop-left.p.at c.loop-left-test.true (is_refused _ c.in_default.ensures) ∙ whole)
+    c.from_residual.ensures
+    ∙ ap found_of (turn_no_name (value_at (a.levels - 1) s) curly s c.loop-left.left c.loop-left.p.at c.loop-left-test.true (is_refused _ c.in_err-begin.ensures) ∙ whole)
 
-pub object-returns-in_default-inner : goal.object-returns-in_default-inner
-object-returns-in_default-inner t c =
+pub object-returns-in_err-inner : goal.object-returns-in_err-inner
+object-returns-in_err-inner t c =
     let a = c.args in
     let s = a.s.now in
     let whole = c.loop-left.invariant ∙ nested_open s a.levels curly a.self.at c.if-levels-eq0.false c.skip_space-first.result.at c.peek.result c.skip_space-first.ensures c.peek.ensures c.if-peek-eq125.false in
-    let begin = is_ended _ c.in-At.begin c.in-At.ensures in
-    c.in_default-inner.is ∙ ap found_of (turn_nothing (value_at (a.levels - 1) s) curly s c.loop-left.left c.loop-left.p.at c.loop-left-test.true c.in-At.begin.at begin (is_nothing_lem _ c.in_default-inner.ensures) ∙ whole)
+    let begin = is_ended _ c.in_ok-begin.begin c.in_ok-begin.ensures in
+    c.from_residual-in_err-inner.ensures
+    ∙ ap found_of (turn_nothing (value_at (a.levels - 1) s) curly s c.loop-left.left c.loop-left.p.at c.loop-left-test.true c.in_ok-begin.begin.at begin (is_nothing_lem _ c.in_err-inner.ensures) ∙ whole)
 
 pub object-returns-then-c-eq125 : goal.object-returns-then-c-eq125
 object-returns-then-c-eq125 t c =
     let a = c.args in
     let s = a.s.now in
     let whole = c.loop-left.invariant ∙ nested_open s a.levels curly a.self.at c.if-levels-eq0.false c.skip_space-first.result.at c.peek.result c.skip_space-first.ensures c.peek.ensures c.if-peek-eq125.false in
-    let begin = is_ended _ c.in-At.begin c.in-At.ensures in
-    let read = is_found _ c.in-Value.end c.in-Value.field-1 c.in-Value.ensures in
-    let next = turn_found (value_at (a.levels - 1) s) curly s c.loop-left.left c.loop-left.p.at c.loop-left-test.true c.in-At.begin.at begin c.in-Value.end.at c.in-Value.field-1 c.skip_space-after.result.at read c.skip_space-after.ensures in
+    let begin = is_ended _ c.in_ok-begin.begin c.in_ok-begin.ensures in
+    let read = is_found _ c.in_ok-inner.inner.end c.in_ok-inner.inner.kind c.in_ok-inner.ensures in
+    let next = turn_found (value_at (a.levels - 1) s) curly s c.loop-left.left c.loop-left.p.at c.loop-left-test.true c.in_ok-begin.begin.at begin c.in_ok-inner.inner.end.at c.in_ok-inner.inner.kind c.skip_space-after.result.at read c.skip_space-after.ensures in
     let others = entries_at (value_at (a.levels - 1) s) curly s (c.loop-left.left - 1) in
-    ap found_of (close_end s curly others c.skip_space-after.result.at c.peek-c.result c.peek-c.ensures c.step-then-c-eq125.result.at c.if-c-eq125.true c.step-then-c-eq125.ensures ∙ next ∙ whole)
+    ap found_of (close_end s curly others c.skip_space-after.result.at c.peek-c.result c.peek-c.ensures c.step-end-then-c-eq125.result.at c.if-c-eq125.true c.step-end-then-c-eq125.ensures ∙ next ∙ whole)
 
 pub object-returns-then-c-ne44 : goal.object-returns-then-c-ne44
 object-returns-then-c-ne44 t c =
     let a = c.args in
     let s = a.s.now in
     let whole = c.loop-left.invariant ∙ nested_open s a.levels curly a.self.at c.if-levels-eq0.false c.skip_space-first.result.at c.peek.result c.skip_space-first.ensures c.peek.ensures c.if-peek-eq125.false in
-    let begin = is_ended _ c.in-At.begin c.in-At.ensures in
-    let read = is_found _ c.in-Value.end c.in-Value.field-1 c.in-Value.ensures in
-    let next = turn_found (value_at (a.levels - 1) s) curly s c.loop-left.left c.loop-left.p.at c.loop-left-test.true c.in-At.begin.at begin c.in-Value.end.at c.in-Value.field-1 c.skip_space-after.result.at read c.skip_space-after.ensures in
+    let begin = is_ended _ c.in_ok-begin.begin c.in_ok-begin.ensures in
+    let read = is_found _ c.in_ok-inner.inner.end c.in_ok-inner.inner.kind c.in_ok-inner.ensures in
+    let next = turn_found (value_at (a.levels - 1) s) curly s c.loop-left.left c.loop-left.p.at c.loop-left-test.true c.in_ok-begin.begin.at begin c.in_ok-inner.inner.end.at c.in_ok-inner.inner.kind c.skip_space-after.result.at read c.skip_space-after.ensures in
     let others = entries_at (value_at (a.levels - 1) s) curly s (c.loop-left.left - 1) in
     ap found_of (close_bad s curly others c.skip_space-after.result.at c.peek-c.result c.peek-c.ensures c.if-c-eq125.false c.if-c-ne44.true ∙ next ∙ whole)
 
@@ -117,11 +120,11 @@ pub object-loop-left-preserved : goal.object-loop-left-preserved
 object-loop-left-preserved t c =
     let a = c.args in
     let s = a.s.now in
-    let begin = is_ended _ c.in-At.begin c.in-At.ensures in
-    let read = is_found _ c.in-Value.end c.in-Value.field-1 c.in-Value.ensures in
-    let next = turn_found (value_at (a.levels - 1) s) curly s c.loop-left.left c.loop-left.p.at c.loop-left-test.true c.in-At.begin.at begin c.in-Value.end.at c.in-Value.field-1 c.skip_space-after.result.at read c.skip_space-after.ensures in
+    let begin = is_ended _ c.in_ok-begin.begin c.in_ok-begin.ensures in
+    let read = is_found _ c.in_ok-inner.inner.end c.in_ok-inner.inner.kind c.in_ok-inner.ensures in
+    let next = turn_found (value_at (a.levels - 1) s) curly s c.loop-left.left c.loop-left.p.at c.loop-left-test.true c.in_ok-begin.begin.at begin c.in_ok-inner.inner.end.at c.in_ok-inner.inner.kind c.skip_space-after.result.at read c.skip_space-after.ensures in
     let others = entries_at (value_at (a.levels - 1) s) curly s (c.loop-left.left - 1) in
-    let behind = c.skip_space-p.ensures ∙ ap (skip_space s) c.step-in-loop-left.ensures in
+    let behind = c.skip_space-p.ensures ∙ ap (skip_space s) c.step.ensures in
     close_more s curly others c.skip_space-after.result.at c.peek-c.result c.peek-c.ensures c.skip_space-p.result.at c.if-c-eq125.false c.if-c-ne44.false behind ∙ next ∙ c.loop-left.invariant
 
 pub object-returns : goal.object-returns

@@ -1,6 +1,6 @@
 -- `collect` has the rows so far in its table, and the reader's rows from the next member on to come.
 use Prim.Native.Nat.{ℕ, ◌-◌}
-use mathlib.Core.Path.{refl, ap, sym, ◌∙◌}
+use mathlib.Core.Path.{refl, ap, ◌∙◌}
 use mathlib.Core.List.{List}
 use native.Mathlib.Omega.{arith}
 use lib.ListN.{length, take}
@@ -22,8 +22,8 @@ loop-left-init c =
     let first = known_first curly c.args.levels s c.args.self.at c.step.result.at c.skip_space-p.result.at c.step.ensures c.skip_space-p.ensures in
     (search rules, (search rules, (refl, (written_none c.args.table.now, given_map c.args.judged first c.requires.given))))
 
-pub member-found-requires : goal.member-found-requires
-member-found-requires c =
+pub member-requires : goal.member-requires
+member-requires c =
     given_map c.args.judged (known_entry curly c.args.levels c.args.s.now c.loop-left.left c.loop-left.p.at c.loop-left-test.true) c.loop-left.invariant.1.1.1.1
 
 pub shape_of-table-in_default : goal.shape_of-table-in_default
@@ -39,7 +39,7 @@ returns-in_default c =
     let l = c.args.levels in
     let rows = rows_at (value_at l s) curly s (length s) c.skip_space-p.result.at in
     let whole = members_first s l c.args.self.at c.step.result.at c.skip_space-p.result.at c.step.ensures c.skip_space-p.ensures in
-    let none = rows_none curly s l c.loop-left.left c.loop-left.p.at c.loop-left-test.true (sym c.in_default.is ∙ c.member-found.ensures) in
+    let none = rows_none curly s l c.loop-left.left c.loop-left.p.at c.loop-left-test.true c.in_default.ensures in
     let left = c.loop-left.invariant.1.1.0 ∙ none in
     let table = c.loop-left.invariant.1.1.1.0 in
     record {
@@ -60,11 +60,11 @@ returns-then-count-eq-MOST_MEMBERS c =
     let l = c.args.levels in
     let rows = rows_at (value_at l s) curly s (length s) c.skip_space-p.result.at in
     let whole = members_first s l c.args.self.at c.step.result.at c.skip_space-p.result.at c.step.ensures c.skip_space-p.ensures in
-    let told = sym c.in-Here.is ∙ c.member-found.ensures in
-    let read = the_read curly s l c.loop-left.left c.loop-left.p.at c.loop-left-test.true c.in-Here.row c.in-Here.next told in
-    let more = rows_more curly s l c.loop-left.left c.loop-left.p.at c.loop-left-test.true c.in-Here.row c.in-Here.next told in
+    let told = c.in-Some.ensures in
+    let read = the_read curly s l c.loop-left.left c.loop-left.p.at c.loop-left-test.true c.in-Some.found.row c.in-Some.found.next told in
+    let more = rows_more curly s l c.loop-left.left c.loop-left.p.at c.loop-left-test.true c.in-Some.found.row c.in-Some.found.next told in
     let here = c.loop-left.invariant.1.1.0 ∙ more in
-    let rest = rows_at (value_at l s) curly s (c.loop-left.left - 1) c.in-Here.next.at in
+    let rest = rows_at (value_at l s) curly s (c.loop-left.left - 1) c.in-Some.found.next.at in
     let full = c.if-count-eq-MOST_MEMBERS.true in
     record {
       value = rows_over rows rest read.entry.row c.loop-left.count full here ∙ ap collected_of whole;
@@ -83,11 +83,11 @@ loop-left-preserved c =
     let s = c.args.s.now in
     let l = c.args.levels in
     let rows = rows_at (value_at l s) curly s (length s) c.skip_space-p.result.at in
-    let told = sym c.in-Here.is ∙ c.member-found.ensures in
-    let read = the_read curly s l c.loop-left.left c.loop-left.p.at c.loop-left-test.true c.in-Here.row c.in-Here.next told in
-    let more = rows_more curly s l c.loop-left.left c.loop-left.p.at c.loop-left-test.true c.in-Here.row c.in-Here.next told in
+    let told = c.in-Some.ensures in
+    let read = the_read curly s l c.loop-left.left c.loop-left.p.at c.loop-left-test.true c.in-Some.found.row c.in-Some.found.next told in
+    let more = rows_more curly s l c.loop-left.left c.loop-left.p.at c.loop-left-test.true c.in-Some.found.row c.in-Some.found.next told in
     let here = c.loop-left.invariant.1.1.0 ∙ more in
-    let rest = rows_at (value_at l s) curly s (c.loop-left.left - 1) c.in-Here.next.at in
+    let rest = rows_at (value_at l s) curly s (c.loop-left.left - 1) c.in-Some.found.next.at in
     let row = read.entry.row in (
       omega arith,
       (
@@ -95,7 +95,7 @@ loop-left-preserved c =
         (
           drop_more rows rest row c.loop-left.count here,
           (
-            table_more rows rest row c.loop-left.count here c.args.table.now c.loop-left.table c.put_row.new.table (five_of c.in-Here.row) c.loop-left.invariant.1.1.1.0 read.five c.put_row.ensures,
+            table_more rows rest row c.loop-left.count here c.args.table.now c.loop-left.table c.put_row.new.table (five_of c.in-Some.found.row) c.loop-left.invariant.1.1.1.0 read.five c.put_row.ensures,
             given_map c.args.judged (known_next curly l s c.loop-left.left c.loop-left.p.at c.loop-left-test.true read) c.loop-left.invariant.1.1.1.1,
           ),
         ),

@@ -45,6 +45,6 @@ returns c =
     let at = c.args.self.at in
     let here = (sym (c.is_escape.ensures ∙ ap is_escape c.peek-c.ensures) ∙ c.if-not-is_escape.false) in
     record {
-      result_value = escape_done s half at (ne_eqb _ _ (λ e. c.if-c-eq117.false (c.peek-c.ensures ∙ e))) c.step-2.result.at here c.if-half.false c.step-2.ensures;
-      beyond = omega (arith, c.step-2.ensures, class_steps is_escape s at refl here);
+      result_value = escape_done s half at (ne_eqb _ _ (λ e. c.if-c-eq117.false (c.peek-c.ensures ∙ e))) c.step-next.result.at here c.if-half.false c.step-next.ensures;
+      beyond = omega (arith, c.step-next.ensures, class_steps is_escape s at refl here);
     }

@@ -18,8 +18,8 @@ returns-then-not-is_hex c =
 pub hex_digit-requires : goal.hex_digit-requires
 hex_digit-requires c = sym c.is_hex.ensures ∙ c.if-not-is_hex.false
 
-pub overflow_add-result : goal.overflow_add-result
-overflow_add-result c = omega (arith, c.hex_digit.ensures.1)
+pub overflow_add-value : goal.overflow_add-value
+overflow_add-value c = omega (arith, c.hex_digit.ensures.1)
 
 pub returns : goal.returns
 returns c =
@@ -27,7 +27,7 @@ returns c =
     let at = c.args.self.at in
     let digit = c.hex_digit.ensures in
     record {
-      value = hex_yes s at c.args.x c.step.result.at c.hex_digit.result (sym (c.is_hex.ensures ∙ ap is_hex c.peek-c.ensures) ∙ c.if-not-is_hex.false) c.step.ensures
+      value = hex_yes s at c.args.x c.step-next.result.at c.hex_digit.result (sym (c.is_hex.ensures ∙ ap is_hex c.peek-c.ensures) ∙ c.if-not-is_hex.false) c.step-next.ensures
           (digit.0 ∙ ap hex_digit c.peek-c.ensures);
       small = omega (arith, digit.1);
     }

@@ -12,4 +12,4 @@ pub returns-then-low-2 : goal.returns-then-low-2
 returns-then-low-2 c = simp (c.if-half.false, (sym c.is_low-low.ensures ∙ c.if-low-2.true))
 
 pub returns : goal.returns
-returns c = simp (c.if-half.false, (sym c.is_low-low.ensures ∙ c.if-low-2.false), c.is_high.ensures)
+returns c = simp (c.if-half.false, (sym c.is_low-low.ensures ∙ c.if-low-2.false), c.is_high-waits.ensures)

@@ -13,6 +13,7 @@ use Rattle.jwe.specs.Judge.{json_held, outcome_for}
 use Rattle.jwe.specs.Inner.Holding.{HoldsShare, Gathers}
 use Rattle.jwe.proofs.HeldTables.{gathers_json, header_size_lem}
 use Rattle.jwe.proofs.JsonHeads.{result_is}
+use Rattle.jwe.specs.Answers.{holding_of}
 use Rattle.jwe.proofs.general.hand_out.Goals as goal
 
 pub gather-parameters-requires : goal.gather-parameters-requires
@@ -40,7 +41,7 @@ mode-requires c =
     let gathered : (let args = c.args in
     Gathers args.message.now (json_held args.message.now) args.i args.has.common c.gather-parameters.result
     c.gather-parameters.new.table) = (let args = c.args in
-    gathers_json args.message.now args.has args.of.now args.own.now args.counts.now args.i _
+    gathers_json args.message.now (holding_of args.has) args.of.now args.own.now args.counts.now args.i _
     args.table.now _ (share) c.requires.holds.common c.requires.table_len c.gather-parameters.ensures.value c.gather-parameters.ensures.table_after) in
     (gathered).few
 
@@ -59,7 +60,7 @@ returns c =
     let gathered : (let args = c.args in
     Gathers args.message.now (json_held args.message.now) args.i args.has.common c.gather-parameters.result
     c.gather-parameters.new.table) = (let args = c.args in
-    gathers_json args.message.now args.has args.of.now args.own.now args.counts.now args.i _
+    gathers_json args.message.now (holding_of args.has) args.of.now args.own.now args.counts.now args.i _
     args.table.now _ (share) c.requires.holds.common c.requires.table_len c.gather-parameters.ensures.value c.gather-parameters.ensures.table_after) in
     let args = c.args in
     let m = args.message.now in
@@ -72,7 +73,7 @@ returns c =
       result_value = result_is m (outcome_for h args.i) _ _ _ _ _ _ holds.form holds.recipients
           (c.mode.ensures ∙ ap₂ (λ (l : List ℕ) (es : List Entry). mode_in (read_texts l m) es) holds.header has.entries)
           (c.with_key.ensures ∙ ap₂ with_key holds.components (c.key.ensures ∙ (share).key))
-          (header_size_lem m h args.has args.text.now args.table.now args.of.now args.own.now args.counts.now
+          (header_size_lem m h (holding_of args.has) args.text.now args.table.now args.of.now args.own.now args.counts.now
           c.requires.text_len holds)
           (sym (entries_length n last) ∙ ap length has.entries);
       gathers = has;

@@ -1,6 +1,6 @@
 -- `hold` hands up the refusals of the top level, of the elements and of the components in their order; what stands in its
 -- tables then is the message's members and recipients.
-use mathlib.Core.Path.{◌≡◌, ap, sym, subst, ◌∙◌}
+use mathlib.Core.Path.{refl, ◌≡◌, ap, sym, subst, ◌∙◌}
 use mathlib.Core.Bool.{false}
 use mathlib.Core.List.{List}
 use Prim.Native.Nat.{◌*◌, ◌≤◌}
@@ -9,7 +9,7 @@ use lib.ListN.{length, replicate}
 use Rattle.prelude.specs.Buffer.{written}
 use Rattle.names.specs.Names.{names}
 use Rattle.rows.specs.Tables.{entries_of}
-use Rattle.prelude.specs.Refusals.{first}
+use Rattle.prelude.specs.Refusals.{first, as_stage}
 use Rattle.headers.specs.Components.{absent}
 use Rattle.headers.proofs.Stages.{passed_is, refused_is}
 use Rattle.shape.specs.Shape.{Recipient}
@@ -24,112 +24,114 @@ use Rattle.jwe.proofs.JsonOrder.{json_top, json_elements, json_misspelled}
 use Rattle.jwe.proofs.JsonHeaders.{no_component}
 use Rattle.jwe.proofs.JsonTop.{top_is, elements_as, listed_is, misspelled_as, protected_sound}
 use Rattle.jwe.proofs.HeldTables.{holds_refused, holds_handed, holds_json}
+use Rattle.jwe.proofs.Exits.{hands_up_holding}
+use Rattle.jwe.specs.Answers.{as_holding}
 use Rattle.jwe.proofs.general.hold.Goals as goal
 
-pub top-outermost-requires : goal.top-outermost-requires
-top-outermost-requires c =
+pub top-requires : goal.top-requires
+top-requires c =
     record {
       message_len_bound = c.requires.message_len_bound;
       header_table_in_bounds = omega arith;
     }
 
-pub returns-in_default : goal.returns-in_default
-returns-in_default c =
+pub returns-in_err-count : goal.returns-in_err-count
+returns-in_err-count c =
     let args = c.args in
     let m = args.message.now in
-    let refusal = c.in_default.is in
-    let told = refused_is _ (first (top_order m)) (length (top_entries m)) (sym refusal ∙ c.top-outermost.ensures.value) in
+    let refusal = (ap as_stage c.in_err-count.was) in
+    let told = refused_is _ (first (top_order m)) (length (top_entries m)) (sym refusal ∙ c.top.ensures.value) in
     holds_handed m _ _ _ (json_top m (names args.known.now) 0 told.0 told.1) told.1 _ _ _ _ _ _
-    c.handed.ensures refusal
+    (hands_up_holding _ _ c.in_err-count.was _ c.from_residual.ensures.1) refusal
 
-pub recipients-elements-requires : goal.recipients-elements-requires
-recipients-elements-requires c =
+pub recipients-requires : goal.recipients-requires
+recipients-requires c =
     let tops : (let m = c.args.message.now in
-    (first (top_order m) ≡ 0) × ((c.in-Passed.count ≤ 32) × ((entries_of c.in-Passed.count c.top-outermost.new.table) ≡ top_entries m))) = (let m = c.args.message.now in
-    let told = sym c.in-Passed.is ∙ c.top-outermost.ensures.value in
+    (first (top_order m) ≡ 0) × ((c.in_ok-count.count ≤ 32) × ((entries_of c.in_ok-count.count c.top.new.table) ≡ top_entries m))) = (let m = c.args.message.now in
+    let told = sym (ap as_stage c.in_ok-count.was) ∙ c.top.ensures.value in
     let passed = passed_is _ (first (top_order m)) (length (top_entries m)) told in
-    top_is m (replicate 256 0) c.top-outermost.new.table _ told
-    (c.top-outermost.ensures.table_after ∙ top_written m (replicate 256 0) passed.0)) in
+    top_is m (replicate 256 0) c.top.new.table _ told
+    (c.top.ensures.table_after ∙ top_written m (replicate 256 0) passed.0)) in
     let top = tops in
     record {
       message_len_bound = c.requires.message_len_bound;
-      width_in_bounds = omega (arith, top.1.0, c.top-outermost.auto.table);
+      width_in_bounds = omega (arith, top.1.0, c.top.auto.table);
       recipients_room_in_bounds = omega (arith, c.requires.of_len);
       message_value = top.0;
       table_value = top.1.1;
     }
 
-pub shape_of-of-in_default-elements : goal.shape_of-of-in_default-elements
-shape_of-of-in_default-elements c = c.recipients-elements.auto.into
+pub shape_of-of-in_err-number : goal.shape_of-of-in_err-number
+shape_of-of-in_err-number c = c.recipients.auto.into
 
-pub returns-in_default-elements : goal.returns-in_default-elements
-returns-in_default-elements c =
+pub returns-in_err-number : goal.returns-in_err-number
+returns-in_err-number c =
     let tops : (let m = c.args.message.now in
-    (first (top_order m) ≡ 0) × ((c.in-Passed.count ≤ 32) × ((entries_of c.in-Passed.count c.top-outermost.new.table) ≡ top_entries m))) = (let m = c.args.message.now in
-    let told = sym c.in-Passed.is ∙ c.top-outermost.ensures.value in
+    (first (top_order m) ≡ 0) × ((c.in_ok-count.count ≤ 32) × ((entries_of c.in_ok-count.count c.top.new.table) ≡ top_entries m))) = (let m = c.args.message.now in
+    let told = sym (ap as_stage c.in_ok-count.was) ∙ c.top.ensures.value in
     let passed = passed_is _ (first (top_order m)) (length (top_entries m)) told in
-    top_is m (replicate 256 0) c.top-outermost.new.table _ told
-    (c.top-outermost.ensures.table_after ∙ top_written m (replicate 256 0) passed.0)) in
+    top_is m (replicate 256 0) c.top.new.table _ told
+    (c.top.ensures.table_after ∙ top_written m (replicate 256 0) passed.0)) in
     let args = c.args in
     let m = args.message.now in
     let top = tops in
-    let fs = (entries_of c.in-Passed.count c.top-outermost.new.table) in
-    let refusal = c.in_default-elements.is in
+    let fs = (entries_of c.in_ok-count.count c.top.new.table) in
+    let refusal = (ap as_stage c.in_err-number.was) in
     let told = refused_is _ (first (elements_order m fs)) (length (recipients_in m fs))
-    (sym refusal ∙ c.recipients-elements.ensures.value) in
+    (sym refusal ∙ c.recipients.ensures.value) in
     holds_handed m _ _ _
     (json_elements m (names args.known.now) 0 top.0 (sym (elements_as m (top_entries m) fs top.1.1) ∙ told.0) told.1)
-    told.1 _ _ _ _ _ _ c.handed-in_default-elements.ensures refusal
+    told.1 _ _ _ _ _ _ (hands_up_holding _ _ c.in_err-number.was _ c.from_residual-in_err-number.ensures.1) refusal
 
 pub held-top-requires : goal.held-top-requires
 held-top-requires c =
     let tops : (let m = c.args.message.now in
-    (first (top_order m) ≡ 0) × ((c.in-Passed.count ≤ 32) × ((entries_of c.in-Passed.count c.top-outermost.new.table) ≡ top_entries m))) = (let m = c.args.message.now in
-    let told = sym c.in-Passed.is ∙ c.top-outermost.ensures.value in
+    (first (top_order m) ≡ 0) × ((c.in_ok-count.count ≤ 32) × ((entries_of c.in_ok-count.count c.top.new.table) ≡ top_entries m))) = (let m = c.args.message.now in
+    let told = sym (ap as_stage c.in_ok-count.was) ∙ c.top.ensures.value in
     let passed = passed_is _ (first (top_order m)) (length (top_entries m)) told in
-    top_is m (replicate 256 0) c.top-outermost.new.table _ told
-    (c.top-outermost.ensures.table_after ∙ top_written m (replicate 256 0) passed.0)) in
-    omega (arith, (tops).1.0, c.top-outermost.auto.table)
+    top_is m (replicate 256 0) c.top.new.table _ told
+    (c.top.ensures.table_after ∙ top_written m (replicate 256 0) passed.0)) in
+    omega (arith, (tops).1.0, c.top.auto.table)
 
 pub misspelled-requires : goal.misspelled-requires
 misspelled-requires c =
     let tops : (let m = c.args.message.now in
-    (first (top_order m) ≡ 0) × ((c.in-Passed.count ≤ 32) × ((entries_of c.in-Passed.count c.top-outermost.new.table) ≡ top_entries m))) = (let m = c.args.message.now in
-    let told = sym c.in-Passed.is ∙ c.top-outermost.ensures.value in
+    (first (top_order m) ≡ 0) × ((c.in_ok-count.count ≤ 32) × ((entries_of c.in_ok-count.count c.top.new.table) ≡ top_entries m))) = (let m = c.args.message.now in
+    let told = sym (ap as_stage c.in_ok-count.was) ∙ c.top.ensures.value in
     let passed = passed_is _ (first (top_order m)) (length (top_entries m)) told in
-    top_is m (replicate 256 0) c.top-outermost.new.table _ told
-    (c.top-outermost.ensures.table_after ∙ top_written m (replicate 256 0) passed.0)) in
+    top_is m (replicate 256 0) c.top.new.table _ told
+    (c.top.ensures.table_after ∙ top_written m (replicate 256 0) passed.0)) in
     let lists : (let m = c.args.message.now in
     (first (elements_order m (top_entries m)) ≡ 0)
-    × (((1 ≤ c.in-Passed-elements.number) × (c.in-Passed-elements.number ≤ 8)) × ((recipients_of c.in-Passed-elements.number c.recipients-elements.new.into) ≡ recipients_in m (top_entries m)))) = (let m = c.args.message.now in
-    let fs = (entries_of c.in-Passed.count c.top-outermost.new.table) in
-    let told = sym c.in-Passed-elements.is ∙ c.recipients-elements.ensures.value in
+    × (((1 ≤ c.in_ok-number.number) × (c.in_ok-number.number ≤ 8)) × ((recipients_of c.in_ok-number.number c.recipients.new.into) ≡ recipients_in m (top_entries m)))) = (let m = c.args.message.now in
+    let fs = (entries_of c.in_ok-count.count c.top.new.table) in
+    let told = sym (ap as_stage c.in_ok-number.was) ∙ c.recipients.ensures.value in
     let passed = passed_is _ (first (elements_order m fs)) (length (recipients_in m fs)) told in
-    listed_is m (top_entries m) fs (tops).1.1 c.args.of.now c.recipients-elements.new.into _ told
-    (c.recipients-elements.ensures.into_after ∙ ap (λ (rs : List Recipient). written 0 (flat_recipients rs) c.args.of.now)
+    listed_is m (top_entries m) fs (tops).1.1 c.args.of.now c.recipients.new.into _ told
+    (c.recipients.ensures.into_after ∙ ap (λ (rs : List Recipient). written 0 (flat_recipients rs) c.args.of.now)
     (all_written m fs passed.0))) in
-    let room : c.in-Passed-elements.number * recipient_width ≤ length c.recipients-elements.new.into = omega (arith, (lists).1.0.1, c.recipients-elements.auto.into, c.requires.of_len) in
+    let room : c.in_ok-number.number * recipient_width ≤ length c.recipients.new.into = omega (arith, (lists).1.0.1, c.recipients.auto.into, c.requires.of_len) in
     room
 
 pub shape_of-of-then-misspelled : goal.shape_of-of-then-misspelled
-shape_of-of-then-misspelled c = c.recipients-elements.auto.into
+shape_of-of-then-misspelled c = c.recipients.auto.into
 
 pub returns-then-misspelled : goal.returns-then-misspelled
 returns-then-misspelled c =
     let tops : (let m = c.args.message.now in
-    (first (top_order m) ≡ 0) × ((c.in-Passed.count ≤ 32) × ((entries_of c.in-Passed.count c.top-outermost.new.table) ≡ top_entries m))) = (let m = c.args.message.now in
-    let told = sym c.in-Passed.is ∙ c.top-outermost.ensures.value in
+    (first (top_order m) ≡ 0) × ((c.in_ok-count.count ≤ 32) × ((entries_of c.in_ok-count.count c.top.new.table) ≡ top_entries m))) = (let m = c.args.message.now in
+    let told = sym (ap as_stage c.in_ok-count.was) ∙ c.top.ensures.value in
     let passed = passed_is _ (first (top_order m)) (length (top_entries m)) told in
-    top_is m (replicate 256 0) c.top-outermost.new.table _ told
-    (c.top-outermost.ensures.table_after ∙ top_written m (replicate 256 0) passed.0)) in
+    top_is m (replicate 256 0) c.top.new.table _ told
+    (c.top.ensures.table_after ∙ top_written m (replicate 256 0) passed.0)) in
     let lists : (let m = c.args.message.now in
     (first (elements_order m (top_entries m)) ≡ 0)
-    × (((1 ≤ c.in-Passed-elements.number) × (c.in-Passed-elements.number ≤ 8)) × ((recipients_of c.in-Passed-elements.number c.recipients-elements.new.into) ≡ recipients_in m (top_entries m)))) = (let m = c.args.message.now in
-    let fs = (entries_of c.in-Passed.count c.top-outermost.new.table) in
-    let told = sym c.in-Passed-elements.is ∙ c.recipients-elements.ensures.value in
+    × (((1 ≤ c.in_ok-number.number) × (c.in_ok-number.number ≤ 8)) × ((recipients_of c.in_ok-number.number c.recipients.new.into) ≡ recipients_in m (top_entries m)))) = (let m = c.args.message.now in
+    let fs = (entries_of c.in_ok-count.count c.top.new.table) in
+    let told = sym (ap as_stage c.in_ok-number.was) ∙ c.recipients.ensures.value in
     let passed = passed_is _ (first (elements_order m fs)) (length (recipients_in m fs)) told in
-    listed_is m (top_entries m) fs (tops).1.1 c.args.of.now c.recipients-elements.new.into _ told
-    (c.recipients-elements.ensures.into_after ∙ ap (λ (rs : List Recipient). written 0 (flat_recipients rs) c.args.of.now)
+    listed_is m (top_entries m) fs (tops).1.1 c.args.of.now c.recipients.new.into _ told
+    (c.recipients.ensures.into_after ∙ ap (λ (rs : List Recipient). written 0 (flat_recipients rs) c.args.of.now)
     (all_written m fs passed.0))) in
     let holds : top_in c.held-top.result ≡ top_of (top_entries (c.args.message.now)) = c.held-top.ensures ∙ ap top_of (tops).1.1 in
     let spelled : (let m = c.args.message.now in c.misspelled.result ≡ any_misspelled m (top_entries m)) = (let m = c.args.message.now in
@@ -138,27 +140,27 @@ returns-then-misspelled c =
     holds_refused args.message.now _ _ _
     (json_misspelled args.message.now (names args.known.now) 0
     (tops).0 (lists).0 (sym (spelled) ∙ c.if-misspelled.true))
-    (omega arith) _ _ _ _ _ c.refused.ensures
+    (omega arith) _ _ _ _ _ refl
 
 pub shaped-requires : goal.shaped-requires
 shaped-requires c =
     let tops : (let m = c.args.message.now in
-    (first (top_order m) ≡ 0) × ((c.in-Passed.count ≤ 32) × ((entries_of c.in-Passed.count c.top-outermost.new.table) ≡ top_entries m))) = (let m = c.args.message.now in
-    let told = sym c.in-Passed.is ∙ c.top-outermost.ensures.value in
+    (first (top_order m) ≡ 0) × ((c.in_ok-count.count ≤ 32) × ((entries_of c.in_ok-count.count c.top.new.table) ≡ top_entries m))) = (let m = c.args.message.now in
+    let told = sym (ap as_stage c.in_ok-count.was) ∙ c.top.ensures.value in
     let passed = passed_is _ (first (top_order m)) (length (top_entries m)) told in
-    top_is m (replicate 256 0) c.top-outermost.new.table _ told
-    (c.top-outermost.ensures.table_after ∙ top_written m (replicate 256 0) passed.0)) in
+    top_is m (replicate 256 0) c.top.new.table _ told
+    (c.top.ensures.table_after ∙ top_written m (replicate 256 0) passed.0)) in
     let lists : (let m = c.args.message.now in
     (first (elements_order m (top_entries m)) ≡ 0)
-    × (((1 ≤ c.in-Passed-elements.number) × (c.in-Passed-elements.number ≤ 8)) × ((recipients_of c.in-Passed-elements.number c.recipients-elements.new.into) ≡ recipients_in m (top_entries m)))) = (let m = c.args.message.now in
-    let fs = (entries_of c.in-Passed.count c.top-outermost.new.table) in
-    let told = sym c.in-Passed-elements.is ∙ c.recipients-elements.ensures.value in
+    × (((1 ≤ c.in_ok-number.number) × (c.in_ok-number.number ≤ 8)) × ((recipients_of c.in_ok-number.number c.recipients.new.into) ≡ recipients_in m (top_entries m)))) = (let m = c.args.message.now in
+    let fs = (entries_of c.in_ok-count.count c.top.new.table) in
+    let told = sym (ap as_stage c.in_ok-number.was) ∙ c.recipients.ensures.value in
     let passed = passed_is _ (first (elements_order m fs)) (length (recipients_in m fs)) told in
-    listed_is m (top_entries m) fs (tops).1.1 c.args.of.now c.recipients-elements.new.into _ told
-    (c.recipients-elements.ensures.into_after ∙ ap (λ (rs : List Recipient). written 0 (flat_recipients rs) c.args.of.now)
+    listed_is m (top_entries m) fs (tops).1.1 c.args.of.now c.recipients.new.into _ told
+    (c.recipients.ensures.into_after ∙ ap (λ (rs : List Recipient). written 0 (flat_recipients rs) c.args.of.now)
     (all_written m fs passed.0))) in
     let holds : top_in c.held-top.result ≡ top_of (top_entries (c.args.message.now)) = c.held-top.ensures ∙ ap top_of (tops).1.1 in
-    let room : c.in-Passed-elements.number * recipient_width ≤ length c.recipients-elements.new.into = omega (arith, (lists).1.0.1, c.recipients-elements.auto.into, c.requires.of_len) in
+    let room : c.in_ok-number.number * recipient_width ≤ length c.recipients.new.into = omega (arith, (lists).1.0.1, c.recipients.auto.into, c.requires.of_len) in
     let m = c.args.message.now in
     let top = tops in
     let rows = lists in
@@ -185,24 +187,24 @@ shaped-requires c =
     }
 
 pub shape_of-of : goal.shape_of-of
-shape_of-of c = c.recipients-elements.auto.into
+shape_of-of c = c.recipients.auto.into
 
 pub returns : goal.returns
 returns c =
     let tops : (let m = c.args.message.now in
-    (first (top_order m) ≡ 0) × ((c.in-Passed.count ≤ 32) × ((entries_of c.in-Passed.count c.top-outermost.new.table) ≡ top_entries m))) = (let m = c.args.message.now in
-    let told = sym c.in-Passed.is ∙ c.top-outermost.ensures.value in
+    (first (top_order m) ≡ 0) × ((c.in_ok-count.count ≤ 32) × ((entries_of c.in_ok-count.count c.top.new.table) ≡ top_entries m))) = (let m = c.args.message.now in
+    let told = sym (ap as_stage c.in_ok-count.was) ∙ c.top.ensures.value in
     let passed = passed_is _ (first (top_order m)) (length (top_entries m)) told in
-    top_is m (replicate 256 0) c.top-outermost.new.table _ told
-    (c.top-outermost.ensures.table_after ∙ top_written m (replicate 256 0) passed.0)) in
+    top_is m (replicate 256 0) c.top.new.table _ told
+    (c.top.ensures.table_after ∙ top_written m (replicate 256 0) passed.0)) in
     let lists : (let m = c.args.message.now in
     (first (elements_order m (top_entries m)) ≡ 0)
-    × (((1 ≤ c.in-Passed-elements.number) × (c.in-Passed-elements.number ≤ 8)) × ((recipients_of c.in-Passed-elements.number c.recipients-elements.new.into) ≡ recipients_in m (top_entries m)))) = (let m = c.args.message.now in
-    let fs = (entries_of c.in-Passed.count c.top-outermost.new.table) in
-    let told = sym c.in-Passed-elements.is ∙ c.recipients-elements.ensures.value in
+    × (((1 ≤ c.in_ok-number.number) × (c.in_ok-number.number ≤ 8)) × ((recipients_of c.in_ok-number.number c.recipients.new.into) ≡ recipients_in m (top_entries m)))) = (let m = c.args.message.now in
+    let fs = (entries_of c.in_ok-count.count c.top.new.table) in
+    let told = sym (ap as_stage c.in_ok-number.was) ∙ c.recipients.ensures.value in
     let passed = passed_is _ (first (elements_order m fs)) (length (recipients_in m fs)) told in
-    listed_is m (top_entries m) fs (tops).1.1 c.args.of.now c.recipients-elements.new.into _ told
-    (c.recipients-elements.ensures.into_after ∙ ap (λ (rs : List Recipient). written 0 (flat_recipients rs) c.args.of.now)
+    listed_is m (top_entries m) fs (tops).1.1 c.args.of.now c.recipients.new.into _ told
+    (c.recipients.ensures.into_after ∙ ap (λ (rs : List Recipient). written 0 (flat_recipients rs) c.args.of.now)
     (all_written m fs passed.0))) in
     let holds : top_in c.held-top.result ≡ top_of (top_entries (c.args.message.now)) = c.held-top.ensures ∙ ap top_of (tops).1.1 in
     let spelled : (let m = c.args.message.now in c.misspelled.result ≡ any_misspelled m (top_entries m)) = (let m = c.args.message.now in
@@ -211,4 +213,4 @@ returns c =
     let top = tops in
     let rows = lists in
     holds_json args.message.now (names args.known.now) top.0 rows.0 (sym (spelled) ∙ c.if-misspelled.false)
-    c.shaped.result _ _ _ _ _ _ _ (holds) rows.1.1 c.shaped.ensures
+    (as_holding c.shaped.result) _ _ _ _ _ _ _ (holds) rows.1.1 c.shaped.ensures

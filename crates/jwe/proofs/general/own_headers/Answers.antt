@@ -7,7 +7,7 @@ use native.Mathlib.Omega.{arith}
 use lib.ListN.{length, drop, length-set}
 use Rattle.rows.specs.Rows.{Entry}
 use Rattle.rows.specs.Inner.Prints.{collected_table}
-use Rattle.prelude.specs.Refusals.{first, stage_of}
+use Rattle.prelude.specs.Refusals.{first, stage_of, as_stage}
 use Rattle.prelude.specs.Limits.{most_members}
 use Rattle.headers.specs.Headers.{object_order}
 use Rattle.headers.proofs.Stages.{passed_is, refused_is, refuses, passes}
@@ -19,6 +19,7 @@ use Rattle.jwe.proofs.JsonHeaders.{few}
 use Rattle.jwe.proofs.RecipientRows.{header_at, one_passes, one_refuses, all_pass}
 use Rattle.jwe.proofs.OwnHeaders.{own_none, own_more, own_is}
 use Rattle.jwe.proofs.general.own_headers.Invariants.{tests}
+use Rattle.prelude.proofs.Exits.{exit_refused}
 use Rattle.jwe.proofs.general.own_headers.Goals as goal
 
 pub loop-i-init : goal.loop-i-init
@@ -35,8 +36,8 @@ loop-i-init c =
       ),
     )
 
-pub unprotected-object-requires : goal.unprotected-object-requires
-unprotected-object-requires c =
+pub unprotected-requires : goal.unprotected-requires
+unprotected-requires c =
     let args = c.args in
     let more = c.loop-i-test.true in
     record {
@@ -46,19 +47,19 @@ unprotected-object-requires c =
           c.requires.headers_known more;
     }
 
-pub returns-in_default : goal.returns-in_default
-returns-in_default c =
+pub returns-in_err-counts : goal.returns-in_err-counts
+returns-in_err-counts c =
     let answered : (let args = c.args in
     let es = own_entries args.message.now (recipient_at (drop (c.loop-i.i * recipient_width) args.of.now)) in
-    (c.unprotected-object.result ≡ stage_of (first (object_order args.message.now es)) (length es))
-    × (c.unprotected-object.new.table
+    ((as_stage c.unprotected.result) ≡ stage_of (first (object_order args.message.now es)) (length es))
+    × (c.unprotected.new.table
     ≡ collected_table (c.loop-i.i * most_members) args.message.now es
     c.loop-i.own)) = (let args = c.args in
     let message = args.message.now in
     let same = own_is message args.of.now c.loop-i.i in (
-      c.unprotected-object.ensures.value
+      c.unprotected.ensures.value
           ∙ ap (λ (es : List Entry). stage_of (first (object_order message es)) (length es)) same,
-      c.unprotected-object.ensures.table_after
+      c.unprotected.ensures.table_after
           ∙ ap
           (λ (es : List Entry).
           collected_table (c.loop-i.i * most_members) message es
@@ -69,28 +70,28 @@ returns-in_default c =
     let message = args.message.now in
     let said = answered in
     let r = recipient_at (drop (c.loop-i.i * recipient_width) args.of.now) in
-    let told = refused_is _ (first (tests message r)) (length (own_entries message r)) (sym c.in_default.is ∙ said.0) in
+    let told = refused_is _ (first (tests message r)) (length (own_entries message r)) (sym (ap as_stage c.in_err-counts.was) ∙ said.0) in
     let all = one_refuses (tests message) (λ r. object_nonzero message (own_entries message r)) _ args.number c.loop-i.i
     args.of.now c.loop-i.invariant.1.1.1.1 c.loop-i-test.true told.0 told.1 in
     record {
-      value = c.in_default.is ∙ refuses args.number told.1 ∙ ap (λ (n : ℕ). stage_of n args.number) (sym all);
-      leaves_own = subst (LeavesOwn args.number message args.of.now _ _) (sym c.in_default.is)
-          (omega (arith, c.loop-i.invariant.1.0, c.unprotected-object.auto), c.loop-i.invariant.1.1.0);
+      value = exit_refused _ _ c.from_residual.ensures.1 ∙ refuses args.number told.1 ∙ ap (λ (n : ℕ). stage_of n args.number) (sym all);
+      leaves_own = subst (LeavesOwn args.number message args.of.now _ _) (sym (exit_refused _ _ c.from_residual.ensures.1))
+          (omega (arith, c.loop-i.invariant.1.0, c.unprotected.auto), c.loop-i.invariant.1.1.0);
     }
 
 pub loop-i-preserved : goal.loop-i-preserved
 loop-i-preserved c =
     let answered : (let args = c.args in
     let es = own_entries args.message.now (recipient_at (drop (c.loop-i.i * recipient_width) args.of.now)) in
-    (c.unprotected-object.result ≡ stage_of (first (object_order args.message.now es)) (length es))
-    × (c.unprotected-object.new.table
+    ((as_stage c.unprotected.result) ≡ stage_of (first (object_order args.message.now es)) (length es))
+    × (c.unprotected.new.table
     ≡ collected_table (c.loop-i.i * most_members) args.message.now es
     c.loop-i.own)) = (let args = c.args in
     let message = args.message.now in
     let same = own_is message args.of.now c.loop-i.i in (
-      c.unprotected-object.ensures.value
+      c.unprotected.ensures.value
           ∙ ap (λ (es : List Entry). stage_of (first (object_order message es)) (length es)) same,
-      c.unprotected-object.ensures.table_after
+      c.unprotected.ensures.table_after
           ∙ ap
           (λ (es : List Entry).
           collected_table (c.loop-i.i * most_members) message es
@@ -101,12 +102,12 @@ loop-i-preserved c =
     let message = args.message.now in
     let said = answered in
     let r = recipient_at (drop (c.loop-i.i * recipient_width) args.of.now) in
-    let told = passed_is _ (first (tests message r)) (length (own_entries message r)) (sym c.in-Passed.is ∙ said.0) in
+    let told = passed_is _ (first (tests message r)) (length (own_entries message r)) (sym (ap as_stage c.in_ok-counts.was) ∙ said.0) in
     let short = few message (own_entries message r) told.0 in
     let test = c.loop-i-test.true in (
       omega arith,
       (
-        omega (arith, c.loop-i.invariant.1.0, c.unprotected-object.auto),
+        omega (arith, c.loop-i.invariant.1.0, c.unprotected.auto),
         (
           length-set c.loop-i.counts c.loop-i.i _ ∙ c.loop-i.invariant.1.1.0,
           (

@@ -1,5 +1,5 @@
 -- `protected` collects the object that the header is; 10 after 8 and 9 is the same as before them.
-use mathlib.Core.Path.{sym, ◌∙◌}
+use mathlib.Core.Path.{sym, ◌∙◌, ap}
 use mathlib.Core.List.{flatten}
 use Rattle.prelude.specs.Ascii.{ascii}
 use Rattle.names.specs.Names.{list_of}
@@ -8,11 +8,13 @@ use Rattle.names.proofs.Contents.{filled_list}
 use Rattle.jose.specs.Registered.{registered}
 use Rattle.jwe.proofs.JsonHeaders.{protected_stage, protected_table_lem}
 use Rattle.jwe.proofs.JsonHeaders.{protected_refused, protected_hollow, protected_passed, protected_absent}
+use Rattle.prelude.specs.Refusals.{as_stage}
+use Rattle.prelude.proofs.Exits.{handed_up}
 use Rattle.jwe.proofs.general.protected.Goals as goal
 
-pub object-object-requires : goal.object-object-requires
+pub object-requires : goal.object-requires
 unfolding list_of registered ascii flatten
-object-object-requires c =
+object-requires c =
     record {
       s_len_bound = c.requires.header_len_bound;
       list_value = filled_list registered;
@@ -20,16 +22,17 @@ object-object-requires c =
       given = tt;
     }
 
-pub returns-in_default : goal.returns-in_default
+pub returns-in_err-count : goal.returns-in_err-count
 unfolding list_of registered ascii flatten
-returns-in_default c =
+returns-in_err-count c =
     let args = c.args in
     let header = args.header.now in
     let at = c.skip_space-at.ensures in
     record {
-      value = protected_refused header args.there _
-          (protected_stage header (names_of_lem registered) at c.object-object.ensures.value) c.in_default.is;
-      table_after = protected_table_lem header (names_of_lem registered) at _ args.table.now c.object-object.ensures.table_after;
+      value = handed_up _ _ c.from_residual.ensures.1 _ c.in_err-count.was
+          ∙ protected_refused header args.there _
+          (protected_stage header (names_of_lem registered) at c.object.ensures.value) (ap as_stage c.in_err-count.was);
+      table_after = protected_table_lem header (names_of_lem registered) at _ args.table.now c.object.ensures.table_after;
     }
 
 pub returns-then-count-eq0 : goal.returns-then-count-eq0
@@ -38,10 +41,10 @@ returns-then-count-eq0 c =
     let args = c.args in
     let header = args.header.now in
     let at = c.skip_space-at.ensures in
-    let stage = protected_stage header (names_of_lem registered) at c.object-object.ensures.value in
+    let stage = protected_stage header (names_of_lem registered) at c.object.ensures.value in
     record {
-      value = protected_hollow header args.there _ (sym c.in-Passed.is ∙ stage) c.if-there.true c.if-count-eq0.true;
-      table_after = protected_table_lem header (names_of_lem registered) at _ args.table.now c.object-object.ensures.table_after;
+      value = protected_hollow header args.there _ (sym (ap as_stage c.in_ok-count.was) ∙ stage) c.if-there.true c.if-count-eq0.true;
+      table_after = protected_table_lem header (names_of_lem registered) at _ args.table.now c.object.ensures.table_after;
     }
 
 pub returns-else-count-eq0 : goal.returns-else-count-eq0
@@ -50,10 +53,10 @@ returns-else-count-eq0 c =
     let args = c.args in
     let header = args.header.now in
     let at = c.skip_space-at.ensures in
-    let stage = protected_stage header (names_of_lem registered) at c.object-object.ensures.value in
+    let stage = protected_stage header (names_of_lem registered) at c.object.ensures.value in
     record {
-      value = protected_passed header args.there _ (sym c.in-Passed.is ∙ stage) c.if-count-eq0.false;
-      table_after = protected_table_lem header (names_of_lem registered) at _ args.table.now c.object-object.ensures.table_after;
+      value = protected_passed header args.there _ (sym (ap as_stage c.in_ok-count.was) ∙ stage) c.if-count-eq0.false;
+      table_after = protected_table_lem header (names_of_lem registered) at _ args.table.now c.object.ensures.table_after;
     }
 
 pub returns-else-there : goal.returns-else-there
@@ -62,8 +65,8 @@ returns-else-there c =
     let args = c.args in
     let header = args.header.now in
     let at = c.skip_space-at.ensures in
-    let stage = protected_stage header (names_of_lem registered) at c.object-object.ensures.value in
+    let stage = protected_stage header (names_of_lem registered) at c.object.ensures.value in
     record {
-      value = protected_absent header args.there _ (sym c.in-Passed.is ∙ stage) c.if-there.false;
-      table_after = protected_table_lem header (names_of_lem registered) at _ args.table.now c.object-object.ensures.table_after;
+      value = protected_absent header args.there _ (sym (ap as_stage c.in_ok-count.was) ∙ stage) c.if-there.false;
+      table_after = protected_table_lem header (names_of_lem registered) at _ args.table.now c.object.ensures.table_after;
     }

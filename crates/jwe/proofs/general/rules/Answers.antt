@@ -11,7 +11,7 @@ use Rattle.grammar.specs.Places.{Place}
 use Rattle.rows.specs.Rows.{Entry, read_texts}
 use Rattle.rows.specs.Inner.Prints.{Printed}
 use Rattle.rows.specs.Tables.{entries_of, width}
-use Rattle.prelude.specs.Refusals.{first, stage_of}
+use Rattle.prelude.specs.Refusals.{first, stage_of, as_stage}
 use Rattle.jose.specs.declared.Sizes.{Sizes}
 use Rattle.jose.specs.HeaderRules.{recipient_order, mode_in}
 use Rattle.prelude.proofs.Refusals.{nonzero}
@@ -27,6 +27,7 @@ use Rattle.jwe.proofs.RecipientRows.{one_passes, one_refuses, all_pass}
 use Rattle.jwe.proofs.OwnHeaders.{gathered, gathered_length, gathered_room, gathered_front}
 use Rattle.jwe.proofs.OwnHeaders.{gathered_printed, gathered_kept, own_stands}
 use Rattle.jwe.proofs.general.rules.Invariants.{tests}
+use Rattle.prelude.proofs.Exits.{exit_refused}
 use Rattle.jwe.proofs.general.rules.Goals as goal
 
 sound : (known : List (List ℕ)) (header message : List ℕ) (front : List Entry) (q : Components) (r : Recipient) →
@@ -49,8 +50,8 @@ gather-count-requires c =
       header_table_in_bounds = omega (arith, c.loop-i.invariant.1.0, c.requires.header_table_in_bounds);
     }
 
-pub judge-judged-requires : goal.judge-judged-requires
-judge-judged-requires c =
+pub judge-requires : goal.judge-requires
+judge-requires c =
     let copied : (let args = c.args in
     let last = c.gather-count.new.table in
     (entries_of c.gather-count.result last ≡ (entries_of c.args.front c.args.table.now) ++ own_entries args.message.now ((recipient_at (drop (c.loop-i.i * recipient_width) c.args.of.now))))
@@ -95,8 +96,8 @@ judge-judged-requires c =
       printed = has.1.1.1.1.0;
     }
 
-pub shape_of-table-in_default : goal.shape_of-table-in_default
-shape_of-table-in_default c =
+pub shape_of-table-in_err-judge : goal.shape_of-table-in_err-judge
+shape_of-table-in_err-judge c =
     let copied : (let args = c.args in
     let last = c.gather-count.new.table in
     (entries_of c.gather-count.result last ≡ (entries_of c.args.front c.args.table.now) ++ own_entries args.message.now ((recipient_at (drop (c.loop-i.i * recipient_width) c.args.of.now))))
@@ -136,8 +137,8 @@ shape_of-table-in_default c =
     )) in
     (copied).1.1.0
 
-pub returns-in_default : goal.returns-in_default
-returns-in_default c =
+pub returns-in_err-judge : goal.returns-in_err-judge
+returns-in_err-judge c =
     let copied : (let args = c.args in
     let last = c.gather-count.new.table in
     (entries_of c.gather-count.result last ≡ (entries_of c.args.front c.args.table.now) ++ own_entries args.message.now ((recipient_at (drop (c.loop-i.i * recipient_width) c.args.of.now))))
@@ -176,7 +177,7 @@ returns-in_default c =
       ),
     )) in
     let answered : (let args = c.args in
-    c.judge-judged.result
+    (as_stage c.judge.result)
     ≡ stage_of (first ((let args = c.args in
     tests (names args.known.now) args.header.now args.message.now ((entries_of c.args.front c.args.table.now)) (components_of args.q)) ((recipient_at (drop (c.loop-i.i * recipient_width) c.args.of.now)))))
     (mode_in (read_texts args.header.now args.message.now)
@@ -184,7 +185,7 @@ returns-in_default c =
     let known = names args.known.now in
     let ts = read_texts args.header.now args.message.now in
     let mode = mode_in ts (entries_of c.gather-count.result c.gather-count.new.table) in
-    c.judge-judged.ensures
+    c.judge.ensures
     ∙ ap₂ (λ (ps : List Entry) (z : Sizes). stage_of (first (recipient_order known ts ps z)) mode)
     (copied).0
     (c.sizes-sizes.ensures
@@ -194,14 +195,14 @@ returns-in_default c =
     tests (names args.known.now) args.header.now args.message.now ((entries_of c.args.front c.args.table.now)) (components_of args.q)) r) ≡ true = (let args = c.args in
     sound (names args.known.now) args.header.now args.message.now ((entries_of c.args.front c.args.table.now)) (components_of args.q)) in
     let args = c.args in
-    let refusal = c.in_default.is in
+    let refusal = (ap as_stage c.in_err-judge.was) in
     let told = refused_is _ (first ((let args = c.args in
     tests (names args.known.now) args.header.now args.message.now ((entries_of c.args.front c.args.table.now)) (components_of args.q)) ((recipient_at (drop (c.loop-i.i * recipient_width) c.args.of.now))))) _ (sym refusal ∙ answered) in
     let all = one_refuses ((let args = c.args in
     tests (names args.known.now) args.header.now args.message.now ((entries_of c.args.front c.args.table.now)) (components_of args.q))) (never-0) _ args.number c.loop-i.i
     args.of.now c.loop-i.invariant.1.1.1.1 c.loop-i-test.true told.0 told.1 in
     record {
-      value = refusal ∙ refuses args.number told.1 ∙ ap (λ (n : ℕ). stage_of n args.number) (sym all);
+      value = exit_refused _ _ c.from_residual.ensures.1 ∙ refuses args.number told.1 ∙ ap (λ (n : ℕ). stage_of n args.number) (sym all);
       keeps_front = record { entries = (copied).1.1.1.0; printed = (copied).1.1.1.1.1 };
     }
 
@@ -249,7 +250,7 @@ loop-i-preserved c =
       ),
     )) in
     let answered : (let args = c.args in
-    c.judge-judged.result
+    (as_stage c.judge.result)
     ≡ stage_of (first ((let args = c.args in
     tests (names args.known.now) args.header.now args.message.now ((entries_of c.args.front c.args.table.now)) (components_of args.q)) ((recipient_at (drop (c.loop-i.i * recipient_width) c.args.of.now)))))
     (mode_in (read_texts args.header.now args.message.now)
@@ -257,7 +258,7 @@ loop-i-preserved c =
     let known = names args.known.now in
     let ts = read_texts args.header.now args.message.now in
     let mode = mode_in ts (entries_of c.gather-count.result c.gather-count.new.table) in
-    c.judge-judged.ensures
+    c.judge.ensures
     ∙ ap₂ (λ (ps : List Entry) (z : Sizes). stage_of (first (recipient_order known ts ps z)) mode)
     (copied).0
     (c.sizes-sizes.ensures
@@ -270,7 +271,7 @@ loop-i-preserved c =
     let has = copied in
     let passed = (passed_is _ (first ((let args = c.args in
     tests (names args.known.now) args.header.now args.message.now ((entries_of c.args.front c.args.table.now)) (components_of args.q)) ((recipient_at (drop (c.loop-i.i * recipient_width) c.args.of.now))))) _
-    (sym c.in-Passed.is ∙ answered)).0 in (
+    (sym (ap as_stage c.in_ok-judge.was) ∙ answered)).0 in (
       omega arith,
       (
         has.1.1.0,

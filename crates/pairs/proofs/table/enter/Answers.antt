@@ -1,5 +1,5 @@
 -- Each left member's fingerprint goes behind the positions, which stay 0.
-use mathlib.Core.Path.{refl, sym, ◌∙◌}
+use mathlib.Core.Path.{refl, ◌∙◌}
 use native.Mathlib.Omega.{arith}
 use Rattle.grammar.specs.Grammar.{curly}
 use Rattle.distinct.proofs.Walks.{entry_known, known_more}
@@ -20,8 +20,8 @@ shape_of-work-then-number-gt4294967295 c = c.loop-left.invariant.1.0
 pub returns-then-number-gt4294967295 : goal.returns-then-number-gt4294967295
 returns-then-number-gt4294967295 c = c.loop-left.invariant.1.1
 
-pub member-found-requires : goal.member-found-requires
-member-found-requires c =
+pub member-requires : goal.member-requires
+member-requires c =
     entry_known curly _ c.loop-left.left c.loop-left.p.at c.loop-left-test.true c.loop-left.invariant.0
 
 pub shape_of-work-in_default : goal.shape_of-work-in_default
@@ -39,8 +39,8 @@ put-requires c =
 
 pub loop-left-preserved : goal.loop-left-preserved
 loop-left-preserved c = (
-  known_more curly _ c.loop-left.left c.loop-left.p.at c.loop-left-test.true c.in-Here.row c.in-Here.next
-      (sym c.in-Here.is ∙ c.member-found.ensures) c.loop-left.invariant.0,
+  known_more curly _ c.loop-left.left c.loop-left.p.at c.loop-left-test.true c.in-Some.found.row c.in-Some.found.next
+      c.in-Some.ensures c.loop-left.invariant.0,
   (c.put.auto.work ∙ c.loop-left.invariant.1.0, λ k h. c.put.ensures k h ∙ c.loop-left.invariant.1.1 k h),
 )
 

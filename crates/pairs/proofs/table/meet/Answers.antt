@@ -1,5 +1,5 @@
 -- Each right member's position is left for a number, or not.
-use mathlib.Core.Path.{refl, sym, ◌∙◌}
+use mathlib.Core.Path.{refl, ◌∙◌}
 use native.Mathlib.Omega.{arith}
 use Rattle.pairs.proofs.Spots.{spot_start, spot_known, spot_next}
 use Rattle.pairs.proofs.Tables.{table_left}
@@ -11,8 +11,8 @@ loop-left-init c = (
   (refl, c.requires.table),
 )
 
-pub member-found-requires : goal.member-found-requires
-member-found-requires c =
+pub member-requires : goal.member-requires
+member-requires c =
     spot_known _ c.args.at c.loop-left.left c.loop-left.p.at c.loop-left.invariant.0 c.loop-left-test.true
 
 pub shape_of-work-in_default : goal.shape_of-work-in_default
@@ -31,7 +31,7 @@ store-requires c = omega (arith, c.loop-left.invariant.1.0, c.requires.size_nonz
 pub loop-left-preserved : goal.loop-left-preserved
 loop-left-preserved c = (
   spot_next c.args.t.now c.args.at c.loop-left.left c.loop-left.p.at c.loop-left.invariant.0 c.loop-left-test.true
-      c.in-Here.row c.in-Here.next (sym c.in-Here.is ∙ c.member-found.ensures),
+      c.in-Some.found.row c.in-Some.found.next c.in-Some.ensures,
   (
     c.store.auto.work ∙ c.loop-left.invariant.1.0,
     table_left c.args.t.now c.args.at c.args.size c.loop-left.p.at c.loop-left.work c.store.new.work

@@ -19,11 +19,8 @@ pub loop-i-init : goal.loop-i-init
 loop-i-init c =
     let args = c.args in
     let list = names args.list.now in
-    let table = args.table.now in (
-      omega arith,
-      entries_begin list args.text.now args.origin args.count args.rows.now args.from table
-          c.requires.width_in_bounds,
-    )
+    let table = args.table.now in
+    entries_begin list args.text.now args.origin args.count args.rows.now args.from table c.requires.width_in_bounds
 
 pub put-requires : goal.put-requires
 put-requires c =
@@ -34,7 +31,7 @@ put-requires c =
       row_len = length-take (at + member_width - at) (drop at rows) ∙ omega (arith, length-drop at rows, c.requires.member_width_in_bounds);
       all_below = below_inside number_limit (at + member_width - at) at (c.args.count * member_width) rows c.requires.all_below (omega arith)
           c.requires.member_width_in_bounds;
-      width_in_bounds = omega (arith, c.loop-i.invariant.1.same, c.requires.width_in_bounds);
+      width_in_bounds = omega (arith, c.loop-i.invariant.same, c.requires.width_in_bounds);
     }
 
 pub loop-i-preserved : goal.loop-i-preserved
@@ -49,14 +46,11 @@ loop-i-preserved c =
     let more = c.loop-i-test.true in
     let next = entries_next list text origin count c.loop-i.i rows (at + member_width - at) (omega arith) more in
     let behind = members_of (count - (c.loop-i.i + 1)) (drop ((c.loop-i.i + 1) * member_width) rows) in
-    let later = flat text (entries_in list text origin behind) in (
-      omega arith,
-      put_part (table_row text (entry_of list text origin (first_member row))) later next c.loop-i.invariant.1 (omega arith)
-          c.put.ensures,
-    )
+    let later = flat text (entries_in list text origin behind) in
+    put_part (table_row text (entry_of list text origin (first_member row))) later next c.loop-i.invariant (omega arith) c.put.ensures
 
 pub shape_of-table : goal.shape_of-table
-shape_of-table c = c.loop-i.invariant.1.same
+shape_of-table c = c.loop-i.invariant.same
 
 pub returns : goal.returns
 returns c =
@@ -68,4 +62,4 @@ returns c =
     let none = entries_none list text args.origin args.count c.loop-i.i rows c.loop-i-test.false in
     done (subst
     (λ (l : List ℕ). Writing (args.from * width) all args.table.now l ((args.from + c.loop-i.i) * width) c.loop-i.table)
-    none c.loop-i.invariant.1)
+    none c.loop-i.invariant)

@@ -1,5 +1,5 @@
 -- `fill` has the entries of the rows so far in its table, and those of the rows from the next one on to come.
-use Prim.Native.Nat.{◌+◌, ◌-◌, ◌*◌, ◌≤◌}
+use Prim.Native.Nat.{◌+◌, ◌-◌, ◌*◌}
 use lib.ListN.{drop}
 use Rattle.names.specs.Names.{names}
 use Rattle.prelude.proofs.Writing.{Writing}
@@ -12,10 +12,6 @@ use Rattle.rows.proofs.collect.fill.Given as goal
 
 abbrev pub invariant-loop-i : goal.invariant-loop-i
 invariant-loop-i l =
-    (l.i ≤ l.count)
-    × Writing (l.from * width) (flat l.text (entries_in (names l.list) l.text l.origin (members_of l.count l.rows))) l.initial.table
+    Writing (l.from * width) (flat l.text (entries_in (names l.list) l.text l.origin (members_of l.count l.rows))) l.initial.table
     (flat l.text (entries_in (names l.list) l.text l.origin (members_of (l.count - l.i) (drop (l.i * member_width) l.rows))))
     ((l.from + l.i) * width) l.table
-
-abbrev pub decreases-loop-i : goal.decreases-loop-i
-decreases-loop-i l = l.count - l.i

@@ -1,22 +1,19 @@
--- `copy` writes the whole list: the loop writes it element by element.
+-- `copy` writes the whole list in the place of a part of the table.
+use mathlib.Core.Path.{◌≡◌, ap, ap₂, ◌∙◌}
+use mathlib.Core.List.{List, ◌++◌}
+use Prim.Native.Nat.{ℕ, ◌+◌, ◌-◌}
 use native.Mathlib.Omega.{arith}
-use Rattle.prelude.proofs.Copying.{copy_begins, copy_turn, copied}
-use borrow.Author.Rules.{rules}
+use lib.ListN.{length, take, drop}
+use lib.Seq.{drop-drop}
+use Rattle.prelude.specs.Buffer.{written}
 use Rattle.rows.proofs.copy.copy.Goals as goal
 
-pub loop-k-init : goal.loop-k-init
-loop-k-init c =
-    (search rules, copy_begins c.args.at c.args.from.now c.args.into.now c.requires)
-
-pub bounds-into-at : goal.bounds-into-at
-bounds-into-at c = omega (arith, c.loop-k.invariant.1.same)
-
-pub loop-k-preserved : goal.loop-k-preserved
-loop-k-preserved c =
-    (omega arith, copy_turn c.loop-k.invariant.1 c.loop-k-test.true)
-
-pub shape_of-into : goal.shape_of-into
-shape_of-into c = c.loop-k.invariant.1.same
-
 pub returns : goal.returns
-returns c = copied c.loop-k.invariant.1 c.loop-k-test.false
+unfolding written
+returns c =
+    let at = c.args.at in
+    let from = c.args.from.now in
+    let into = c.args.into.now in
+    let long : at + (at + length from - at) ≡ at + length from = omega arith in
+    ap₂ (λ (l t : List ℕ). take at into ++ (l ++ t)) c.copy_from_slice.ensures.after
+    (drop-drop (at + length from - at) at into ∙ ap (λ (k : ℕ). drop k into) long)

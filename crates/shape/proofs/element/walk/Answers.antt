@@ -14,6 +14,7 @@ use Rattle.jose.proofs.Elements.{elements_all, elements_spent, elements_none, el
 use Rattle.jose.proofs.Walks.{of_any, walk_spent, walk_end, walk_found, walk_on}
 use Rattle.shape.specs.Shape.{no_object}
 use Rattle.shape.proofs.Walking.{walking, refused_10, refused_11, walked_on, over, walked_out}
+use Rattle.prelude.specs.Refusals.{as_stage}
 use Rattle.shape.proofs.element.walk.Goals as goal
 
 pub loop-left-init : goal.loop-left-init
@@ -24,8 +25,8 @@ loop-left-init c =
       known_first square 12 s c.args.at _ c.inside-p.result.at refl c.inside-p.ensures c.requires.known_in,
     )
 
-pub element-found-requires : goal.element-found-requires
-element-found-requires c =
+pub element-requires : goal.element-requires
+element-requires c =
     let s = c.args.message.now in
     known_element 12 s c.loop-left.left c.loop-left.p.at c.loop-left-test.true c.loop-left.invariant.1
 
@@ -36,24 +37,24 @@ pub returns-in_default : goal.returns-in_default
 returns-in_default c =
     let s = c.args.message.now in
     let left = c.loop-left-test.true in
-    let told = sym c.in_default.is ∙ c.element-found.ensures in
-    let both = walked_out c.loop-left.invariant.0 (elements_none s c.loop-left.left c.loop-left.p.at left told) c.counted.result
+    let told = c.in_default.ensures in
+    let both = walked_out c.loop-left.invariant.0 (elements_none s c.loop-left.left c.loop-left.p.at left told) (as_stage c.counted.result)
     c.counted.ensures
     (walk_end (of_any no_object) _ s c.loop-left.left c.loop-left.p.at c.loop-left.invariant.0.some left told) in
     record { value = both.0; leaves = both.1 }
 
-pub shape_of-starts-then-row-ne0 : goal.shape_of-starts-then-row-ne0
-shape_of-starts-then-row-ne0 c = c.loop-left.invariant.0.same
+pub shape_of-starts-then-found-ne0 : goal.shape_of-starts-then-found-ne0
+shape_of-starts-then-found-ne0 c = c.loop-left.invariant.0.same
 
-pub returns-then-row-ne0 : goal.returns-then-row-ne0
-returns-then-row-ne0 c =
+pub returns-then-found-ne0 : goal.returns-then-found-ne0
+returns-then-found-ne0 c =
     let args = c.args in
     let s = args.message.now in
     let left = c.loop-left-test.true in
-    let told = sym c.in-Here.is ∙ c.element-found.ensures in
-    let one = walk_found (of_any no_object) _ s c.loop-left.left c.loop-left.p.at c.loop-left.invariant.0.some left c.in-Here.row
-    c.in-Here.next told
-    (ap not (ne_eqb _ _ c.if-row-ne0.true)) in
+    let told = c.in-Some.ensures in
+    let one = walk_found (of_any no_object) _ s c.loop-left.left c.loop-left.p.at c.loop-left.invariant.0.some left c.in-Some.found.row
+    c.in-Some.found.next told
+    (ap not (ne_eqb _ _ c.if-found-ne0.true)) in
     record {
       value = refused_10 (elements_at 12 s args.at) one;
       leaves = c.loop-left.invariant.0.same;
@@ -63,8 +64,8 @@ pub some_no_object-requires : goal.some_no_object-requires
 some_no_object-requires c =
     let s = c.args.message.now in
     let left = c.loop-left-test.true in
-    let told = sym c.in-Here.is ∙ c.element-found.ensures in
-    let read = the_read square s 12 c.loop-left.left c.loop-left.p.at left c.in-Here.row c.in-Here.next told in
+    let told = c.in-Some.ensures in
+    let read = the_read square s 12 c.loop-left.left c.loop-left.p.at left c.in-Some.found.row c.in-Some.found.next told in
     known_next square 12 s c.loop-left.left c.loop-left.p.at left read c.loop-left.invariant.1
 
 pub shape_of-starts-then-some_no_object : goal.shape_of-starts-then-some_no_object
@@ -75,10 +76,10 @@ returns-then-some_no_object c =
     let args = c.args in
     let s = args.message.now in
     let left = c.loop-left-test.true in
-    let told = sym c.in-Here.is ∙ c.element-found.ensures in
-    let rest = walk_on (of_any no_object) _ s c.loop-left.left c.loop-left.p.at c.loop-left.invariant.0.some left c.in-Here.row
-    c.in-Here.next told
-    (ap not (eq-eqb _ _ c.if-row-ne0.false)) in
+    let told = c.in-Some.ensures in
+    let rest = walk_on (of_any no_object) _ s c.loop-left.left c.loop-left.p.at c.loop-left.invariant.0.some left c.in-Some.found.row
+    c.in-Some.found.next told
+    (ap not (eq-eqb _ _ c.if-found-ne0.false)) in
     record {
       value = refused_10 (elements_at 12 s args.at) (sym c.if-some_no_object.true ∙ c.some_no_object.ensures ∙ rest);
       leaves = c.loop-left.invariant.0.same;
@@ -92,11 +93,11 @@ returns-then-count-eq-MOST_RECIPIENTS c =
     let args = c.args in
     let s = args.message.now in
     let left = c.loop-left-test.true in
-    let told = sym c.in-Here.is ∙ c.element-found.ensures in
-    let rest = walk_on (of_any no_object) _ s c.loop-left.left c.loop-left.p.at c.loop-left.invariant.0.some left c.in-Here.row
-    c.in-Here.next told
-    (ap not (eq-eqb _ _ c.if-row-ne0.false)) in
-    let more = elements_more s c.loop-left.left c.loop-left.p.at left c.in-Here.row c.in-Here.next told in
+    let told = c.in-Some.ensures in
+    let rest = walk_on (of_any no_object) _ s c.loop-left.left c.loop-left.p.at c.loop-left.invariant.0.some left c.in-Some.found.row
+    c.in-Some.found.next told
+    (ap not (eq-eqb _ _ c.if-found-ne0.false)) in
+    let more = elements_more s c.loop-left.left c.loop-left.p.at left c.in-Some.found.row c.in-Some.found.next told in
     record {
       value = refused_11 (elements_at 12 s args.at) (sym c.if-some_no_object.false ∙ c.some_no_object.ensures ∙ rest)
           (over c.loop-left.invariant.0 _ _ more c.if-count-eq-MOST_RECIPIENTS.true);
@@ -117,13 +118,13 @@ loop-left-preserved c =
     let args = c.args in
     let s = args.message.now in
     let left = c.loop-left-test.true in
-    let told = sym c.in-Here.is ∙ c.element-found.ensures in
-    let more = elements_more s c.loop-left.left c.loop-left.p.at left c.in-Here.row c.in-Here.next told in
-    let read = the_read square s 12 c.loop-left.left c.loop-left.p.at left c.in-Here.row c.in-Here.next told in (
-      walked_on c.loop-left.invariant.0 (element_of c.in-Here.row) (elements_from s (c.loop-left.left - 1) c.in-Here.next.at) more
+    let told = c.in-Some.ensures in
+    let more = elements_more s c.loop-left.left c.loop-left.p.at left c.in-Some.found.row c.in-Some.found.next told in
+    let read = the_read square s 12 c.loop-left.left c.loop-left.p.at left c.in-Some.found.row c.in-Some.found.next told in (
+      walked_on c.loop-left.invariant.0 (element_of c.in-Some.found.row) (elements_from s (c.loop-left.left - 1) c.in-Some.found.next.at) more
           c.if-count-eq-MOST_RECIPIENTS.false
-          (walk_on (of_any no_object) _ s c.loop-left.left c.loop-left.p.at c.loop-left.invariant.0.some left c.in-Here.row
-          c.in-Here.next told (ap not (eq-eqb _ _ c.if-row-ne0.false))),
+          (walk_on (of_any no_object) _ s c.loop-left.left c.loop-left.p.at c.loop-left.invariant.0.some left c.in-Some.found.row
+          c.in-Some.found.next told (ap not (eq-eqb _ _ c.if-found-ne0.false))),
       known_next square 12 s c.loop-left.left c.loop-left.p.at left read c.loop-left.invariant.1,
     )
 
@@ -133,7 +134,7 @@ shape_of-starts c = c.loop-left.invariant.0.same
 pub returns : goal.returns
 returns c =
     let s = c.args.message.now in
-    let both = walked_out c.loop-left.invariant.0 (elements_spent s c.loop-left.left c.loop-left.p.at (omega arith)) c.counted-2.result
+    let both = walked_out c.loop-left.invariant.0 (elements_spent s c.loop-left.left c.loop-left.p.at (omega arith)) (as_stage c.counted-2.result)
     c.counted-2.ensures
     (walk_spent (of_any no_object) _ s c.loop-left.left c.loop-left.p.at c.loop-left.invariant.0.some (omega arith)) in
     record { value = both.0; leaves = both.1 }

@@ -1,0 +1,35 @@
+-- `element` writes the comma, and the members between brackets.
+use Rattle.std.proofs.Common.{refl}
+use Rattle.json_put.specs.Inner.Members.{point, shown}
+use Rattle.json_put.proofs.Putting.{next, ◌▸◌, ended}
+use Rattle.json_put.proofs.Parts.{element_parts}
+use Rattle.json_put.proofs.write.element.Goals as goal
+
+pub comma-requires : goal.comma-requires
+comma-requires g c = next (element_parts g.S.Sink.laws (point c.args.to.now c.args.begun) (shown c.args.table.now c.args.body) c.requires)
+
+pub octet-requires : goal.octet-requires
+octet-requires g c =
+    next
+    (element_parts g.S.Sink.laws (point c.args.to.now c.args.begun) (shown c.args.table.now c.args.body) c.requires ▸ c.comma.ensures)
+
+pub own-requires : goal.own-requires
+own-requires g c =
+    next
+    (element_parts g.S.Sink.laws (point c.args.to.now c.args.begun) (shown c.args.table.now c.args.body) c.requires ▸ c.comma.ensures
+    ▸ c.octet.ensures)
+
+pub octet-requires-2 : goal.octet-requires-2
+octet-requires-2 g c =
+    next
+    (element_parts g.S.Sink.laws (point c.args.to.now c.args.begun) (shown c.args.table.now c.args.body) c.requires ▸ c.comma.ensures
+    ▸ c.octet.ensures ▸ c.own.ensures.octets)
+
+pub returns : goal.returns
+returns g c = record {
+  octets =
+      ended
+      (element_parts g.S.Sink.laws (point c.args.to.now c.args.begun) (shown c.args.table.now c.args.body) c.requires ▸ c.comma.ensures
+      ▸ c.octet.ensures ▸ c.own.ensures.octets ▸ c.octet-2.ensures);
+  begun = refl;
+}

@@ -1,0 +1,36 @@
+-- `encoded` writes the name, and the encoded octets between quotes.
+use Rattle.std.proofs.Common.{refl}
+use Rattle.json_put.specs.Inner.Members.{point, encoded_member}
+use Rattle.json_put.proofs.Putting.{next, ◌▸◌, ended}
+use Rattle.json_put.proofs.Parts.{encoded_parts}
+use Rattle.json_put.proofs.write.encoded.Goals as goal
+
+pub member_name-requires : goal.member_name-requires
+member_name-requires g c = next (encoded_parts g.S.Sink.laws (point c.args.to.now c.args.begun) c.args.name.now c.args.octets.now c.requires)
+
+pub octet-requires : goal.octet-requires
+octet-requires g c =
+    next
+    (encoded_parts g.S.Sink.laws (point c.args.to.now c.args.begun) c.args.name.now c.args.octets.now c.requires ▸ c.member_name.ensures)
+
+pub encoded-requires : goal.encoded-requires
+encoded-requires g c =
+    next
+    (encoded_parts g.S.Sink.laws (point c.args.to.now c.args.begun) c.args.name.now c.args.octets.now c.requires ▸ c.member_name.ensures
+    ▸ c.octet.ensures)
+
+pub octet-requires-2 : goal.octet-requires-2
+octet-requires-2 g c =
+    next
+    (encoded_parts g.S.Sink.laws (point c.args.to.now c.args.begun) c.args.name.now c.args.octets.now c.requires ▸ c.member_name.ensures
+    ▸ c.octet.ensures ▸ c.encoded.ensures)
+
+pub returns : goal.returns
+unfolding encoded_member
+returns g c = record {
+  octets =
+      ended
+      (encoded_parts g.S.Sink.laws (point c.args.to.now c.args.begun) c.args.name.now c.args.octets.now c.requires ▸ c.member_name.ensures
+      ▸ c.octet.ensures ▸ c.encoded.ensures ▸ c.octet-2.ensures);
+  begun = refl;
+}
