@@ -27,7 +27,7 @@ use Rattle.grammar.specs.Grammar.{Value}
 use Rattle.grammar.specs.Places.{kind}
 use Rattle.grammar.specs.Readings.{Reading}
 use Rattle.walk.specs.Walk.{walk_refusal, opened, handed_by, after, rows_of, row_or}
-use Rattle.walk.specs.declared.Handed.TheVariants.{End}
+use Rattle.std.specs.Prelude.{None}
 use Rattle.walk.proofs.Theorems as Walk
 use Rattle.jwe.specs.Judge.{Call, call, call_for, refusal, refused, places_in, result_of, header_after, list_after}
 use Rattle.aad.specs.Aad.{aad_text, aad_refusal, aad_buffer}
@@ -196,7 +196,7 @@ pub walk_hands : (x : Bor (List ℕ)) (r : Reading 12 x.now) → walk_refusal x.
 walk_hands = Walk.walk_hands
 
 pub walk_refused : (x : Bor (List ℕ)) → (walk_refusal x.now ≡ 0 → ⊥) → (k : ℕ) →
-    handed_by (after k (opened x)) ≡ End
+    handed_by (after k (opened x)) ≡ None
 walk_refused = Walk.walk_refused
 
 -- What differs between two messages (request 4/12)

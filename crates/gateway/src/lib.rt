@@ -4,7 +4,8 @@
 
 ghost use Rattle.std.specs.Prelude.{◌≡◌, length};
 ghost use Rattle.jwe.specs.Judge.{call, result_of, header_after, list_after};
-ghost use Rattle.jwe.specs.Answers.{numbers};
+ghost use Rattle.jwe.specs.Answers.{numbers, as_result};
+ghost use Rattle.prelude.specs.Refusals.{as_stage};
 ghost use Rattle.base64url.specs.Answers.{Decodes};
 ghost use Rattle.shown.specs.Shown.{component_shown, component_at, value_shown, value_at};
 ghost use Rattle.aad.specs.Aad.{Joins};
@@ -23,7 +24,7 @@ use prelude::refusal::Refusal;
 // The header walk (document 01, 'Further requests'): `open_walk` opens it on a text, and each `next_member` hands out one
 // member, then the end. For callers that want no struct, `walk_start` and `walk_step` take the text and an offset.
 pub use walk::{
-    Handed, HeaderWalk, next as next_member, open as open_walk, open_at as walk_start,
+    HeaderWalk, next as next_member, open as open_walk, open_at as walk_start,
     step as walk_step,
 };
 
@@ -102,7 +103,7 @@ pub fn write(
 ) -> Result<usize, Refusal>
     ensures { WritesCompact
         (raw header.now key.now iv.now ciphertext.now tag.now)
-        known.now out.old result out.new }
+        known.now out.old (as_stage result) out.new }
 {
     jwe_write::write(header, key, iv, ciphertext, tag, known, out)
 }
@@ -125,7 +126,7 @@ pub fn write_json(
     ensures { WritesJson general
         (raw_json protected.now shared.now aad.now iv.now ciphertext.now
         tag.now recipients.now)
-        known.now out.old result out.new }
+        known.now out.old (as_stage result) out.new }
 {
     json_write::write(
         general, protected, shared, aad, iv, ciphertext, tag, known, recipients, out,

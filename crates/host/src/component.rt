@@ -17,33 +17,25 @@ pub fn jwe_judge(message: &[u8], known: &[u8], recipient: u32) -> u32
 {
     let mut header = [0u8; HEADER_ROOM];
     let mut list = [0u32; LIST_ROOM];
-    let judged = gateway::read(message, known, recipient, &mut header, &mut list);
-    judged.number
+    match gateway::read(message, known, recipient, &mut header, &mut list) {
+        Ok(_) => 0,
+        Err(refusal) => refusal.number(),
+    }
 }
 
 // The place of the n-th component, counted from 0; 0, 0 where there is none.
 fn place_of(q: Components, n: u32) -> Place
     ensures { result ≡ code_place (component_place (components_of q) n) }
 {
-    if n == 0 {
-        return q.protected;
+    match n {
+        0 => q.protected,
+        1 => q.key,
+        2 => q.iv,
+        3 => q.aad,
+        4 => q.ciphertext,
+        5 => q.tag,
+        _ => Place { start: 0, len: 0 },
     }
-    if n == 1 {
-        return q.key;
-    }
-    if n == 2 {
-        return q.iv;
-    }
-    if n == 3 {
-        return q.aad;
-    }
-    if n == 4 {
-        return q.ciphertext;
-    }
-    if n == 5 {
-        return q.tag;
-    }
-    Place { start: 0, len: 0 }
 }
 
 // Judges a message for a recipient, and decodes a component: 0 to 5 are protected, key, iv, aad, ciphertext and tag; others
@@ -64,11 +56,15 @@ pub fn jwe_component(
 {
     let mut header = [0u8; HEADER_ROOM];
     let mut list = [0u32; LIST_ROOM];
-    let answer = gateway::read(message, known, recipient, &mut header, &mut list);
-    if answer.number != 0 {
-        *octets = 0;
-        return answer.number;
+    let read = gateway::read(message, known, recipient, &mut header, &mut list);
+    match read {
+        Ok(reading) => {
+            let place = place_of(reading.components, component);
+            jwe_decode(gateway::component(message, place), out, octets)
+        }
+        Err(refusal) => {
+            *octets = 0;
+            refusal.number()
+        }
     }
-    let place = place_of(answer.components, component);
-    jwe_decode(gateway::component(message, place), out, octets)
 }

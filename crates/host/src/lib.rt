@@ -3,11 +3,13 @@
 // Refused, every lent buffer is unchanged.
 #![tactic(auto)]
 
-ghost use Rattle.std.specs.Prelude.{length, true, false};
+ghost use Rattle.std.specs.Prelude.{◌≡◌, length, true, false};
 ghost use Rattle.prelude.specs.Outputs.{Writes};
 ghost use Rattle.base64url.specs.Base64url.{decoded};
 ghost use Rattle.base64url.specs.Answers.{decode_refusal};
 ghost use Rattle.aad.specs.Aad.{aad_text, aad_refusal};
+ghost use Rattle.prelude.specs.Refusals.{as_stage};
+ghost use Rattle.jwe_write.specs.Answers.{write_number, write_count};
 ghost use Rattle.jwe_write.specs.Write.{raw, compact_text, write_refusal};
 ghost use Rattle.json_message.specs.JsonWrite.{raw_json, written_text, json_write_refusal};
 
@@ -60,6 +62,23 @@ pub fn jwe_aad(encoded_header: &[u8], encoded_aad: &[u8], out: &mut [u8], octets
     }
 }
 
+// What C is told of a message that is written: its length, and 0; or 0 octets, and the refusal's number.
+fn tell(answer: Result<usize, Refusal>, octets: &mut usize) -> u32
+    ensures number { result ≡ write_number (as_stage answer) }
+    ensures count { octets.new ≡ write_count (as_stage answer) }
+{
+    match answer {
+        Ok(written) => {
+            *octets = written;
+            0
+        }
+        Err(refusal) => {
+            *octets = 0;
+            refusal.number()
+        }
+    }
+}
+
 // Writes the compact message of a header's text and the raw other components.
 pub fn jwe_write_compact(
     header: &[u8],
@@ -79,17 +98,10 @@ pub fn jwe_write_compact(
         (raw header.now key.now iv.now ciphertext.now tag.now))
         out.old result octets.new out.new }
 {
-    let answer = gateway::write(header, key, iv, ciphertext, tag, known, out);
-    match answer {
-        Ok(written) => {
-            *octets = written;
-            0
-        }
-        Err(n) => {
-            *octets = 0;
-            n
-        }
-    }
+    tell(
+        gateway::write(header, key, iv, ciphertext, tag, known, out),
+        octets,
+    )
 }
 
 // Writes the flattened message of the headers' texts, the raw other components and one recipient, contents first.
@@ -115,19 +127,12 @@ pub fn jwe_write_flattened(
         ciphertext.now tag.now recipients.now))
         out.old result octets.new out.new }
 {
-    let answer = gateway::write_json(
-        false, protected, shared, aad, iv, ciphertext, tag, known, recipients, out,
-    );
-    match answer {
-        Ok(count) => {
-            *octets = count;
-            0
-        }
-        Err(n) => {
-            *octets = 0;
-            n
-        }
-    }
+    tell(
+        gateway::write_json(
+            false, protected, shared, aad, iv, ciphertext, tag, known, recipients, out,
+        ),
+        octets,
+    )
 }
 
 // Writes the general message of the headers' texts, the raw other components and the recipients, contents first.
@@ -153,17 +158,10 @@ pub fn jwe_write_general(
         ciphertext.now tag.now recipients.now))
         out.old result octets.new out.new }
 {
-    let answer = gateway::write_json(
-        true, protected, shared, aad, iv, ciphertext, tag, known, recipients, out,
-    );
-    match answer {
-        Ok(size) => {
-            *octets = size;
-            0
-        }
-        Err(n) => {
-            *octets = 0;
-            n
-        }
-    }
+    tell(
+        gateway::write_json(
+            true, protected, shared, aad, iv, ciphertext, tag, known, recipients, out,
+        ),
+        octets,
+    )
 }

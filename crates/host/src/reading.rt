@@ -4,11 +4,12 @@ ghost use Rattle.prelude.specs.Buffer.{AllBelow, written};
 ghost use Rattle.prelude.specs.Limits.{number_limit};
 ghost use Rattle.prelude.specs.Result.{result_room};
 ghost use Rattle.jwe.specs.Judge.{call};
-ghost use Rattle.jwe.specs.Answers.{numbers, place_numbers};
+ghost use Rattle.jwe.specs.Answers.{numbers, reading_of, place_numbers};
 ghost use Rattle.host.specs.Read.{read_refusal, read_header, read_list, read_result};
 
-use jwe::Result;
+use jwe::Reading;
 use prelude::Place;
+use prelude::refusal::Refusal;
 
 // Where the numbers of a result stand (prelude/specs/Result).
 const NUMBER: usize = 0;
@@ -50,12 +51,12 @@ fn put_place(place: Place, into: &mut [u32], at: usize)
 }
 
 // The numbers of a result, written at the start of a buffer.
-fn put_result(r: Result, into: &mut [u32])
-    requires all_below { AllBelow number_limit (numbers r) }
+fn put_result(r: Reading, into: &mut [u32])
+    requires all_below { AllBelow number_limit (numbers (reading_of r)) }
     requires result_room_in_bounds { result_room ≤ length into.old }
-    ensures { into.new ≡ written 0 (numbers r) into.old }
+    ensures { into.new ≡ written 0 (numbers (reading_of r)) into.old }
 {
-    into[NUMBER] = r.number;
+    into[NUMBER] = 0;
     into[FORM] = r.form;
     into[RECIPIENTS] = r.recipients as u32;
     into[MODE] = r.mode;
@@ -93,12 +94,13 @@ pub fn jwe_read(
         (length header.old) (length list.old)) res.old }
 {
     if res.len() < ROOM {
-        return 1;
+        return Refusal::ShortOutput.number();
     }
-    let answer = gateway::read(message, known, recipient, header, list);
-    if answer.number == 0 {
-        put_result(answer, res);
-        return 0;
+    match gateway::read(message, known, recipient, header, list) {
+        Ok(reading) => {
+            put_result(reading, res);
+            0
+        }
+        Err(refusal) => refusal.number(),
     }
-    answer.number
 }

@@ -18,6 +18,7 @@ use crate::{Holding, Reading};
 use headers::Components;
 use prelude::Place;
 use prelude::refusal::Refusal;
+use rows::table::{Entries, Headers, Texts};
 
 // What stands between two full stops.
 fn between(a: usize, b: usize) -> Place
@@ -101,15 +102,17 @@ fn judge_header(
 {
     let n = headers::header(message, q.protected, text)?;
     let count = headers::protected_entries(&text[..n], table)?;
-    let mode = jose::judge::judge(
-        &text[..n],
-        message,
-        message,
-        known,
-        table,
+    let texts = Texts {
+        header: &text[..n],
+        shared: message,
+        own: message,
+    };
+    let entries = Entries {
+        table: &table[..],
         count,
-        headers::sizes(q),
-    )?;
+    };
+    let only = Headers { texts, entries };
+    let mode = jose::judge::judge(only, known, headers::sizes(q))?;
     if 1 <= recipient {
         return Err(Refusal::NoSuchRecipient);
     }

@@ -26,13 +26,13 @@ ghost use Rattle.jwe.specs.Inner.Holding.{Holds, HoldsBy, Gathers, held_of};
 
 use crate::{Holding, Reading, held};
 use headers::Components;
-use jose::content::Named;
 use jose::lists::ENC;
 use json_read::Position;
 use prelude::limits::{MOST_MEMBERS, MOST_RECIPIENTS};
 use prelude::Place;
 use prelude::refusal::Refusal;
 use rows::layout;
+use rows::table::{Entries, Headers, Texts};
 use shape::held::Top;
 
 // 5 on the recipients' keys.
@@ -182,14 +182,24 @@ fn rules(
     while i < number {
         let count = held::gather(own, counts, i, table, front);
         let sizes = headers::sizes(headers::with_key(q, held::key(of, i)));
-        jose::judge::judge(header, message, message, known, table, count, sizes)?;
+        let texts = Texts {
+            header,
+            shared: message,
+            own: message,
+        };
+        let entries = Entries {
+            table: &table[..],
+            count,
+        };
+        let all = Headers { texts, entries };
+        jose::judge::judge(all, known, sizes)?;
         i += 1;
     }
     Ok(number)
 }
 
 // Where the content algorithm of a recipient's own header stands.
-fn own_content(own: &[u32], counts: &[usize], i: usize) -> Named
+fn own_content(own: &[u32], counts: &[usize], i: usize) -> Option<Place>
     requires i_lt_most_recipients { i < most_recipients }
     requires own_len { length own.now ≡ own_table }
     requires counts_len { length counts.now ≡ most_recipients }
@@ -197,7 +207,11 @@ fn own_content(own: &[u32], counts: &[usize], i: usize) -> Named
     ensures { result ≡ named_in (entries_of (get_or counts.now i 0) (drop (i * header_table) own.now)) }
 {
     let from = i * layout::HEADER_TABLE;
-    jose::content::sole(&own[from..], counts[i])
+    let entries = Entries {
+        table: &own[from..],
+        count: counts[i],
+    };
+    jose::content::sole(entries)
 }
 
 // 21 on own headers: whether the content algorithm of one differs from that of recipient `with`.
@@ -257,7 +271,11 @@ fn ruled(
     rules(
         header, message, known, q, of, number, own, counts, table, front,
     )?;
-    if rows::ask::present(table, front, ENC) {
+    let shared = Entries {
+        table: &table[..],
+        count: front,
+    };
+    if shared.present(ENC) {
         return Ok(number);
     }
     if contents_differ(message, own, counts, number, 0) {
@@ -376,10 +394,14 @@ pub(crate) fn hold(
         (json_held message.now) (as_holding result) text.new table.new of.new own.new
         counts.new }
 {
-    let mut members = [0u32; layout::HEADER_TABLE];
-    let count = shape::top(message, &mut members)?;
-    let number = shape::recipients(message, &members, count, of)?;
-    let top = shape::held::held(&members, count);
+    let mut outer = [0u32; layout::HEADER_TABLE];
+    let count = shape::top(message, &mut outer)?;
+    let members = Entries {
+        table: &outer,
+        count,
+    };
+    let number = shape::recipients(message, members, of)?;
+    let top = shape::held::held(members);
     if misspelled(message, top.components, of, number) {
         return Err(Refusal::Misspelled);
     }
@@ -408,10 +430,19 @@ fn hand_out(
     ensures gathers { Gathers message.now (json_held message.now) i has.common result.parameters table.new }
 {
     let parameters = held::gather(own, counts, i, table, has.common);
+    let texts = Texts {
+        header: &text[..has.header],
+        shared: message,
+        own: message,
+    };
+    let entries = Entries {
+        table: &table[..],
+        count: parameters,
+    };
     Reading {
         form: has.form,
         recipients: has.recipients,
-        mode: jose::rules::mode(&text[..has.header], message, message, table, parameters),
+        mode: jose::rules::mode(texts, entries),
         components: headers::with_key(has.components, held::key(of, i)),
         header: has.header,
         parameters,

@@ -17,6 +17,7 @@ ghost use Rattle.jwe.specs.Inner.Holding.{Holds};
 use headers::Components;
 use prelude::limits::{HEADER_ROOM, LIST_ROOM, LONGEST};
 use prelude::refusal::Refusal;
+use rows::table::Entries;
 
 mod compact;
 mod general;
@@ -93,7 +94,11 @@ fn hand_over(
     let mut text = [0u8; HEADER_ROOM];
     let reading = judge(message, known, recipient, &mut text, table)?;
     prelude::copy_octets(&text[..reading.header], header, 0);
-    rows::copy::lay(table, reading.parameters, list);
+    let entries = Entries {
+        table: &table[..],
+        count: reading.parameters,
+    };
+    entries.lay(list);
     Ok(reading)
 }
 

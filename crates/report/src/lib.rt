@@ -5,11 +5,11 @@ ghost use Rattle.std.specs.Prelude.{◌≡◌, ◌*◌, ◌≤◌, length};
 ghost use Rattle.prelude.specs.Buffer.{AllBelow, written};
 ghost use Rattle.prelude.specs.Limits.{number_limit};
 ghost use Rattle.rows.specs.Tables.{list_width};
-ghost use Rattle.jwe.specs.Answers.{numbers};
+ghost use Rattle.jwe.specs.Answers.{numbers, reading_of};
 ghost use Rattle.report.specs.Report.{too_long, refused_report};
 ghost use Rattle.report.specs.Answers.{report_room, Reports, result_report};
 
-use jwe::Result;
+use jwe::Reading;
 use prelude::limits::{HEADER_ROOM, LIST_ROOM};
 
 mod lines;
@@ -35,13 +35,13 @@ fn put_refused(n: u32, out: &mut [u8]) -> usize
 }
 
 // By the reader's result and its list, of at most 96 parameters.
-fn put_accepted(r: Result, list: &[u32], out: &mut [u8]) -> usize
+fn put_accepted(r: Reading, list: &[u32], out: &mut [u8]) -> usize
     requires report_room_in_bounds { report_room ≤ length out.old }
-    requires all_below { AllBelow number_limit (numbers r) }
+    requires all_below { AllBelow number_limit (numbers (reading_of r)) }
     requires parameters_bound { r.parameters ≤ 96 }
     requires list_width_in_bounds { r.parameters * list_width ≤ length list.now }
-    ensures value { result ≡ length (result_report r list.now) }
-    ensures out_after { out.new ≡ written 0 (result_report r list.now) out.old }
+    ensures value { result ≡ length (result_report (reading_of r) list.now) }
+    ensures out_after { out.new ≡ written 0 (result_report (reading_of r) list.now) out.old }
     ensures upper_bound { result ≤ length out.old }
 {
     let a = lines::put_first(r.form, r.recipients, r.mode, out, 0);
@@ -64,9 +64,8 @@ pub fn report(message: &[u8], out: &mut [u8]) -> Option<usize>
     let known = [0u8; 1];
     let mut header = [0u8; HEADER_ROOM];
     let mut list = [0u32; LIST_ROOM];
-    let answer = gateway::read(message, &known, 0, &mut header, &mut list);
-    if answer.number == 0 {
-        return Some(put_accepted(answer, &list, out));
-    }
-    Some(put_refused(answer.number, out))
+    Some(match gateway::read(message, &known, 0, &mut header, &mut list) {
+        Ok(reading) => put_accepted(reading, &list, out),
+        Err(refusal) => put_refused(refusal.number(), out),
+    })
 }

@@ -26,33 +26,36 @@ use Rattle.headers.specs.Headers.{unread, protected_entries, object_order}
 use Rattle.prelude.specs.Refusals.{Passed, Refused}
 use Rattle.headers.proofs.Stages.{passed_is, refused_is}
 use Rattle.headers.proofs.Texts.{no_value, by_reading}
-use Rattle.walk.specs.declared.Opening.{Opening}
-use Rattle.walk.specs.declared.Handed.TheVariants as handed
+use Rattle.walk.specs.Walk.{Opening}
 use Rattle.walk.specs.declared.Stepped.{Stepped}
-use Rattle.walk.specs.Walk.{walk_order, first_offset, opening_of, stepped_of, step_at}
+use Rattle.std.specs.Result.{IsErrAnd}
+use Rattle.std.proofs.lemmas.Result.{err_from_is_err_and}
+use Rattle.prelude.specs.declared.refusal.Refusal.{Refusal}
+use Rattle.prelude.specs.Refusals.{number_of}
+use Rattle.walk.specs.Walk.{as_opening, walk_order, first_offset, opening_of, stepped_of, step_at}
 
 -- Steps
 
 step_end : (s : List ℕ) (o : Option Entry) → None ≡ member_of s o →
-    ◌≡◌ {A = Stepped} (record { handed = handed.End; at = length s }) (stepped_of s o)
+    ◌≡◌ {A = Stepped} (record { handed = std.None; at = length s }) (stepped_of s o)
 step_end s none e = refl
 step_end s (some x) e = let z : ◌≡◌ {A = ℕ} 0 1 = cc in absurd (omega arith)
 
 step_here : (s : List ℕ) (o : Option Entry) (row : Row) (next : Position) → row_here row next ≡ member_of s o →
-    ◌≡◌ {A = Stepped} (record { handed = handed.Member row; at = next.at }) (stepped_of s o)
+    ◌≡◌ {A = Stepped} (record { handed = std.Some row; at = next.at }) (stepped_of s o)
 step_here s none row next e = let z : ◌≡◌ {A = ℕ} 0 1 = cc in absurd (omega arith)
 step_here s (some x) row next e =
-    ap (λ (m : Member). record { handed = handed.Member m.row; at = m.next.at }) (same_found e)
+    ap (λ (m : Member). record { handed = std.Some m.row; at = m.next.at }) (same_found e)
 
 module _ (s : List ℕ) (at : ℕ) where
   pub steps_end : None ≡ member_of s (entry_at (value_at 12 s) curly s at) →
-      ◌≡◌ {A = Stepped} (record { handed = handed.End; at = length s }) (step_at s at)
+      ◌≡◌ {A = Stepped} (record { handed = std.None; at = length s }) (step_at s at)
   unfolding step_at
   steps_end e = step_end s (entry_at (value_at 12 s) curly s at) e
 
   pub steps_here : (row : Row) (next : Position) →
       row_here row next ≡ member_of s (entry_at (value_at 12 s) curly s at) →
-      ◌≡◌ {A = Stepped} (record { handed = handed.Member row; at = next.at }) (step_at s at)
+      ◌≡◌ {A = Stepped} (record { handed = std.Some row; at = next.at }) (step_at s at)
   unfolding step_at
   steps_here row next e = step_here s (entry_at (value_at 12 s) curly s at) row next e
 
@@ -123,3 +126,10 @@ module _ (s : List ℕ) where
           opens_first f start at g h =
               let p = passed_is n _ _ r in
               opening 0 at (passes_7 ∙ p.0) (offset_first (λ z. f (p.1 ∙ z)) ∙ sym (h ∙ ap (first_in s) g))
+
+-- What the exit of a `?` hands up: the walk is at its end.
+pub handed_opening : (s : List ℕ) (up : std.Result ℕ Refusal) (e : Refusal) → IsErrAnd up (λ y. y ≡ e) →
+    as_opening s up ≡ record { refusal = number_of e; at = length s }
+handed_opening s up e h =
+    let p = err_from_is_err_and up h in
+    ap (as_opening s) (p.1 ∙ ap std.Err p.2)

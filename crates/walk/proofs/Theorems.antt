@@ -19,7 +19,7 @@ use Rattle.prelude.specs.Refusals.{first}
 use Rattle.prelude.specs.Limits.{longest}
 use Rattle.headers.specs.Headers.{is_nothing, unread, outermost, protected_entries, object_order}
 use Rattle.headers.proofs.Outermost.{outermost_rows}
-use Rattle.walk.specs.declared.Handed.TheVariants as handed
+use Rattle.std.specs.Prelude as handed
 use Rattle.walk.specs.Walk.{walk_order, first_offset, opened, handed_by, after, rows_of, row_or}
 use Rattle.walk.proofs.Opens.{offset_refused, offset_empty, offset_first}
 use Rattle.walk.proofs.Calls.{call, call_is, call_over, calls_first, count_is, collected_rows, no_rows, row_there, row_past}
@@ -63,14 +63,14 @@ walk_hands x r e k =
 -- So each row is handed out once, in the order of the text: with so many rows before it, by that call ..
 pub walk_row : (x : Bor (List ℕ)) (r : Reading 12 x.now) → first (walk_order x.now) ≡ 0 →
     (before rest : List Member) (m : Member) → rows_of x.now r ≡ before ++ (m ∷ rest) →
-    handed_by (after (length before) (opened x)) ≡ handed.Member (row_of m)
+    handed_by (after (length before) (opened x)) ≡ handed.Some (row_of m)
 walk_row x r e before rest m h =
     walk_hands x r e (length before)
     ∙ ap (λ (ms : List Member). row_or ms (length before)) h ∙ row_there before rest m
 
 -- .. and behind the last one there is the end, for ever.
 pub walk_ends : (x : Bor (List ℕ)) (r : Reading 12 x.now) → first (walk_order x.now) ≡ 0 →
-    (k : ℕ) → length (rows_of x.now r) ≤ k → handed_by (after k (opened x)) ≡ handed.End
+    (k : ℕ) → length (rows_of x.now r) ≤ k → handed_by (after k (opened x)) ≡ handed.None
 walk_ends x r e k h = walk_hands x r e k ∙ row_past (rows_of x.now r) k h
 
 -- The rows are the members of the entries that the reader collects of a protected header, in their order: what it lists.
@@ -85,7 +85,7 @@ walk_listed x e k =
 
 -- On a text that is refused the walk is at its end.
 pub walk_refused : (x : Bor (List ℕ)) → (first (walk_order x.now) ≡ 0 → ⊥) → (k : ℕ) →
-    handed_by (after k (opened x)) ≡ handed.End
+    handed_by (after k (opened x)) ≡ handed.None
 walk_refused x f k =
     call_is k (opened x)
     ∙ ap (λ (n : ℕ). call x.now n k) (offset_refused x.now (first (walk_order x.now)) (positive (first (walk_order x.now)) f))

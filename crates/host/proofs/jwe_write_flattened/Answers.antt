@@ -1,12 +1,9 @@
--- `jwe_write_flattened` hands out what `write_json` promises, case by case.
-use Rattle.jwe_write.specs.Answers.{write_number, write_count}
-use Rattle.prelude.proofs.Outputs.{writes_case}
+-- `jwe_write_flattened` tells C what `write_json` promises.
+use mathlib.Core.Path.{sym, subst₂}
+use Prim.Native.Nat.{ℕ}
+use Rattle.prelude.specs.Outputs.{Writes}
 use Rattle.host.proofs.jwe_write_flattened.Goals as goal
 
-pub returns-in-Passed : goal.returns-in-Passed
-returns-in-Passed c =
-    writes_case write_number write_count c.write_json-answer.ensures c.in-Passed.is
-
-pub returns-in-Refused : goal.returns-in-Refused
-returns-in-Refused c =
-    writes_case write_number write_count c.write_json-answer.ensures c.in-Refused.is
+pub returns : goal.returns
+returns c =
+    subst₂ (λ (n k : ℕ). Writes _ _ c.args.out.now n k c.write_json.new.out) (sym c.tell.ensures.number) (sym c.tell.ensures.count) c.write_json.ensures

@@ -111,6 +111,27 @@ copy_octets-requires c =
     let h = held in
     omega (arith, ap length h.front, h.within, c.requires.header_room_in_bounds)
 
+pub invariant_of-entries : goal.invariant_of-entries
+invariant_of-entries c =
+    let number-first : (let given = c.args in
+    (reading_of c.in_ok-reading.reading).number ≡ first (judging given.message.now (names given.known.now) given.recipient)) = (let given = c.args in
+    number_is given.message.now (outcome given.message.now given.recipient) _ (reading_of c.in_ok-reading.reading)
+    (judges_reading c.in_ok-reading.was c.judge.ensures).answers) in
+    let passes : (let given = c.args in
+    first (judging given.message.now (names given.known.now) given.recipient) ≡ 0) = sym (number-first)  in
+    let accepts : (let given = c.args in
+    numbers (reading_of c.in_ok-reading.reading)
+    ≡ accepted given.message.now (outcome given.message.now given.recipient)) = (let given = c.args in
+    (judges_reading c.in_ok-reading.was c.judge.ensures).answers
+    ∙ sym (answered_accepted given.message.now (outcome given.message.now given.recipient) (passes))) in
+    let held : (let given = c.args in
+    Stands (outcome given.message.now given.recipient) c.judge.new.text
+    c.judge.new.table (reading_of c.in_ok-reading.reading).header (reading_of c.in_ok-reading.reading).parameters) = (let given = c.args in
+    let k = (judges_reading c.in_ok-reading.was c.judge.ensures) in
+    stands given.message.now _ _ _ _ (accepts) (k.header (passes)) (k.entries (passes)).1 (search rules)) in
+    let h = held in
+    record { fits = h.few }
+
 pub lay-requires : goal.lay-requires
 lay-requires c =
     let number-first : (let given = c.args in
@@ -132,10 +153,7 @@ lay-requires c =
     let h = held in
     let most = room_most (opens_object c.args.message.now) in
     let size = (judges_reading c.in_ok-reading.was c.judge.ensures).same_table in
-    record {
-      width_in_bounds = h.few;
-      list_width_in_bounds = omega (arith, h.few, size, c.requires.table_len, most, c.requires.list_room_in_bounds);
-    }
+    omega (arith, h.few, size, c.requires.table_len, most, c.requires.list_room_in_bounds)
 
 pub returns : goal.returns
 returns c =

@@ -8,8 +8,8 @@ use Rattle.names.specs.Names.{names}
 use Rattle.rows.specs.Rows.{Entry, one_text}
 use Rattle.rows.specs.Inner.Prints.{collected_table}
 use Rattle.rows.proofs.Printing.{stand_in_one, printed_at}
-use Rattle.prelude.specs.Refusals.{first, stage_of}
-use Rattle.prelude.specs.declared.Stage.TheVariants.{Passed}
+use Rattle.prelude.specs.Refusals.{first, stage_of, as_stage, number_of, Passed}
+use Rattle.prelude.proofs.Exits.{handed_up}
 use Rattle.prelude.proofs.Refusals.{first_skip}
 use Rattle.jose.specs.HeaderRules.{mode_in}
 use Rattle.headers.specs.Headers.{protected_entries, object_order}
@@ -31,7 +31,7 @@ returns-in_err-count c =
     let es = protected_entries header in
     let r = refused_is (number_of c.in_err-count.field-0.0) _ _ (sym (ap as_stage c.in_err-count.was) ∙ c.protected_entries.ensures.value) in
     let all = stopped (object_order header es) _ (object_nonzero header es) (number_of c.in_err-count.field-0.0) r.0 r.1 in
-    (ap as_stage c.in_err-count.was) ∙ refuses _ r.1 ∙ ap (λ (n : ℕ). stage_of n (mode_in (one_text header) es)) (sym all)
+    handed_up _ _ c.from_residual.ensures.1 _ c.in_err-count.was ∙ ap as_stage c.in_err-count.was ∙ refuses _ r.1 ∙ ap (λ (n : ℕ). stage_of n (mode_in (one_text header) es)) (sym all)
 
 pub invariant_of-entries : goal.invariant_of-entries
 invariant_of-entries c =

@@ -1,10 +1,11 @@
 -- `report` asks the reader with as much lent as it wants, and writes the text that its answer asks for.
-use mathlib.Core.Path.{◌≡◌, sym, subst, ◌∙◌}
+use mathlib.Core.Path.{◌≡◌, refl, ap, sym, subst, ◌∙◌}
 use native.Mathlib.Omega.{arith}
 use lib.ListN.{replicate}
 use Rattle.prelude.specs.Buffer.{AllBelow}
 use Rattle.jwe.specs.Judge.{result_of}
-use Rattle.jwe.specs.Answers.{numbers}
+use Rattle.jwe.specs.Answers.{numbers, as_result, reading_of}
+use Rattle.jwe.proofs.Exits.{refused_above}
 use Rattle.jwe.proofs.Small.{limit, result_small}
 use Rattle.report.specs.Report.{reading}
 use Rattle.report.proofs.Reporting.{number_is, parameters_few, report_accepted, too_short, reports_long}
@@ -26,35 +27,34 @@ returns-then-message-gt61440 c =
 
 pub put_accepted-requires : goal.put_accepted-requires
 put_accepted-requires c =
-    let told : numbers c.read-answer.result ≡ result_of (reading c.args.message.now) = c.read-answer.ensures.answered in
     let message = c.args.message.now in
-    let few = parameters_few message c.read-answer.result (told) c.if-answer-eq0.true in
-    let small = subst (AllBelow limit) (sym (told)) (result_small (reading message)) in
+    let told = sym (ap (λ a. numbers (as_result a)) c.in-Ok.is) ∙ c.read.ensures.answered in
+    let few = parameters_few message (reading_of c.in-Ok.reading) told refl in
     record {
       report_room_in_bounds = c.if-out-lt8192.false;
-      all_below = small;
+      all_below = subst (AllBelow limit) (sym told) (result_small (reading message));
       parameters_bound = few;
       list_width_in_bounds = omega (arith, few);
     }
 
-pub returns-then-answer-eq0 : goal.returns-then-answer-eq0
-returns-then-answer-eq0 c =
-    let told : numbers c.read-answer.result ≡ result_of (reading c.args.message.now) = c.read-answer.ensures.answered in
+pub returns-in-Ok : goal.returns-in-Ok
+returns-in-Ok c =
     let given = c.args in
-    let z = c.if-answer-eq0.true in
+    let told = sym (ap (λ a. numbers (as_result a)) c.in-Ok.is) ∙ c.read.ensures.answered in
     reports_accepted given.message.now given.out.now c.if-out-lt8192.false c.if-message-gt61440.false
-    (sym (number_is given.message.now c.read-answer.result (told)) ∙ z) _
-    (report_accepted given.message.now c.read-answer.result (told) z (replicate 576 0) _
-    c.read-answer.ensures.listed) _ _ (c.put_accepted.ensures.value, (c.put_accepted.ensures.out_after, c.put_accepted.ensures.upper_bound))
+    (sym (number_is given.message.now (reading_of c.in-Ok.reading) told)) _
+    (report_accepted given.message.now (reading_of c.in-Ok.reading) told refl (replicate 576 0) _
+    c.read.ensures.listed) _ _ (c.put_accepted.ensures.value, (c.put_accepted.ensures.out_after, c.put_accepted.ensures.upper_bound))
 
 pub put_refused-requires : goal.put_refused-requires
 put_refused-requires c =
     c.if-out-lt8192.false
 
-pub returns : goal.returns
-returns c =
-    let told : numbers c.read-answer.result ≡ result_of (reading c.args.message.now) = c.read-answer.ensures.answered in
+pub returns-in-Err : goal.returns-in-Err
+returns-in-Err c =
     let given = c.args in
+    let numbered = c.number.ensures ∙ sym (ap (λ r. (as_result r).number) c.in-Err.is) in
     reports_refused given.message.now given.out.now c.if-out-lt8192.false c.if-message-gt61440.false
-    c.read-answer.result.number (number_is given.message.now c.read-answer.result (told)) c.if-answer-eq0.false _ _
+    c.number.result (numbered ∙ number_is given.message.now (as_result c.read.result) c.read.ensures.answered)
+    (λ z. omega (arith, z, numbered, refused_above c.in-Err.is)) _ _
     (c.put_refused.ensures.value, (c.put_refused.ensures.out_after, c.put_refused.ensures.upper_bound))

@@ -1,5 +1,5 @@
 -- `jwe_component` hands on the reader's refusal, or what decoding the component's text answers.
-use mathlib.Core.Path.{ap, sym, ◌∙◌}
+use mathlib.Core.Path.{◌≡◌, ap, sym, ◌∙◌}
 use Rattle.parts.specs.Parts.{part}
 use Rattle.prelude.specs.declared.Place.{Place}
 use Rattle.headers.specs.Components as headers
@@ -8,22 +8,30 @@ use Rattle.jwe.specs.Judge.{call}
 use Rattle.host.specs.Component.{component_place}
 use Rattle.host.proofs.HandedOut.{number_first}
 use Rattle.host.proofs.Decoding.{refused_so, decoded_so, components_are}
+use Rattle.jwe.specs.Answers.{numbers, as_result, reading_of}
+use Rattle.jwe.proofs.Exits.{refused_above}
+use native.Mathlib.Omega.{arith}
 use Rattle.host.proofs.component.jwe_component.Goals as goal
 
-pub returns-then-answer-ne0 : goal.returns-then-answer-ne0
-returns-then-answer-ne0 c =
-    refused_so ((call c.args.message.now c.args.known.now c.args.recipient 4096 576)) c.args.component c.args.out.now c.read-answer.result.number
-    (number_first ((call c.args.message.now c.args.known.now c.args.recipient 4096 576)) c.read-answer.result c.read-answer.ensures.answered) c.if-answer-ne0.true
+pub returns-in-Err : goal.returns-in-Err
+returns-in-Err c =
+    let asked = call c.args.message.now c.args.known.now c.args.recipient 4096 576 in
+    let told = c.number.ensures ∙ sym (ap (λ r. (as_result r).number) c.in-Err.is) in
+    refused_so asked c.args.component c.args.out.now c.number.result
+    (told ∙ number_first asked (as_result c.read-read.result) c.read-read.ensures.answered)
+    (λ z. omega (arith, z, told, refused_above c.in-Err.is))
 
-pub returns : goal.returns
-returns c =
+pub returns-in-Ok : goal.returns-in-Ok
+returns-in-Ok c =
+    let asked = call c.args.message.now c.args.known.now c.args.recipient 4096 576 in
     let message = c.args.message.now in
     let n = c.args.component in
-    let r = c.read-answer.result in
-    let z = sym (number_first ((call c.args.message.now c.args.known.now c.args.recipient 4096 576)) r c.read-answer.ensures.answered) ∙ c.if-answer-ne0.false in
-    let are = components_are ((call c.args.message.now c.args.known.now c.args.recipient 4096 576)) n r c.read-answer.ensures.answered z in
+    let r = reading_of c.in-Ok.reading in
+    let answered = sym (ap (λ a. numbers (as_result a)) c.in-Ok.is) ∙ c.read-read.ensures.answered in
+    let z = sym (number_first asked r answered) in
+    let are = components_are asked n r answered z in
     let shown =
     c.component.ensures.octets
     ∙ ap (λ (q : Place). part message q.start q.len) c.place_of-place.ensures
     ∙ ap (λ (q : headers.Components). octets_at message (component_place q n)) are in
-    decoded_so ((call c.args.message.now c.args.known.now c.args.recipient 4096 576)) n z c.args.out.now _ c.jwe_decode.result _ _ shown c.jwe_decode.ensures
+    decoded_so asked n z c.args.out.now _ c.jwe_decode.result _ _ shown c.jwe_decode.ensures

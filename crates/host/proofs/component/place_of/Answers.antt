@@ -8,35 +8,35 @@ use Rattle.host.specs.Component.{place_at, component_place}
 use Rattle.host.proofs.Decoding.{place_absent}
 use Rattle.host.proofs.component.place_of.Goals as goal
 
-pub returns-then-n-eq0 : goal.returns-then-n-eq0
+pub returns-in-0 : goal.returns-in-0
 unfolding place_at component_place
-returns-then-n-eq0 c =
-    sym (ap (λ (n : ℕ). code_place (component_place (components_of c.args.q) n)) c.if-n-eq0.true)
+returns-in-0 c =
+    sym (ap (λ (n : ℕ). code_place (component_place (components_of c.args.q) n)) c.in-0.is)
 
-pub returns-then-n-eq1 : goal.returns-then-n-eq1
+pub returns-in-1 : goal.returns-in-1
 unfolding place_at component_place
-returns-then-n-eq1 c =
-    sym (ap (λ (n : ℕ). code_place (component_place (components_of c.args.q) n)) c.if-n-eq1.true)
+returns-in-1 c =
+    sym (ap (λ (n : ℕ). code_place (component_place (components_of c.args.q) n)) c.in-1.is)
 
-pub returns-then-n-eq2 : goal.returns-then-n-eq2
+pub returns-in-2 : goal.returns-in-2
 unfolding place_at component_place
-returns-then-n-eq2 c =
-    sym (ap (λ (n : ℕ). code_place (component_place (components_of c.args.q) n)) c.if-n-eq2.true)
+returns-in-2 c =
+    sym (ap (λ (n : ℕ). code_place (component_place (components_of c.args.q) n)) c.in-2.is)
 
-pub returns-then-n-eq3 : goal.returns-then-n-eq3
+pub returns-in-3 : goal.returns-in-3
 unfolding place_at component_place
-returns-then-n-eq3 c =
-    sym (ap (λ (n : ℕ). code_place (component_place (components_of c.args.q) n)) c.if-n-eq3.true)
+returns-in-3 c =
+    sym (ap (λ (n : ℕ). code_place (component_place (components_of c.args.q) n)) c.in-3.is)
 
-pub returns-then-n-eq4 : goal.returns-then-n-eq4
+pub returns-in-4 : goal.returns-in-4
 unfolding place_at component_place
-returns-then-n-eq4 c =
-    sym (ap (λ (n : ℕ). code_place (component_place (components_of c.args.q) n)) c.if-n-eq4.true)
+returns-in-4 c =
+    sym (ap (λ (n : ℕ). code_place (component_place (components_of c.args.q) n)) c.in-4.is)
 
-pub returns-then-n-eq5 : goal.returns-then-n-eq5
+pub returns-in-5 : goal.returns-in-5
 unfolding place_at component_place
-returns-then-n-eq5 c =
-    sym (ap (λ (n : ℕ). code_place (component_place (components_of c.args.q) n)) c.if-n-eq5.true)
+returns-in-5 c =
+    sym (ap (λ (n : ℕ). code_place (component_place (components_of c.args.q) n)) c.in-5.is)
 
 pub returns : goal.returns
 unfolding component_place

@@ -1,6 +1,10 @@
 -- `jwe_read` hands out what `read` promises: accepted, the numbers of its result; refused, the number alone.
 use lib.ListN.{length}
+use native.Mathlib.Omega.{arith}
+use mathlib.Core.Path.{refl, ap, sym, ◌∙◌}
 use Rattle.jwe.specs.Judge.{call}
+use Rattle.jwe.specs.Answers.{numbers, as_result, reading_of}
+use Rattle.jwe.proofs.Exits.{refused_above}
 use Rattle.host.proofs.HandedOut.{too_little, numbers_small, reads_accepted, reads_refused}
 use Rattle.host.proofs.reading.jwe_read.Goals as goal
 
@@ -13,27 +17,27 @@ returns-then-res-lt-ROOM c =
 pub put_result-requires : goal.put_result-requires
 put_result-requires c =
     let given = c.args in
+    let answered = sym (ap (λ a. numbers (as_result a)) c.in-Ok.is) ∙ c.read.ensures.answered in
     record {
-      all_below = numbers_small ((let given = c.args in
-          call given.message.now given.known.now given.recipient (length given.header.now) (length given.list.now))) given.header.now given.list.now given.res.now
-          c.read-answer.result c.read-answer.ensures.answered;
+      all_below = numbers_small (call given.message.now given.known.now given.recipient (length given.header.now) (length given.list.now))
+          given.header.now given.list.now given.res.now (reading_of c.in-Ok.reading) answered;
       result_room_in_bounds = c.if-res-lt-ROOM.false;
     }
 
-pub returns-then-answer-eq0 : goal.returns-then-answer-eq0
-returns-then-answer-eq0 c =
+pub returns-in-Ok : goal.returns-in-Ok
+returns-in-Ok c =
     let given = c.args in
-    let both = reads_accepted ((let given = c.args in
-    call given.message.now given.known.now given.recipient (length given.header.now) (length given.list.now))) given.header.now given.list.now given.res.now
-    c.read-answer.result c.read-answer.ensures.answered c.if-res-lt-ROOM.false _ _ c.read-answer.ensures.decoded
-    c.read-answer.ensures.listed c.if-answer-eq0.true _ c.put_result.ensures in
+    let answered = sym (ap (λ a. numbers (as_result a)) c.in-Ok.is) ∙ c.read.ensures.answered in
+    let both = reads_accepted (call given.message.now given.known.now given.recipient (length given.header.now) (length given.list.now))
+    given.header.now given.list.now given.res.now (reading_of c.in-Ok.reading) answered
+    c.if-res-lt-ROOM.false _ _ c.read.ensures.decoded c.read.ensures.listed refl _ c.put_result.ensures in
     record { answered = both.0; decoded = both.1.0; listed = both.1.1.0; numbered = both.1.1.1 }
 
-pub returns : goal.returns
-returns c =
+pub returns-in-Err : goal.returns-in-Err
+returns-in-Err c =
     let given = c.args in
-    let both = reads_refused ((let given = c.args in
-    call given.message.now given.known.now given.recipient (length given.header.now) (length given.list.now))) given.header.now given.list.now given.res.now
-    c.read-answer.result c.read-answer.ensures.answered c.if-res-lt-ROOM.false _ _ c.read-answer.ensures.decoded
-    c.read-answer.ensures.listed c.if-answer-eq0.false in
-    record { answered = both.0; decoded = both.1.0; listed = both.1.1.0; numbered = both.1.1.1 }
+    let told = c.number-in-Err.ensures ∙ sym (ap (λ r. (as_result r).number) c.in-Err.is) in
+    let both = reads_refused (call given.message.now given.known.now given.recipient (length given.header.now) (length given.list.now))
+    given.header.now given.list.now given.res.now (as_result c.read.result) c.read.ensures.answered
+    c.if-res-lt-ROOM.false _ _ c.read.ensures.decoded c.read.ensures.listed (λ z. omega (arith, z, refused_above c.in-Err.is)) in
+    record { answered = told ∙ both.0; decoded = both.1.0; listed = both.1.1.0; numbered = both.1.1.1 }

@@ -9,6 +9,7 @@ use Rattle.prelude.proofs.Writing.{Writing, begin, put, put_part, done}
 use Rattle.jwe.specs.Answers.{numbers, place_numbers}
 use Rattle.jwe.proofs.Small.{recipients_small, header_small, parameters_small}
 use Rattle.jwe.proofs.Small.{protected_small, key_small, iv_small, aad_small, ciphertext_small, tag_small}
+use Rattle.jwe.specs.Answers.{reading_of}
 use Rattle.host.proofs.reading.put_result.Goals as goal
 
 -- A buffer that is being written has the room it had.
@@ -32,7 +33,7 @@ pub put_place-requires : goal.put_place-requires
 put_place-requires c =
     let wrote-1 : (let r = c.args.r in
     let into = c.args.into.now in
-    (let all = numbers c.args.r in Writing 0 all c.args.into.now (drop 4 all) 4 (set (set (set (set into 0 r.number) 1 r.form) 2 r.recipients) 3 r.mode))) = (let opened = begin 0 (numbers c.args.r) c.args.into.now c.requires.result_room_in_bounds in
+    (let all = numbers (reading_of c.args.r) in Writing 0 all c.args.into.now (drop 4 all) 4 (set (set (set (set into 0 0) 1 r.form) 2 r.recipients) 3 r.mode))) = (let opened = begin 0 (numbers (reading_of c.args.r)) c.args.into.now c.requires.result_room_in_bounds in
     put _ 4 refl (put _ 3 refl (put _ 2 refl (put _ 1 refl opened)))) in
     let small = protected_small c.args.r c.requires.all_below in
     record {
@@ -45,9 +46,9 @@ pub put_place-requires-2 : goal.put_place-requires-2
 put_place-requires-2 c =
     let wrote-1 : (let r = c.args.r in
     let into = c.args.into.now in
-    (let all = numbers c.args.r in Writing 0 all c.args.into.now (drop 4 all) 4 (set (set (set (set into 0 r.number) 1 r.form) 2 r.recipients) 3 r.mode))) = (let opened = begin 0 (numbers c.args.r) c.args.into.now c.requires.result_room_in_bounds in
+    (let all = numbers (reading_of c.args.r) in Writing 0 all c.args.into.now (drop 4 all) 4 (set (set (set (set into 0 0) 1 r.form) 2 r.recipients) 3 r.mode))) = (let opened = begin 0 (numbers (reading_of c.args.r)) c.args.into.now c.requires.result_room_in_bounds in
     put _ 4 refl (put _ 3 refl (put _ 2 refl (put _ 1 refl opened)))) in
-    let wrote-2 : (let all = numbers c.args.r in Writing 0 all c.args.into.now (drop 6 all) 6 c.put_place.new.into) = put_part (place_numbers c.args.r.components.protected []) _ refl (wrote-1) refl
+    let wrote-2 : (let all = numbers (reading_of c.args.r) in Writing 0 all c.args.into.now (drop 6 all) 6 c.put_place.new.into) = put_part (place_numbers (reading_of c.args.r).components.protected []) _ refl (wrote-1) refl
     c.put_place.ensures in
     let small = key_small c.args.r c.requires.all_below in
     record {
@@ -60,11 +61,11 @@ pub put_place-requires-3 : goal.put_place-requires-3
 put_place-requires-3 c =
     let wrote-1 : (let r = c.args.r in
     let into = c.args.into.now in
-    (let all = numbers c.args.r in Writing 0 all c.args.into.now (drop 4 all) 4 (set (set (set (set into 0 r.number) 1 r.form) 2 r.recipients) 3 r.mode))) = (let opened = begin 0 (numbers c.args.r) c.args.into.now c.requires.result_room_in_bounds in
+    (let all = numbers (reading_of c.args.r) in Writing 0 all c.args.into.now (drop 4 all) 4 (set (set (set (set into 0 0) 1 r.form) 2 r.recipients) 3 r.mode))) = (let opened = begin 0 (numbers (reading_of c.args.r)) c.args.into.now c.requires.result_room_in_bounds in
     put _ 4 refl (put _ 3 refl (put _ 2 refl (put _ 1 refl opened)))) in
-    let wrote-2 : (let all = numbers c.args.r in Writing 0 all c.args.into.now (drop 6 all) 6 c.put_place.new.into) = put_part (place_numbers c.args.r.components.protected []) _ refl (wrote-1) refl
+    let wrote-2 : (let all = numbers (reading_of c.args.r) in Writing 0 all c.args.into.now (drop 6 all) 6 c.put_place.new.into) = put_part (place_numbers (reading_of c.args.r).components.protected []) _ refl (wrote-1) refl
     c.put_place.ensures in
-    let wrote-3 : (let all = numbers c.args.r in Writing 0 all c.args.into.now (drop 8 all) 8 c.put_place-2.new.into) = put_part (place_numbers c.args.r.components.key []) _ refl (wrote-2) refl
+    let wrote-3 : (let all = numbers (reading_of c.args.r) in Writing 0 all c.args.into.now (drop 8 all) 8 c.put_place-2.new.into) = put_part (place_numbers (reading_of c.args.r).components.key []) _ refl (wrote-2) refl
     c.put_place-2.ensures in
     let small = iv_small c.args.r c.requires.all_below in
     record {
@@ -77,13 +78,13 @@ pub put_place-requires-4 : goal.put_place-requires-4
 put_place-requires-4 c =
     let wrote-1 : (let r = c.args.r in
     let into = c.args.into.now in
-    (let all = numbers c.args.r in Writing 0 all c.args.into.now (drop 4 all) 4 (set (set (set (set into 0 r.number) 1 r.form) 2 r.recipients) 3 r.mode))) = (let opened = begin 0 (numbers c.args.r) c.args.into.now c.requires.result_room_in_bounds in
+    (let all = numbers (reading_of c.args.r) in Writing 0 all c.args.into.now (drop 4 all) 4 (set (set (set (set into 0 0) 1 r.form) 2 r.recipients) 3 r.mode))) = (let opened = begin 0 (numbers (reading_of c.args.r)) c.args.into.now c.requires.result_room_in_bounds in
     put _ 4 refl (put _ 3 refl (put _ 2 refl (put _ 1 refl opened)))) in
-    let wrote-2 : (let all = numbers c.args.r in Writing 0 all c.args.into.now (drop 6 all) 6 c.put_place.new.into) = put_part (place_numbers c.args.r.components.protected []) _ refl (wrote-1) refl
+    let wrote-2 : (let all = numbers (reading_of c.args.r) in Writing 0 all c.args.into.now (drop 6 all) 6 c.put_place.new.into) = put_part (place_numbers (reading_of c.args.r).components.protected []) _ refl (wrote-1) refl
     c.put_place.ensures in
-    let wrote-3 : (let all = numbers c.args.r in Writing 0 all c.args.into.now (drop 8 all) 8 c.put_place-2.new.into) = put_part (place_numbers c.args.r.components.key []) _ refl (wrote-2) refl
+    let wrote-3 : (let all = numbers (reading_of c.args.r) in Writing 0 all c.args.into.now (drop 8 all) 8 c.put_place-2.new.into) = put_part (place_numbers (reading_of c.args.r).components.key []) _ refl (wrote-2) refl
     c.put_place-2.ensures in
-    let wrote-4 : (let all = numbers c.args.r in Writing 0 all c.args.into.now (drop 10 all) 10 c.put_place-3.new.into) = put_part (place_numbers c.args.r.components.iv []) _ refl (wrote-3) refl
+    let wrote-4 : (let all = numbers (reading_of c.args.r) in Writing 0 all c.args.into.now (drop 10 all) 10 c.put_place-3.new.into) = put_part (place_numbers (reading_of c.args.r).components.iv []) _ refl (wrote-3) refl
     c.put_place-3.ensures in
     let small = aad_small c.args.r c.requires.all_below in
     record {
@@ -96,15 +97,15 @@ pub put_place-requires-5 : goal.put_place-requires-5
 put_place-requires-5 c =
     let wrote-1 : (let r = c.args.r in
     let into = c.args.into.now in
-    (let all = numbers c.args.r in Writing 0 all c.args.into.now (drop 4 all) 4 (set (set (set (set into 0 r.number) 1 r.form) 2 r.recipients) 3 r.mode))) = (let opened = begin 0 (numbers c.args.r) c.args.into.now c.requires.result_room_in_bounds in
+    (let all = numbers (reading_of c.args.r) in Writing 0 all c.args.into.now (drop 4 all) 4 (set (set (set (set into 0 0) 1 r.form) 2 r.recipients) 3 r.mode))) = (let opened = begin 0 (numbers (reading_of c.args.r)) c.args.into.now c.requires.result_room_in_bounds in
     put _ 4 refl (put _ 3 refl (put _ 2 refl (put _ 1 refl opened)))) in
-    let wrote-2 : (let all = numbers c.args.r in Writing 0 all c.args.into.now (drop 6 all) 6 c.put_place.new.into) = put_part (place_numbers c.args.r.components.protected []) _ refl (wrote-1) refl
+    let wrote-2 : (let all = numbers (reading_of c.args.r) in Writing 0 all c.args.into.now (drop 6 all) 6 c.put_place.new.into) = put_part (place_numbers (reading_of c.args.r).components.protected []) _ refl (wrote-1) refl
     c.put_place.ensures in
-    let wrote-3 : (let all = numbers c.args.r in Writing 0 all c.args.into.now (drop 8 all) 8 c.put_place-2.new.into) = put_part (place_numbers c.args.r.components.key []) _ refl (wrote-2) refl
+    let wrote-3 : (let all = numbers (reading_of c.args.r) in Writing 0 all c.args.into.now (drop 8 all) 8 c.put_place-2.new.into) = put_part (place_numbers (reading_of c.args.r).components.key []) _ refl (wrote-2) refl
     c.put_place-2.ensures in
-    let wrote-4 : (let all = numbers c.args.r in Writing 0 all c.args.into.now (drop 10 all) 10 c.put_place-3.new.into) = put_part (place_numbers c.args.r.components.iv []) _ refl (wrote-3) refl
+    let wrote-4 : (let all = numbers (reading_of c.args.r) in Writing 0 all c.args.into.now (drop 10 all) 10 c.put_place-3.new.into) = put_part (place_numbers (reading_of c.args.r).components.iv []) _ refl (wrote-3) refl
     c.put_place-3.ensures in
-    let wrote-5 : (let all = numbers c.args.r in Writing 0 all c.args.into.now (drop 12 all) 12 c.put_place-4.new.into) = put_part (place_numbers c.args.r.components.aad []) _ refl (wrote-4) refl
+    let wrote-5 : (let all = numbers (reading_of c.args.r) in Writing 0 all c.args.into.now (drop 12 all) 12 c.put_place-4.new.into) = put_part (place_numbers (reading_of c.args.r).components.aad []) _ refl (wrote-4) refl
     c.put_place-4.ensures in
     let small = ciphertext_small c.args.r c.requires.all_below in
     record {
@@ -117,17 +118,17 @@ pub put_place-requires-6 : goal.put_place-requires-6
 put_place-requires-6 c =
     let wrote-1 : (let r = c.args.r in
     let into = c.args.into.now in
-    (let all = numbers c.args.r in Writing 0 all c.args.into.now (drop 4 all) 4 (set (set (set (set into 0 r.number) 1 r.form) 2 r.recipients) 3 r.mode))) = (let opened = begin 0 (numbers c.args.r) c.args.into.now c.requires.result_room_in_bounds in
+    (let all = numbers (reading_of c.args.r) in Writing 0 all c.args.into.now (drop 4 all) 4 (set (set (set (set into 0 0) 1 r.form) 2 r.recipients) 3 r.mode))) = (let opened = begin 0 (numbers (reading_of c.args.r)) c.args.into.now c.requires.result_room_in_bounds in
     put _ 4 refl (put _ 3 refl (put _ 2 refl (put _ 1 refl opened)))) in
-    let wrote-2 : (let all = numbers c.args.r in Writing 0 all c.args.into.now (drop 6 all) 6 c.put_place.new.into) = put_part (place_numbers c.args.r.components.protected []) _ refl (wrote-1) refl
+    let wrote-2 : (let all = numbers (reading_of c.args.r) in Writing 0 all c.args.into.now (drop 6 all) 6 c.put_place.new.into) = put_part (place_numbers (reading_of c.args.r).components.protected []) _ refl (wrote-1) refl
     c.put_place.ensures in
-    let wrote-3 : (let all = numbers c.args.r in Writing 0 all c.args.into.now (drop 8 all) 8 c.put_place-2.new.into) = put_part (place_numbers c.args.r.components.key []) _ refl (wrote-2) refl
+    let wrote-3 : (let all = numbers (reading_of c.args.r) in Writing 0 all c.args.into.now (drop 8 all) 8 c.put_place-2.new.into) = put_part (place_numbers (reading_of c.args.r).components.key []) _ refl (wrote-2) refl
     c.put_place-2.ensures in
-    let wrote-4 : (let all = numbers c.args.r in Writing 0 all c.args.into.now (drop 10 all) 10 c.put_place-3.new.into) = put_part (place_numbers c.args.r.components.iv []) _ refl (wrote-3) refl
+    let wrote-4 : (let all = numbers (reading_of c.args.r) in Writing 0 all c.args.into.now (drop 10 all) 10 c.put_place-3.new.into) = put_part (place_numbers (reading_of c.args.r).components.iv []) _ refl (wrote-3) refl
     c.put_place-3.ensures in
-    let wrote-5 : (let all = numbers c.args.r in Writing 0 all c.args.into.now (drop 12 all) 12 c.put_place-4.new.into) = put_part (place_numbers c.args.r.components.aad []) _ refl (wrote-4) refl
+    let wrote-5 : (let all = numbers (reading_of c.args.r) in Writing 0 all c.args.into.now (drop 12 all) 12 c.put_place-4.new.into) = put_part (place_numbers (reading_of c.args.r).components.aad []) _ refl (wrote-4) refl
     c.put_place-4.ensures in
-    let wrote-6 : (let all = numbers c.args.r in Writing 0 all c.args.into.now (drop 14 all) 14 c.put_place-5.new.into) = put_part (place_numbers c.args.r.components.ciphertext []) _ refl (wrote-5) refl
+    let wrote-6 : (let all = numbers (reading_of c.args.r) in Writing 0 all c.args.into.now (drop 14 all) 14 c.put_place-5.new.into) = put_part (place_numbers (reading_of c.args.r).components.ciphertext []) _ refl (wrote-5) refl
     c.put_place-5.ensures in
     let small = tag_small c.args.r c.requires.all_below in
     record {
@@ -144,19 +145,19 @@ pub bounds-into-16 : goal.bounds-into-16
 bounds-into-16 c =
     let wrote-1 : (let r = c.args.r in
     let into = c.args.into.now in
-    (let all = numbers c.args.r in Writing 0 all c.args.into.now (drop 4 all) 4 (set (set (set (set into 0 r.number) 1 r.form) 2 r.recipients) 3 r.mode))) = (let opened = begin 0 (numbers c.args.r) c.args.into.now c.requires.result_room_in_bounds in
+    (let all = numbers (reading_of c.args.r) in Writing 0 all c.args.into.now (drop 4 all) 4 (set (set (set (set into 0 0) 1 r.form) 2 r.recipients) 3 r.mode))) = (let opened = begin 0 (numbers (reading_of c.args.r)) c.args.into.now c.requires.result_room_in_bounds in
     put _ 4 refl (put _ 3 refl (put _ 2 refl (put _ 1 refl opened)))) in
-    let wrote-2 : (let all = numbers c.args.r in Writing 0 all c.args.into.now (drop 6 all) 6 c.put_place.new.into) = put_part (place_numbers c.args.r.components.protected []) _ refl (wrote-1) refl
+    let wrote-2 : (let all = numbers (reading_of c.args.r) in Writing 0 all c.args.into.now (drop 6 all) 6 c.put_place.new.into) = put_part (place_numbers (reading_of c.args.r).components.protected []) _ refl (wrote-1) refl
     c.put_place.ensures in
-    let wrote-3 : (let all = numbers c.args.r in Writing 0 all c.args.into.now (drop 8 all) 8 c.put_place-2.new.into) = put_part (place_numbers c.args.r.components.key []) _ refl (wrote-2) refl
+    let wrote-3 : (let all = numbers (reading_of c.args.r) in Writing 0 all c.args.into.now (drop 8 all) 8 c.put_place-2.new.into) = put_part (place_numbers (reading_of c.args.r).components.key []) _ refl (wrote-2) refl
     c.put_place-2.ensures in
-    let wrote-4 : (let all = numbers c.args.r in Writing 0 all c.args.into.now (drop 10 all) 10 c.put_place-3.new.into) = put_part (place_numbers c.args.r.components.iv []) _ refl (wrote-3) refl
+    let wrote-4 : (let all = numbers (reading_of c.args.r) in Writing 0 all c.args.into.now (drop 10 all) 10 c.put_place-3.new.into) = put_part (place_numbers (reading_of c.args.r).components.iv []) _ refl (wrote-3) refl
     c.put_place-3.ensures in
-    let wrote-5 : (let all = numbers c.args.r in Writing 0 all c.args.into.now (drop 12 all) 12 c.put_place-4.new.into) = put_part (place_numbers c.args.r.components.aad []) _ refl (wrote-4) refl
+    let wrote-5 : (let all = numbers (reading_of c.args.r) in Writing 0 all c.args.into.now (drop 12 all) 12 c.put_place-4.new.into) = put_part (place_numbers (reading_of c.args.r).components.aad []) _ refl (wrote-4) refl
     c.put_place-4.ensures in
-    let wrote-6 : (let all = numbers c.args.r in Writing 0 all c.args.into.now (drop 14 all) 14 c.put_place-5.new.into) = put_part (place_numbers c.args.r.components.ciphertext []) _ refl (wrote-5) refl
+    let wrote-6 : (let all = numbers (reading_of c.args.r) in Writing 0 all c.args.into.now (drop 14 all) 14 c.put_place-5.new.into) = put_part (place_numbers (reading_of c.args.r).components.ciphertext []) _ refl (wrote-5) refl
     c.put_place-5.ensures in
-    let wrote : (let all = numbers c.args.r in Writing 0 all c.args.into.now (drop 16 all) 16 c.put_place-6.new.into) = put_part (place_numbers c.args.r.components.tag []) _ refl (wrote-6) refl
+    let wrote : (let all = numbers (reading_of c.args.r) in Writing 0 all c.args.into.now (drop 16 all) 16 c.put_place-6.new.into) = put_part (place_numbers (reading_of c.args.r).components.tag []) _ refl (wrote-6) refl
     c.put_place-6.ensures in
     within 17 (wrote) c.requires.result_room_in_bounds (omega arith)
 
@@ -168,19 +169,19 @@ pub bounds-into-17 : goal.bounds-into-17
 bounds-into-17 c =
     let wrote-1 : (let r = c.args.r in
     let into = c.args.into.now in
-    (let all = numbers c.args.r in Writing 0 all c.args.into.now (drop 4 all) 4 (set (set (set (set into 0 r.number) 1 r.form) 2 r.recipients) 3 r.mode))) = (let opened = begin 0 (numbers c.args.r) c.args.into.now c.requires.result_room_in_bounds in
+    (let all = numbers (reading_of c.args.r) in Writing 0 all c.args.into.now (drop 4 all) 4 (set (set (set (set into 0 0) 1 r.form) 2 r.recipients) 3 r.mode))) = (let opened = begin 0 (numbers (reading_of c.args.r)) c.args.into.now c.requires.result_room_in_bounds in
     put _ 4 refl (put _ 3 refl (put _ 2 refl (put _ 1 refl opened)))) in
-    let wrote-2 : (let all = numbers c.args.r in Writing 0 all c.args.into.now (drop 6 all) 6 c.put_place.new.into) = put_part (place_numbers c.args.r.components.protected []) _ refl (wrote-1) refl
+    let wrote-2 : (let all = numbers (reading_of c.args.r) in Writing 0 all c.args.into.now (drop 6 all) 6 c.put_place.new.into) = put_part (place_numbers (reading_of c.args.r).components.protected []) _ refl (wrote-1) refl
     c.put_place.ensures in
-    let wrote-3 : (let all = numbers c.args.r in Writing 0 all c.args.into.now (drop 8 all) 8 c.put_place-2.new.into) = put_part (place_numbers c.args.r.components.key []) _ refl (wrote-2) refl
+    let wrote-3 : (let all = numbers (reading_of c.args.r) in Writing 0 all c.args.into.now (drop 8 all) 8 c.put_place-2.new.into) = put_part (place_numbers (reading_of c.args.r).components.key []) _ refl (wrote-2) refl
     c.put_place-2.ensures in
-    let wrote-4 : (let all = numbers c.args.r in Writing 0 all c.args.into.now (drop 10 all) 10 c.put_place-3.new.into) = put_part (place_numbers c.args.r.components.iv []) _ refl (wrote-3) refl
+    let wrote-4 : (let all = numbers (reading_of c.args.r) in Writing 0 all c.args.into.now (drop 10 all) 10 c.put_place-3.new.into) = put_part (place_numbers (reading_of c.args.r).components.iv []) _ refl (wrote-3) refl
     c.put_place-3.ensures in
-    let wrote-5 : (let all = numbers c.args.r in Writing 0 all c.args.into.now (drop 12 all) 12 c.put_place-4.new.into) = put_part (place_numbers c.args.r.components.aad []) _ refl (wrote-4) refl
+    let wrote-5 : (let all = numbers (reading_of c.args.r) in Writing 0 all c.args.into.now (drop 12 all) 12 c.put_place-4.new.into) = put_part (place_numbers (reading_of c.args.r).components.aad []) _ refl (wrote-4) refl
     c.put_place-4.ensures in
-    let wrote-6 : (let all = numbers c.args.r in Writing 0 all c.args.into.now (drop 14 all) 14 c.put_place-5.new.into) = put_part (place_numbers c.args.r.components.ciphertext []) _ refl (wrote-5) refl
+    let wrote-6 : (let all = numbers (reading_of c.args.r) in Writing 0 all c.args.into.now (drop 14 all) 14 c.put_place-5.new.into) = put_part (place_numbers (reading_of c.args.r).components.ciphertext []) _ refl (wrote-5) refl
     c.put_place-5.ensures in
-    let wrote : (let all = numbers c.args.r in Writing 0 all c.args.into.now (drop 16 all) 16 c.put_place-6.new.into) = put_part (place_numbers c.args.r.components.tag []) _ refl (wrote-6) refl
+    let wrote : (let all = numbers (reading_of c.args.r) in Writing 0 all c.args.into.now (drop 16 all) 16 c.put_place-6.new.into) = put_part (place_numbers (reading_of c.args.r).components.tag []) _ refl (wrote-6) refl
     c.put_place-6.ensures in
     within 18 (put _ 17 refl (wrote)) c.requires.result_room_in_bounds (omega arith)
 
@@ -188,19 +189,19 @@ pub shape_of-into : goal.shape_of-into
 shape_of-into c =
     let wrote-1 : (let r = c.args.r in
     let into = c.args.into.now in
-    (let all = numbers c.args.r in Writing 0 all c.args.into.now (drop 4 all) 4 (set (set (set (set into 0 r.number) 1 r.form) 2 r.recipients) 3 r.mode))) = (let opened = begin 0 (numbers c.args.r) c.args.into.now c.requires.result_room_in_bounds in
+    (let all = numbers (reading_of c.args.r) in Writing 0 all c.args.into.now (drop 4 all) 4 (set (set (set (set into 0 0) 1 r.form) 2 r.recipients) 3 r.mode))) = (let opened = begin 0 (numbers (reading_of c.args.r)) c.args.into.now c.requires.result_room_in_bounds in
     put _ 4 refl (put _ 3 refl (put _ 2 refl (put _ 1 refl opened)))) in
-    let wrote-2 : (let all = numbers c.args.r in Writing 0 all c.args.into.now (drop 6 all) 6 c.put_place.new.into) = put_part (place_numbers c.args.r.components.protected []) _ refl (wrote-1) refl
+    let wrote-2 : (let all = numbers (reading_of c.args.r) in Writing 0 all c.args.into.now (drop 6 all) 6 c.put_place.new.into) = put_part (place_numbers (reading_of c.args.r).components.protected []) _ refl (wrote-1) refl
     c.put_place.ensures in
-    let wrote-3 : (let all = numbers c.args.r in Writing 0 all c.args.into.now (drop 8 all) 8 c.put_place-2.new.into) = put_part (place_numbers c.args.r.components.key []) _ refl (wrote-2) refl
+    let wrote-3 : (let all = numbers (reading_of c.args.r) in Writing 0 all c.args.into.now (drop 8 all) 8 c.put_place-2.new.into) = put_part (place_numbers (reading_of c.args.r).components.key []) _ refl (wrote-2) refl
     c.put_place-2.ensures in
-    let wrote-4 : (let all = numbers c.args.r in Writing 0 all c.args.into.now (drop 10 all) 10 c.put_place-3.new.into) = put_part (place_numbers c.args.r.components.iv []) _ refl (wrote-3) refl
+    let wrote-4 : (let all = numbers (reading_of c.args.r) in Writing 0 all c.args.into.now (drop 10 all) 10 c.put_place-3.new.into) = put_part (place_numbers (reading_of c.args.r).components.iv []) _ refl (wrote-3) refl
     c.put_place-3.ensures in
-    let wrote-5 : (let all = numbers c.args.r in Writing 0 all c.args.into.now (drop 12 all) 12 c.put_place-4.new.into) = put_part (place_numbers c.args.r.components.aad []) _ refl (wrote-4) refl
+    let wrote-5 : (let all = numbers (reading_of c.args.r) in Writing 0 all c.args.into.now (drop 12 all) 12 c.put_place-4.new.into) = put_part (place_numbers (reading_of c.args.r).components.aad []) _ refl (wrote-4) refl
     c.put_place-4.ensures in
-    let wrote-6 : (let all = numbers c.args.r in Writing 0 all c.args.into.now (drop 14 all) 14 c.put_place-5.new.into) = put_part (place_numbers c.args.r.components.ciphertext []) _ refl (wrote-5) refl
+    let wrote-6 : (let all = numbers (reading_of c.args.r) in Writing 0 all c.args.into.now (drop 14 all) 14 c.put_place-5.new.into) = put_part (place_numbers (reading_of c.args.r).components.ciphertext []) _ refl (wrote-5) refl
     c.put_place-5.ensures in
-    let wrote : (let all = numbers c.args.r in Writing 0 all c.args.into.now (drop 16 all) 16 c.put_place-6.new.into) = put_part (place_numbers c.args.r.components.tag []) _ refl (wrote-6) refl
+    let wrote : (let all = numbers (reading_of c.args.r) in Writing 0 all c.args.into.now (drop 16 all) 16 c.put_place-6.new.into) = put_part (place_numbers (reading_of c.args.r).components.tag []) _ refl (wrote-6) refl
     c.put_place-6.ensures in
     let all = put _ 18 refl (put _ 17 refl (wrote)) in all.same
 
@@ -208,18 +209,18 @@ pub returns : goal.returns
 returns c =
     let wrote-1 : (let r = c.args.r in
     let into = c.args.into.now in
-    (let all = numbers c.args.r in Writing 0 all c.args.into.now (drop 4 all) 4 (set (set (set (set into 0 r.number) 1 r.form) 2 r.recipients) 3 r.mode))) = (let opened = begin 0 (numbers c.args.r) c.args.into.now c.requires.result_room_in_bounds in
+    (let all = numbers (reading_of c.args.r) in Writing 0 all c.args.into.now (drop 4 all) 4 (set (set (set (set into 0 0) 1 r.form) 2 r.recipients) 3 r.mode))) = (let opened = begin 0 (numbers (reading_of c.args.r)) c.args.into.now c.requires.result_room_in_bounds in
     put _ 4 refl (put _ 3 refl (put _ 2 refl (put _ 1 refl opened)))) in
-    let wrote-2 : (let all = numbers c.args.r in Writing 0 all c.args.into.now (drop 6 all) 6 c.put_place.new.into) = put_part (place_numbers c.args.r.components.protected []) _ refl (wrote-1) refl
+    let wrote-2 : (let all = numbers (reading_of c.args.r) in Writing 0 all c.args.into.now (drop 6 all) 6 c.put_place.new.into) = put_part (place_numbers (reading_of c.args.r).components.protected []) _ refl (wrote-1) refl
     c.put_place.ensures in
-    let wrote-3 : (let all = numbers c.args.r in Writing 0 all c.args.into.now (drop 8 all) 8 c.put_place-2.new.into) = put_part (place_numbers c.args.r.components.key []) _ refl (wrote-2) refl
+    let wrote-3 : (let all = numbers (reading_of c.args.r) in Writing 0 all c.args.into.now (drop 8 all) 8 c.put_place-2.new.into) = put_part (place_numbers (reading_of c.args.r).components.key []) _ refl (wrote-2) refl
     c.put_place-2.ensures in
-    let wrote-4 : (let all = numbers c.args.r in Writing 0 all c.args.into.now (drop 10 all) 10 c.put_place-3.new.into) = put_part (place_numbers c.args.r.components.iv []) _ refl (wrote-3) refl
+    let wrote-4 : (let all = numbers (reading_of c.args.r) in Writing 0 all c.args.into.now (drop 10 all) 10 c.put_place-3.new.into) = put_part (place_numbers (reading_of c.args.r).components.iv []) _ refl (wrote-3) refl
     c.put_place-3.ensures in
-    let wrote-5 : (let all = numbers c.args.r in Writing 0 all c.args.into.now (drop 12 all) 12 c.put_place-4.new.into) = put_part (place_numbers c.args.r.components.aad []) _ refl (wrote-4) refl
+    let wrote-5 : (let all = numbers (reading_of c.args.r) in Writing 0 all c.args.into.now (drop 12 all) 12 c.put_place-4.new.into) = put_part (place_numbers (reading_of c.args.r).components.aad []) _ refl (wrote-4) refl
     c.put_place-4.ensures in
-    let wrote-6 : (let all = numbers c.args.r in Writing 0 all c.args.into.now (drop 14 all) 14 c.put_place-5.new.into) = put_part (place_numbers c.args.r.components.ciphertext []) _ refl (wrote-5) refl
+    let wrote-6 : (let all = numbers (reading_of c.args.r) in Writing 0 all c.args.into.now (drop 14 all) 14 c.put_place-5.new.into) = put_part (place_numbers (reading_of c.args.r).components.ciphertext []) _ refl (wrote-5) refl
     c.put_place-5.ensures in
-    let wrote : (let all = numbers c.args.r in Writing 0 all c.args.into.now (drop 16 all) 16 c.put_place-6.new.into) = put_part (place_numbers c.args.r.components.tag []) _ refl (wrote-6) refl
+    let wrote : (let all = numbers (reading_of c.args.r) in Writing 0 all c.args.into.now (drop 16 all) 16 c.put_place-6.new.into) = put_part (place_numbers (reading_of c.args.r).components.tag []) _ refl (wrote-6) refl
     c.put_place-6.ensures in
     done (put _ 18 refl (put _ 17 refl (wrote)))

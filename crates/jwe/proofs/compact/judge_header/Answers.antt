@@ -10,7 +10,7 @@ use Rattle.prelude.specs.Any.{any}
 use Rattle.rows.specs.Rows.{Entry, read_texts}
 use Rattle.rows.specs.Tables.{entries_of}
 use Rattle.rows.specs.Inner.Prints.{collected_table, Printed}
-use Rattle.rows.proofs.Printing.{entries_stand}
+use Rattle.rows.proofs.Printing.{entries_stand, printed_at}
 use Rattle.jose.specs.Registered.{registered}
 use Rattle.prelude.specs.Refusals.{first, stage_of, as_stage, number_of}
 use Rattle.jose.specs.declared.Sizes.{Sizes}
@@ -122,8 +122,8 @@ returns-in_err-count c =
     c.args.text.now _ c.args.table.now _ text.same
     (ap length (entries-left) ∙ table_length _ _ _ (omega (arith, c.requires.header_table_in_bounds)))
 
-pub slice_bounds-judge-end : goal.slice_bounds-judge-end
-slice_bounds-judge-end c =
+pub slice_bounds-texts-end : goal.slice_bounds-texts-end
+slice_bounds-texts-end c =
     let header_is : header_text (c.args.message.now) (place_of c.args.q.protected) ≡ header (c.args.message.now) = ap (λ (q : Components). header_text (c.args.message.now) (place_of q.protected)) c.requires.q_value in
     let text-answer : (let h = header (c.args.message.now) in (as_stage c.header.result) ≡ stage_of (first (text_order h)) (length h)) = c.header.ensures.value
     ∙ ap (λ (h : List ℕ). stage_of (first (text_order h)) (length h)) (header_is) in
@@ -134,8 +134,8 @@ slice_bounds-judge-end c =
     (sym (ap as_stage c.in_ok-n.was) ∙ text-answer) (text-left) in
     (read).fits
 
-pub slice_bounds-judge-end-2 : goal.slice_bounds-judge-end-2
-slice_bounds-judge-end-2 c =
+pub slice_bounds-texts-end-2 : goal.slice_bounds-texts-end-2
+slice_bounds-texts-end-2 c =
     let header_is : header_text (c.args.message.now) (place_of c.args.q.protected) ≡ header (c.args.message.now) = ap (λ (q : Components). header_text (c.args.message.now) (place_of q.protected)) c.requires.q_value in
     let text-answer : (let h = header (c.args.message.now) in (as_stage c.header.result) ≡ stage_of (first (text_order h)) (length h)) = c.header.ensures.value
     ∙ ap (λ (h : List ℕ). stage_of (first (text_order h)) (length h)) (header_is) in
@@ -146,9 +146,9 @@ slice_bounds-judge-end-2 c =
     (sym (ap as_stage c.in_ok-n.was) ∙ text-answer) (text-left) in
     let r = read in r.size ∙ sym (ap length r.front)
 
-pub judge-requires : goal.judge-requires
+pub invariant_of-entries : goal.invariant_of-entries
 unfolding protected_entries
-judge-requires c =
+invariant_of-entries c =
     let header_is : header_text (c.args.message.now) (place_of c.args.q.protected) ≡ header (c.args.message.now) = ap (λ (q : Components). header_text (c.args.message.now) (place_of q.protected)) c.requires.q_value in
     let text-answer : (let h = header (c.args.message.now) in (as_stage c.header.result) ≡ stage_of (first (text_order h)) (length h)) = c.header.ensures.value
     ∙ ap (λ (h : List ℕ). stage_of (first (text_order h)) (length h)) (header_is) in
@@ -179,11 +179,43 @@ judge-requires c =
     let text = read in
     let count = c.in_ok-count.count in
     let after = c.protected_entries.new.table in
-    record {
-      known_value = c.requires.known_value;
-      width_in_bounds = (kept).fits;
-      printed = subst (λ (h : List ℕ). Printed (read_texts h m) count after) (sym text.front) (printed);
-    }
+    record { fits = (kept).fits }
+
+pub invariant_of-only : goal.invariant_of-only
+unfolding protected_entries
+invariant_of-only c =
+    let header_is : header_text (c.args.message.now) (place_of c.args.q.protected) ≡ header (c.args.message.now) = ap (λ (q : Components). header_text (c.args.message.now) (place_of q.protected)) c.requires.q_value in
+    let text-answer : (let h = header (c.args.message.now) in (as_stage c.header.result) ≡ stage_of (first (text_order h)) (length h)) = c.header.ensures.value
+    ∙ ap (λ (h : List ℕ). stage_of (first (text_order h)) (length h)) (header_is) in
+    let text-left : c.header.new.buffer ≡ header_buffer (header (c.args.message.now)) c.args.text.now = c.header.ensures.buffer_after
+    ∙ ap (λ (h : List ℕ). header_buffer h c.args.text.now) (header_is) in
+    let read : Read (header (c.args.message.now)) c.args.text.now c.header.new.buffer
+    c.in_ok-n.n = read_passed (header (c.args.message.now)) c.args.text.now _ _ c.requires.text_len
+    (sym (ap as_stage c.in_ok-n.was) ∙ text-answer) (text-left) in
+    let entries-answer : (let m = c.args.message.now in
+    (as_stage c.protected_entries.result) ≡ stage_of (first (object_order (header m) (entries m))) (length (entries m))) = c.protected_entries.ensures.value
+    ∙ ap (λ (h : List ℕ). stage_of (first (object_order h (protected_entries h))) (length (protected_entries h)))
+    (read).front in
+    let entries-left : c.protected_entries.new.table
+    ≡ collected_table 0 (header (c.args.message.now)) (entries (c.args.message.now)) c.args.table.now = c.protected_entries.ensures.table_after
+    ∙ ap
+    (λ (h : List ℕ). collected_table 0 h (protected_entries h) c.args.table.now)
+    (read).front in
+    let kept : Kept (header (c.args.message.now)) (entries (c.args.message.now)) c.args.table.now
+    c.protected_entries.new.table c.in_ok-count.count = kept_passed (header (c.args.message.now)) (entries (c.args.message.now)) c.args.table.now _ _
+    (omega (arith, c.requires.header_table_in_bounds))
+    (sym (ap as_stage c.in_ok-count.was) ∙ entries-answer) (entries-left) in
+    let printed : (let m = c.args.message.now in
+    Printed (read_texts (header m) m) c.in_ok-count.count
+    c.protected_entries.new.table) = (let m = c.args.message.now in
+    let ts = read_texts (header m) m in
+    kept_printed ts (kept) (entries_stand registered ts (header m) 0 (outermost (header m)) refl)) in
+    let m = c.args.message.now in
+    let text = read in
+    let count = c.in_ok-count.count in
+    let after = c.protected_entries.new.table in
+    let prints = subst (λ (h : List ℕ). Printed (read_texts h m) count after) (sym text.front) printed in
+    record { printed = λ i below. printed_at _ i _ _ below prints }
 
 pub shape_of-text-in_err-mode : goal.shape_of-text-in_err-mode
 shape_of-text-in_err-mode c =

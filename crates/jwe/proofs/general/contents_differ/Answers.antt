@@ -5,7 +5,8 @@ use native.Mathlib.Omega.{arith}
 use Rattle.prelude.specs.Any.{any}
 use Rattle.jose.specs.ContentAlgorithm.{differ}
 use Rattle.jose.specs.Inner.Content.{shown_in}
-use Rattle.jose.specs.declared.content.Named.{Named}
+use Rattle.std.specs.Prelude.{Option}
+use Rattle.prelude.specs.declared.Place.{Place}
 use Rattle.jwe.specs.Inner.Stages.{own_content, own_contents}
 use Rattle.jwe.proofs.Contents.{same_turn, other_found, all_same, with_one, with_none}
 use Rattle.jwe.proofs.general.contents_differ.Goals as goal
@@ -32,7 +33,7 @@ loop-k-init c =
     let counts = args.counts.now in
     let all : args.number - 0 ≡ args.number = omega arith in (
       omega arith,
-      ap₂ (λ (x : Named) (n : ℕ). any (differ (shown_in message x)) (own_contents message own counts 0 n))
+      ap₂ (λ (x : Option Place) (n : ℕ). any (differ (shown_in message x)) (own_contents message own counts 0 n))
           c.own_content-asked.ensures all
           ∙ with_one message own counts args.number args.with c.if-number-with.false,
     )
@@ -55,7 +56,7 @@ returns-then-differ c =
     let message = args.message.now in
     let asked = c.own_content-asked.result in
     sym (c.differ.ensures
-    ∙ ap (λ (x : Named). differ (shown_in message asked) (shown_in message x)) c.own_content-other.ensures)) in
+    ∙ ap (λ (x : Option Place). differ (shown_in message asked) (shown_in message x)) c.own_content-other.ensures)) in
     let args = c.args in
     other_found args.message.now args.own.now args.counts.now
     (shown_in args.message.now c.own_content-asked.result) _ args.number c.loop-k.k c.loop-k.invariant.1
@@ -70,7 +71,7 @@ loop-k-preserved c =
     let message = args.message.now in
     let asked = c.own_content-asked.result in
     sym (c.differ.ensures
-    ∙ ap (λ (x : Named). differ (shown_in message asked) (shown_in message x)) c.own_content-other.ensures)) in
+    ∙ ap (λ (x : Option Place). differ (shown_in message asked) (shown_in message x)) c.own_content-other.ensures)) in
     let args = c.args in (
       omega arith,
       same_turn args.message.now args.own.now args.counts.now

@@ -29,12 +29,12 @@ gather-parameters-requires c =
       header_table_in_bounds = omega (arith, c.requires.holds.common.few, c.requires.table_len);
     }
 
-pub slice_bounds-mode-end : goal.slice_bounds-mode-end
-slice_bounds-mode-end c =
+pub slice_bounds-texts-end : goal.slice_bounds-texts-end
+slice_bounds-texts-end c =
     sym (length-take-le _ _ (omega (arith, c.requires.holds.fits, c.requires.text_len)))
 
-pub mode-requires : goal.mode-requires
-mode-requires c =
+pub invariant_of-entries : goal.invariant_of-entries
+invariant_of-entries c =
     let share : (let args = c.args in
     HoldsShare args.message.now ((json_held args.message.now).share args.i) args.of.now args.own.now
     args.counts.now args.i) = c.requires.holds.share c.args.i c.requires.i_lt_recipients in
@@ -43,7 +43,7 @@ mode-requires c =
     c.gather-parameters.new.table) = (let args = c.args in
     gathers_json args.message.now (holding_of args.has) args.of.now args.own.now args.counts.now args.i _
     args.table.now _ (share) c.requires.holds.common c.requires.table_len c.gather-parameters.ensures.value c.gather-parameters.ensures.table_after) in
-    (gathered).few
+    record { fits = (gathered).few }
 
 pub key-requires : goal.key-requires
 key-requires c =

@@ -44,6 +44,16 @@ returns-in_err-count c =
     holds_handed m _ _ _ (json_top m (names args.known.now) 0 told.0 told.1) told.1 _ _ _ _ _ _
     (hands_up_holding _ _ c.in_err-count.was _ c.from_residual.ensures.1) refusal
 
+pub invariant_of-members : goal.invariant_of-members
+invariant_of-members c =
+    let tops : (let m = c.args.message.now in
+    (first (top_order m) ≡ 0) × ((c.in_ok-count.count ≤ 32) × ((entries_of c.in_ok-count.count c.top.new.table) ≡ top_entries m))) = (let m = c.args.message.now in
+    let told = sym (ap as_stage c.in_ok-count.was) ∙ c.top.ensures.value in
+    let passed = passed_is _ (first (top_order m)) (length (top_entries m)) told in
+    top_is m (replicate 256 0) c.top.new.table _ told
+    (c.top.ensures.table_after ∙ top_written m (replicate 256 0) passed.0)) in
+    record { fits = omega (arith, (tops).1.0, c.top.auto.table) }
+
 pub recipients-requires : goal.recipients-requires
 recipients-requires c =
     let tops : (let m = c.args.message.now in
@@ -55,10 +65,9 @@ recipients-requires c =
     let top = tops in
     record {
       message_len_bound = c.requires.message_len_bound;
-      width_in_bounds = omega (arith, top.1.0, c.top.auto.table);
       recipients_room_in_bounds = omega (arith, c.requires.of_len);
       message_value = top.0;
-      table_value = top.1.1;
+      members_value = top.1.1;
     }
 
 pub shape_of-of-in_err-number : goal.shape_of-of-in_err-number
@@ -82,16 +91,6 @@ returns-in_err-number c =
     holds_handed m _ _ _
     (json_elements m (names args.known.now) 0 top.0 (sym (elements_as m (top_entries m) fs top.1.1) ∙ told.0) told.1)
     told.1 _ _ _ _ _ _ (hands_up_holding _ _ c.in_err-number.was _ c.from_residual-in_err-number.ensures.1) refusal
-
-pub held-top-requires : goal.held-top-requires
-held-top-requires c =
-    let tops : (let m = c.args.message.now in
-    (first (top_order m) ≡ 0) × ((c.in_ok-count.count ≤ 32) × ((entries_of c.in_ok-count.count c.top.new.table) ≡ top_entries m))) = (let m = c.args.message.now in
-    let told = sym (ap as_stage c.in_ok-count.was) ∙ c.top.ensures.value in
-    let passed = passed_is _ (first (top_order m)) (length (top_entries m)) told in
-    top_is m (replicate 256 0) c.top.new.table _ told
-    (c.top.ensures.table_after ∙ top_written m (replicate 256 0) passed.0)) in
-    omega (arith, (tops).1.0, c.top.auto.table)
 
 pub misspelled-requires : goal.misspelled-requires
 misspelled-requires c =

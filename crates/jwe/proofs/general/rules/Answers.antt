@@ -27,6 +27,7 @@ use Rattle.jwe.proofs.RecipientRows.{one_passes, one_refuses, all_pass}
 use Rattle.jwe.proofs.OwnHeaders.{gathered, gathered_length, gathered_room, gathered_front}
 use Rattle.jwe.proofs.OwnHeaders.{gathered_printed, gathered_kept, own_stands}
 use Rattle.jwe.proofs.general.rules.Invariants.{tests}
+use Rattle.rows.proofs.Printing.{printed_at}
 use Rattle.prelude.proofs.Exits.{exit_refused}
 use Rattle.jwe.proofs.general.rules.Goals as goal
 
@@ -50,8 +51,8 @@ gather-count-requires c =
       header_table_in_bounds = omega (arith, c.loop-i.invariant.1.0, c.requires.header_table_in_bounds);
     }
 
-pub judge-requires : goal.judge-requires
-judge-requires c =
+pub invariant_of-entries : goal.invariant_of-entries
+invariant_of-entries c =
     let copied : (let args = c.args in
     let last = c.gather-count.new.table in
     (entries_of c.gather-count.result last ≡ (entries_of c.args.front c.args.table.now) ++ own_entries args.message.now ((recipient_at (drop (c.loop-i.i * recipient_width) c.args.of.now))))
@@ -90,11 +91,49 @@ judge-requires c =
       ),
     )) in
     let has = copied in
-    record {
-      known_value = c.requires.known_value;
-      width_in_bounds = has.1.0;
-      printed = has.1.1.1.1.0;
-    }
+    record { fits = has.1.0 }
+
+pub invariant_of-all : goal.invariant_of-all
+invariant_of-all c =
+    let copied : (let args = c.args in
+    let last = c.gather-count.new.table in
+    (entries_of c.gather-count.result last ≡ (entries_of c.args.front c.args.table.now) ++ own_entries args.message.now ((recipient_at (drop (c.loop-i.i * recipient_width) c.args.of.now))))
+    × ((c.gather-count.result * width ≤ length last)
+    × ((length last ≡ length args.table.now)
+    × ((entries_of args.front last ≡ (entries_of c.args.front c.args.table.now))
+    × (Printed (read_texts args.header.now args.message.now) c.gather-count.result last
+    × Printed (read_texts args.header.now args.message.now) args.front last))))) = (let args = c.args in
+    let message = args.message.now in
+    let of = args.of.now in
+    let o = c.requires.owned c.loop-i.i c.loop-i-test.true in
+    let fits : args.front * width + 256 ≤ length c.loop-i.table =
+    omega (arith, c.loop-i.invariant.1.0, c.requires.header_table_in_bounds) in
+    let own = args.own.now in
+    let counts = args.counts.now in
+    let same = c.loop-i.invariant.1.1.0 in
+    let prints = c.loop-i.invariant.1.1.1.0 in (
+      gathered message own counts _ c.loop-i.i args.front _ c.loop-i.table _ o fits c.gather-count.ensures.value c.gather-count.ensures.table_after
+          ∙ ap (λ (l : List Entry). l ++ own_entries message ((recipient_at (drop (c.loop-i.i * recipient_width) c.args.of.now)))) same,
+      (
+        gathered_room message own counts _ c.loop-i.i args.front _ c.loop-i.table _ o fits c.gather-count.ensures.value c.gather-count.ensures.table_after,
+        (
+          gathered_length message own counts _ c.loop-i.i args.front _ c.loop-i.table _ o fits c.gather-count.ensures.value c.gather-count.ensures.table_after
+              ∙ c.loop-i.invariant.1.0,
+          (
+            gathered_front message own counts _ c.loop-i.i args.front _ c.loop-i.table _ o fits c.gather-count.ensures.value c.gather-count.ensures.table_after
+                ∙ same,
+            (
+              gathered_printed message own counts _ c.loop-i.i args.front _ c.loop-i.table _ o fits c.gather-count.ensures.value c.gather-count.ensures.table_after
+                  (read_texts args.header.now message) prints (own_stands message of c.loop-i.i args.header.now),
+              gathered_kept message own counts _ c.loop-i.i args.front _ c.loop-i.table _ o fits c.gather-count.ensures.value c.gather-count.ensures.table_after
+                  (read_texts args.header.now message) prints,
+            ),
+          ),
+        ),
+      ),
+    )) in
+    let has = copied in
+    record { printed = λ i below. printed_at _ i _ _ below has.1.1.1.1.0 }
 
 pub shape_of-table-in_err-judge : goal.shape_of-table-in_err-judge
 shape_of-table-in_err-judge c =
