@@ -5,6 +5,8 @@ use mathlib.Core.List.{List, []}
 use mathlib.Core.Logic.{◌⊎◌, inl, inr}
 use Prim.Native.Nat.{ℕ, ◌*◌, ◌≤◌, ◌<◌}
 use native.Mathlib.Omega.{arith}
+use Rattle.std.specs.Prelude.{Option, Result, Ok, Err}
+use Rattle.std.specs.Result.{result_err}
 use lib.ListN.{length, take}
 use lib.Dec.{eqb, leb}
 use borrow.Author.Tests.{le-leb, lt-leb, ne_eqb}
@@ -15,13 +17,15 @@ use Rattle.shape.specs.Inner.Answers.{recipients_room}
 use Rattle.jwe.specs.Judge.{held}
 use Rattle.jwe.specs.Inner.Stages.{own_table}
 use Rattle.jwe.specs.Inner.Holding.{Holds}
-use Rattle.jwe.specs.Answers.{Holding}
+use Rattle.jwe.specs.Answers.{holding_of, as_holding}
+use Rattle.jwe.specs.declared.Holding.{Holding}
 use Rattle.parameters.specs.Lines.{Line, line_width, laid}
 use Rattle.differences.specs.Differences.{compared, differences}
-use Rattle.differences.specs.Answers.{refusal_of, both_accepted, holds_all, compare_number, shown_lines, answer_of, Compares}
+use Rattle.differences.specs.Answers.{refusal_of, both_accepted, holds_all, compare_number, shown_lines, Answer, answer_of, refusal_number, as_answer, Compares}
 use Rattle.differences.specs.Inner.Holding.{Judges, Fronted}
 use Rattle.differences.specs.Inner.Handing.{Answers}
-use Rattle.differences.specs.declared.Answer.{Answer}
+use Rattle.differences.specs.declared.Unanswered.TheVariants.{Refused}
+use Rattle.prelude.specs.declared.refusal.Refusal.{Refusal}
 
 -- Where both are accepted: the list is too short, or holds all.
 module _ (ls : List Line) (before : List ℕ) where
@@ -82,12 +86,24 @@ module _ (left right known before : List ℕ) where
       and_no true = refl
       and_no false = refl
 
-  pub compares_refused : (m n : ℕ) (r : Answer) → m ≡ refusal_of left known → n ≡ refusal_of right known →
-      ((m ≡ 0 → ⊥) ⊎ (n ≡ 0 → ⊥)) → r ≡ answer_of 0 m n 0 → Compares left right known before r before
-  compares_refused m n r e f h is =
+  err_number : (x : Result Holding Refusal) → refusal_number (result_err x) ≡ (as_holding x).number
+  err_number (Ok h) = refl
+  err_number (Err e) = refl
+
+  pub compares_refused : (l r : Result Holding Refusal) {a b : Option Refusal} → (as_holding l).number ≡ refusal_of left known →
+      (as_holding r).number ≡ refusal_of right known → a ≡ result_err l → b ≡ result_err r →
+      ((0 < (as_holding l).number) ⊎ (0 < (as_holding r).number)) → Compares left right known before (as_answer (Err (Refused a b))) before
+  compares_refused l r {a} {b} e f p q h =
+      let m : refusal_number a ≡ refusal_of left known = ap refusal_number p ∙ err_number l ∙ e in
+      let n : refusal_number b ≡ refusal_of right known = ap refusal_number q ∙ err_number r ∙ f in
       let gone : both_accepted left right known ≡ false =
-      sym (ap₂ (λ (x y : ℕ). eqb x 0 && eqb y 0) e f) ∙ not_both m n h in
-      subst (λ (x : Answer). Compares left right known before x before) (sym (is ∙ ap₂ (λ (x y : ℕ). answer_of 0 x y 0) e f)) (refused_both gone)
+      sym (ap₂ (λ (x y : ℕ). eqb x 0 && eqb y 0) e f) ∙ not_both (as_holding l).number (as_holding r).number (above h) in
+      subst (λ (x : Answer). Compares left right known before x before) (sym (ap₂ (λ (x y : ℕ). answer_of 0 x y 0) m n)) (refused_both gone)
+    where
+      above : ((0 < (as_holding l).number) ⊎ (0 < (as_holding r).number)) →
+          (((as_holding l).number ≡ 0 → ⊥) ⊎ ((as_holding r).number ≡ 0 → ⊥))
+      above (inl k) = inl (λ z. omega arith)
+      above (inr k) = inr (λ z. omega arith)
 
   pub compares_accepted : (m n : ℕ) (r : Answer) (after : List ℕ) → m ≡ refusal_of left known → n ≡ refusal_of right known → m ≡ 0 →
       n ≡ 0 → Answers ls before r after → Compares left right known before r after
@@ -106,7 +122,7 @@ module _ (left right known before : List ℕ) where
 -- A message as `hold` leaves it, and its table.
 
 pub judged : (message : List ℕ) (x : Holding) (text table of own counts : List ℕ) →
-    Holds message (held message) x text table of own counts → length of ≡ recipients_room → length own ≡ own_table →
+    Holds message (held message) (holding_of x) text table of own counts → length of ≡ recipients_room → length own ≡ own_table →
     length counts ≡ most_recipients → Judges message (take x.header text) x of own counts
 judged message x text table of own counts h o w k = record {
   decoded = h.header;
@@ -121,5 +137,5 @@ judged message x text table of own counts h o w k = record {
 }
 
 pub fronted : (message : List ℕ) (x : Holding) (text table of own counts : List ℕ) →
-    Holds message (held message) x text table of own counts → length table ≡ recipient_table → Fronted message x.common table
+    Holds message (held message) (holding_of x) text table of own counts → length table ≡ recipient_table → Fronted message x.common table
 fronted message x text table of own counts h t = record { front = h.common; long = t }

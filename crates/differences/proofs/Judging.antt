@@ -1,5 +1,5 @@
 -- What is known of a message that has been judged serves a side: its entries read, and have the fingerprints of their names.
-use Rattle.std.proofs.Common.{◌≡◌, sym, subst, List, ◌++◌, ℕ}
+use Rattle.std.proofs.Common.{◌≡◌, sym, subst, List, ℕ}
 use Rattle.rows.specs.Rows.{Entry, read_texts}
 use Rattle.rows.specs.Tables.{entries_of}
 use Rattle.rows.specs.Inner.Prints.{Printed}

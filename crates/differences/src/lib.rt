@@ -14,7 +14,7 @@ ghost use Rattle.parameters.specs.Inner.Kept.{Keeps};
 ghost use Rattle.differences.specs.Differences.{compared, texts_of, whole, up_to, message_lines, key_lines, recipient_lines, differences};
 ghost use Rattle.differences.specs.Inner.Holding.{Fronted};
 ghost use Rattle.differences.specs.Inner.Handing.{Answers};
-ghost use Rattle.differences.specs.Answers.{answer_of, Compares};
+ghost use Rattle.differences.specs.Answers.{as_answer, Compares};
 
 use jwe::held;
 use message::Judged;
@@ -22,29 +22,19 @@ use parameters::Kept;
 use parameters::lines::{self, Kind, Lines, missing};
 use prelude::Place;
 use prelude::limits::{HEADER_ROOM, MOST_RECIPIENTS};
+use prelude::refusal::Refusal;
 use rows::layout;
 
 mod message;
 
-// The own number, 1 where the list is too short; the refusal of either message, 0 where it is accepted; how many lines there are.
-#[derive(Clone, Copy)]
-pub struct Answer {
-    pub number: u32,
-    pub left: u32,
-    pub right: u32,
-    pub lines: usize,
-}
-
-// The answer where a message is refused.
-fn refused(left: u32, right: u32) -> Answer
-    ensures { result ≡ answer_of 0 left right 0 }
-{
-    Answer {
-        number: 0,
-        left,
-        right,
-        lines: 0,
-    }
+// Why no lines are given: a message is refused, or both, or the list is too short.
+#[derive(Clone, Copy, Debug, PartialEq, Eq)]
+pub enum Unanswered {
+    Refused {
+        left: Option<Refusal>,
+        right: Option<Refusal>,
+    },
+    ShortOutput,
 }
 
 // Whether what stands at two places is spelled otherwise.
@@ -75,11 +65,23 @@ fn put_message(left: &Judged<'_>, right: &Judged<'_>, lines: &mut Lines)
     let (l, r) = (left.message, right.message);
     let (q, p) = (left.holds.components, right.holds.components);
     put_whole(left.holds.form != right.holds.form, Kind::Form, lines);
-    put_whole(left.holds.recipients != right.holds.recipients, Kind::Recipients, lines);
-    put_whole(!prelude::equal(left.header, right.header), Kind::Header, lines);
+    put_whole(
+        left.holds.recipients != right.holds.recipients,
+        Kind::Recipients,
+        lines,
+    );
+    put_whole(
+        !prelude::equal(left.header, right.header),
+        Kind::Header,
+        lines,
+    );
     put_whole(other(l, q.iv, r, p.iv), Kind::Iv, lines);
     put_whole(other(l, q.aad, r, p.aad), Kind::Aad, lines);
-    put_whole(other(l, q.ciphertext, r, p.ciphertext), Kind::Ciphertext, lines);
+    put_whole(
+        other(l, q.ciphertext, r, p.ciphertext),
+        Kind::Ciphertext,
+        lines,
+    );
     put_whole(other(l, q.tag, r, p.tag), Kind::Tag, lines);
 }
 
@@ -152,46 +154,51 @@ fn put_all(
     let both = left.holds.recipients.min(right.holds.recipients);
     put_message(left, right, lines);
     put_keys(left, right, both, lines);
-    put_parameters(left, left_table, right, right_table, both, &kept, lines, work);
+    put_parameters(
+        left,
+        left_table,
+        right,
+        right_table,
+        both,
+        &kept,
+        lines,
+        work,
+    );
 }
 
-// The answer where both messages are accepted: the lines are copied to the list where it holds them all.
+// How many lines there are where both messages are accepted: they are copied to the list where it holds them all.
 fn hand_out(
     left: &Judged<'_>,
     left_table: &mut [u32],
     right: &Judged<'_>,
     right_table: &mut [u32],
     list: &mut [u32],
-) -> Answer
+) -> Result<usize, Unanswered>
     requires fronted { Fronted left.now.message.now left.now.holds.common left_table.old }
     requires fronted_2 { Fronted right.now.message.now right.now.holds.common right_table.old }
-    ensures { Answers (differences (compared left.now.message.now) (compared right.now.message.now)) list.old result list.new }
+    ensures { Answers (differences (compared left.now.message.now) (compared right.now.message.now)) list.old (as_answer result) list.new }
 {
     let mut lines = Lines::new();
     let mut work = [0u32; same::WORK_ROOM];
     put_all(left, left_table, right, right_table, &mut lines, &mut work);
     let count = lines.len();
     if list.len() < count * lines::WIDTH {
-        return Answer {
-            number: 1,
-            left: 0,
-            right: 0,
-            lines: 0,
-        };
+        return Err(Unanswered::ShortOutput);
     }
     lines.hand_out(list);
-    Answer {
-        number: 0,
-        left: 0,
-        right: 0,
-        lines: count,
-    }
+    Ok(count)
 }
 
-// What differs between two messages. `known` lists the extension names that the caller knows. Both are judged as for recipient 0. Where both
-// are accepted and the list holds all lines, it begins with them, eight numbers each, and its rest is unchanged; elsewhere all of it is.
-pub fn compare(left: &[u8], right: &[u8], known: &[u8], list: &mut [u32]) -> Answer
-    ensures { Compares left.now right.now known.now list.old result list.new }
+// What differs between two messages: how many lines there are. `known` lists the extension names that the caller knows. Both are judged as
+// for recipient 0. Where both are accepted and the list holds all lines, it begins with them, eight numbers each, and its rest is
+// unchanged; elsewhere all of it is.
+pub fn compare(
+    left: &[u8],
+    right: &[u8],
+    known: &[u8],
+    list: &mut [u32],
+) -> Result<usize, Unanswered>
+    ensures { Compares left.now right.now known.now list.old (as_answer result) list.new }
 {
     let mut left_text = [0u8; HEADER_ROOM];
     let mut left_table = [0u32; layout::RECIPIENT_TABLE];
@@ -221,27 +228,37 @@ pub fn compare(left: &[u8], right: &[u8], known: &[u8], list: &mut [u32]) -> Ans
         &mut right_own,
         &mut right_counts,
     );
-    if l.number != 0 {
-        return refused(l.number, r.number);
-    }
-    if r.number != 0 {
-        return refused(0, r.number);
-    }
+    let refused = Unanswered::Refused {
+        left: l.err(),
+        right: r.err(),
+    };
+    let Ok(mine) = l else {
+        return Err(refused);
+    };
+    let Ok(yours) = r else {
+        return Err(refused);
+    };
     let mine = Judged {
         message: left,
-        header: &left_text[..l.header],
-        holds: l,
+        header: &left_text[..mine.header],
+        holds: mine,
         of: &left_of,
         own: &left_own,
         counts: &left_counts,
     };
     let yours = Judged {
         message: right,
-        header: &right_text[..r.header],
-        holds: r,
+        header: &right_text[..yours.header],
+        holds: yours,
         of: &right_of,
         own: &right_own,
         counts: &right_counts,
     };
-    hand_out(&mine, &mut left_table, &yours, &mut right_table, list)
+    hand_out(
+        &mine,
+        &mut left_table,
+        &yours,
+        &mut right_table,
+        list,
+    )
 }

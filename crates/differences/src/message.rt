@@ -1,5 +1,5 @@
 // One of the two messages that are compared, as `jwe::hold` leaves it. Beside it goes a table that begins with the parameters that are all
-// recipients', and behind which each recipient's own are put in turn.
+// recipients', and behind which each recipient's own are put in turn: it is no field, since no ghost field can stand beside a `&mut`.
 ghost use Rattle.differences.specs.Inner.Holding.{Judges, judges_prop};
 
 use jwe::{Holding, held};

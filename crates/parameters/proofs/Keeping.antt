@@ -1,6 +1,6 @@
 -- What was kept of the entries that are all recipients' serves each recipient: a partner among the first entries is the partner among
 -- all, and where there is none, it is among the others.
-use Rattle.std.proofs.Common.{◌≡◌, refl, ap, sym, ◌∙◌, subst, Bool, true, false, not, ◌||◌, List, ◌++◌, Option, None, Some, IfSome, ℕ, ◌-◌, ◌*◌, ◌+◌, ◌≤◌, ◌<◌, length, drop, arith}
+use Rattle.std.proofs.Common.{◌≡◌, refl, ap, sym, ◌∙◌, subst, Bool, true, false, not, ◌||◌, List, ◌++◌, Option, None, Some, IfSome, ℕ, ◌-◌, ◌+◌, ◌≤◌, ◌<◌, length, drop, arith}
 use Rattle.std.specs.Option.{is_some}
 use mathlib.Core.Option as lists
 use Rattle.grammar.specs.Places.{Element}

@@ -1,5 +1,5 @@
 -- Lines laid flat, one after the other.
-use Rattle.std.proofs.Common.{◌≡◌, refl, ap, sym, ◌∙◌, List, [], ◌∷◌, ◌++◌, append_assoc, append-nil, ℕ, ◌+◌, ◌*◌, ◌≤◌, ◌<◌, map, length, take, get_or, length-append, take-suc, add-one, arith}
+use Rattle.std.proofs.Common.{◌≡◌, refl, ap, sym, ◌∙◌, List, [], ◌∷◌, ◌++◌, append-nil, ℕ, ◌+◌, ◌*◌, ◌≤◌, ◌<◌, map, length, take, get_or, length-append, take-suc, add-one, arith}
 use Rattle.std.proofs.lemmas.List.{map-append, length-map}
 use lib.Seq.{length-take-le}
 use Rattle.prelude.specs.Buffer.{written}

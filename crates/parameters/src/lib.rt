@@ -23,16 +23,16 @@ pub mod lines;
 
 // The number of a parameter's partner on the other side, and whether their values differ.
 #[derive(Clone, Copy)]
-pub struct Pair {
-    pub at: usize,
-    pub other: bool,
+struct Pair {
+    at: usize,
+    other: bool,
 }
 
 // What is kept of the parameters that are all recipients': the partners of those on the left, and which of those on the right have one.
 #[derive(Drop)]
 pub struct Kept {
-    pub pairs: [Option<Pair>; 2 * MOST_MEMBERS],
-    pub paired: [bool; 2 * MOST_MEMBERS],
+    pairs: [Option<Pair>; 2 * MOST_MEMBERS],
+    paired: [bool; 2 * MOST_MEMBERS],
 }
 
 // The side of an entry in a line.
@@ -49,7 +49,13 @@ fn half(side: &Side<'_, '_>, i: usize) -> Half
 }
 
 // The pair of entry i on the left, whose partner is sought from an entry on.
-fn find(left: &Side<'_, '_>, i: usize, right: &Side<'_, '_>, from: usize, work: &mut [u32]) -> Option<Pair>
+fn find(
+    left: &Side<'_, '_>,
+    i: usize,
+    right: &Side<'_, '_>,
+    from: usize,
+    work: &mut [u32],
+) -> Option<Pair>
     requires i_lt_count { i < left.now.count }
     requires from_le_count { from ≤ right.now.count }
     requires work_room_in_bounds { work_room ≤ length work.old }
@@ -82,7 +88,13 @@ pub fn keep(left: &Side<'_, '_>, right: &Side<'_, '_>, work: &mut [u32]) -> Kept
 
 // The pair of entry i on the left. Of one that is all recipients' a partner among those on the right is kept; else its partner is among
 // the recipient's own.
-fn pair_of(left: &Side<'_, '_>, i: usize, right: &Side<'_, '_>, kept: &Kept, work: &mut [u32]) -> Option<Pair>
+fn pair_of(
+    left: &Side<'_, '_>,
+    i: usize,
+    right: &Side<'_, '_>,
+    kept: &Kept,
+    work: &mut [u32],
+) -> Option<Pair>
     requires i_lt_count { i < left.now.count }
     requires keeps { Keeps (texts left.now) (texts right.now) (common left.now) (common right.now) kept.now }
     requires work_room_in_bounds { work_room ≤ length work.old }
@@ -98,7 +110,14 @@ fn pair_of(left: &Side<'_, '_>, i: usize, right: &Side<'_, '_>, kept: &Kept, wor
 }
 
 // The lines of entry i on the left and of its partner, if it has one.
-fn put_pair(left: &Side<'_, '_>, i: usize, right: &Side<'_, '_>, pair: Option<Pair>, recipient: u32, lines: &mut Lines)
+fn put_pair(
+    left: &Side<'_, '_>,
+    i: usize,
+    right: &Side<'_, '_>,
+    pair: Option<Pair>,
+    recipient: u32,
+    lines: &mut Lines,
+)
     requires i_lt_count { i < left.now.count }
     requires pair_in_bounds { IfSome pair (λ p. p.at < right.now.count) }
     requires room { length lines.old + 2 ≤ most_lines }
@@ -129,7 +148,14 @@ fn has_partner(left: &Side<'_, '_>, right: &Side<'_, '_>, j: usize, kept: &Kept)
 }
 
 // The lines of a recipient's parameters, put behind the first ones.
-pub fn put_recipient(left: &Side<'_, '_>, right: &Side<'_, '_>, kept: &Kept, recipient: u32, lines: &mut Lines, work: &mut [u32])
+pub fn put_recipient(
+    left: &Side<'_, '_>,
+    right: &Side<'_, '_>,
+    kept: &Kept,
+    recipient: u32,
+    lines: &mut Lines,
+    work: &mut [u32],
+)
     requires keeps { Keeps (texts left.now) (texts right.now) (common left.now) (common right.now) kept.now }
     requires room { length lines.old + (2 * left.now.count + right.now.count) ≤ most_lines }
     requires work_room_in_bounds { work_room ≤ length work.old }

@@ -1,7 +1,6 @@
 -- `hand_out` puts all lines, and copies them where the list holds them.
-use Rattle.std.proofs.Common.{◌≡◌, ap, ◌∙◌, ◌++◌, List, ◌<◌, ◌≤◌, ◌*◌, length, subst, arith}
-use Rattle.prelude.specs.Buffer.{written}
-use Rattle.parameters.specs.Lines.{Line, line_width, laid}
+use Rattle.std.proofs.Common.{◌≡◌, ap, ◌∙◌, ◌++◌, List, length, arith}
+use Rattle.parameters.specs.Lines.{Line}
 use Rattle.differences.specs.Differences.{compared, differences}
 use Rattle.differences.proofs.Answering.{answers_short, answers_all}
 use Rattle.differences.proofs.hand_out.Goals as goal

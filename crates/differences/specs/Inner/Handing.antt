@@ -2,7 +2,7 @@
 use Rattle.std.specs.Prelude.{◌≡◌, cond, List, [], ℕ, ◌*◌, length, leb}
 use Rattle.prelude.specs.Buffer.{written}
 use Rattle.parameters.specs.Lines.{Line, line_width, laid}
-use Rattle.differences.specs.declared.Answer.{Answer}
+use Rattle.differences.specs.Answers.{Answer}
 
 abbrev pub fitting : List Line → ℕ → List Line
 fitting ls room = cond (leb (length ls * line_width) room) ls []

@@ -13,18 +13,20 @@ use Rattle.parameters.proofs.keep.Goals as goal
 pub loop-i-preserved : goal.loop-i-preserved
 loop-i-preserved c =
     let left = c.args.left.now in
-    let right = c.args.right.now in
-    (length-set c.loop-i.pairs c.loop-i.i c.find.result ∙ c.loop-i.invariant.0,
-    below_set None (λ (k : ℕ) (p : Option Pair). Pairs (texts left) (texts right) (entry_at left k) (entries right) (entries right) p) c.loop-i.i
-    c.loop-i.pairs c.find.result (omega (arith, c.loop-i.invariant.0)) c.find.ensures c.loop-i.invariant.1)
+    let right = c.args.right.now in (
+      length-set c.loop-i.pairs c.loop-i.i c.find.result ∙ c.loop-i.invariant.0,
+      below_set None (λ (k : ℕ) (p : Option Pair). Pairs (texts left) (texts right) (entry_at left k) (entries right) (entries right) p) c.loop-i.i
+          c.loop-i.pairs c.find.result (omega (arith, c.loop-i.invariant.0)) c.find.ensures c.loop-i.invariant.1,
+    )
 
 pub loop-j-preserved : goal.loop-j-preserved
 loop-j-preserved c =
     let left = c.args.left.now in
-    let right = c.args.right.now in
-    (length-set c.loop-j.paired c.loop-j.j c.is_some.result ∙ c.loop-j.invariant.0,
-    below_set false (λ (k : ℕ) (b : Bool). b ≡ there (partner (texts left) (name_in (texts right) (entry_at right k)) (entries left))) c.loop-j.j
-    c.loop-j.paired c.is_some.result (omega (arith, c.loop-j.invariant.0)) (there_found left _ c.seek.ensures.bounds c.seek.ensures.partner c.is_some.ensures) c.loop-j.invariant.1)
+    let right = c.args.right.now in (
+      length-set c.loop-j.paired c.loop-j.j c.is_some.result ∙ c.loop-j.invariant.0,
+      below_set false (λ (k : ℕ) (b : Bool). b ≡ there (partner (texts left) (name_in (texts right) (entry_at right k)) (entries left))) c.loop-j.j
+          c.loop-j.paired c.is_some.result (omega (arith, c.loop-j.invariant.0)) (there_found left _ c.seek.ensures.bounds c.seek.ensures.partner c.is_some.ensures) c.loop-j.invariant.1,
+    )
 
 pub returns : goal.returns
 returns c =

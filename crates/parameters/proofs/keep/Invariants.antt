@@ -1,5 +1,5 @@
 -- `keep` keeps one entry after the other.
-use Rattle.std.proofs.Common.{◌≡◌, Bool, false, ◌*◌, length, None}
+use Rattle.std.proofs.Common.{◌≡◌, false, ◌*◌, length, None}
 use Rattle.prelude.specs.Limits.{most_members}
 use Rattle.rows.specs.Rows.{name_in}
 use Rattle.matching.specs.Matching.{partner}

@@ -1,5 +1,5 @@
 -- `pair_of` goes by the pair that was kept, or by the one that it finds among the others.
-use Rattle.std.proofs.Common.{◌<◌, arith}
+use Rattle.std.proofs.Common.{arith}
 use Rattle.rows.proofs.Entries.{entries_length}
 use Rattle.matching.specs.Inner.Sides.{texts, entry_at}
 use Rattle.matching.proofs.Partners.{nth_at}

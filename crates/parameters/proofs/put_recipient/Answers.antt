@@ -1,14 +1,13 @@
 -- `put_recipient` puts the lines of the left parameters, one after the other, and then those of the right ones.
-use Rattle.std.proofs.Common.{◌≡◌, ap, sym, ◌∙◌, subst, not, ◌++◌, append_assoc, append-nil, List, ℕ, IfSome, ◌<◌, ◌+◌, length, length-append, take, arith}
+use Rattle.std.proofs.Common.{ap, sym, ◌∙◌, subst, not, ◌++◌, append_assoc, append-nil, List, ℕ, IfSome, ◌<◌, length, length-append, arith}
 use mathlib.Core.List.{flat_map}
-use Rattle.rows.specs.Rows.{Entry}
 use Rattle.rows.proofs.Entries.{entries_length}
 use Rattle.matching.specs.Inner.Sides.{texts, entries, entry_at}
 use Rattle.parameters.specs.Lines.{Line, line, line_if}
 use Rattle.parameters.specs.Parameters.{left_lines, right_lines, parameter_lines, pair_lines}
 use Rattle.parameters.specs.Inner.Puts.{half_is}
 use Rattle.parameters.specs.Inner.Kept.{partner_of, differs}
-use Rattle.parameters.proofs.Appending.{lines_next, lines_all, few_if, few_pair, left_of, right_of, added}
+use Rattle.parameters.proofs.Appending.{lines_all, few_if, few_pair, left_of, right_of, added}
 use Rattle.parameters.proofs.put_recipient.Goals as goal
 
 pub loop-i-init : goal.loop-i-init

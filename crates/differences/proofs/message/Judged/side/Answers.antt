@@ -1,5 +1,4 @@
 -- `side` makes a side of a recipient's parameters.
-use Rattle.std.proofs.Common.{arith}
 use Rattle.differences.proofs.Readings.{recipient_read}
 use Rattle.differences.proofs.Judging.{printed_side, reads_side}
 use Rattle.differences.proofs.message.Judged.side.Goals as goal
