@@ -1,16 +1,18 @@
 -- A list by chunks of n elements, as `as_chunks` lends them, and a loop that writes what a function makes of each chunk, and then
 -- what it makes of the rest: block by block, or group by group.
-use mathlib.Core.Path.{◌≡◌, ap, sym, subst, ◌∙◌}
+use mathlib.Core.Path.{◌≡◌, refl, ap, sym, subst, ◌∙◌}
 use mathlib.Core.List.{List, [], ◌++◌, map, append-nil}
-use Prim.Native.Nat.{ℕ, zero, suc, ◌+◌, ◌*◌, ◌/◌, ◌≤◌, ◌<◌}
+use Prim.Native.Nat.{ℕ, zero, suc, ◌+◌, ◌-◌, ◌*◌, ◌/◌, ◌≤◌, ◌<◌}
 use native.Mathlib.Omega.{arith}
-use lib.ListN.{length, take, drop, get_or, take-append-drop, length-drop}
+use borrow.Rule.Slice.PartMut.{put_mid}
+use lib.ListN.{length, take, drop, get_or, take-append-drop, length-drop, length-append}
 use lib.Seq.{drop-drop, length-take-le, take_all}
 use Rattle.std.specs.Simd.{first_chunks}
 use Rattle.std.proofs.Math.Nat.{mul-le-mul_right, div-mul-le_self}
 use Rattle.prelude.specs.Buffer.{AllBelow, written}
 use Rattle.prelude.proofs.Lists.{below_part, map_part}
 use Rattle.prelude.proofs.Writing.{Writing, put_part, room_part, ended}
+use Rattle.base64url.proofs.Covering.{copied, written_whole}
 
 pub record Chunked (n : ℕ) (s : List ℕ) (blocks : List (List ℕ)) (rest : List ℕ) : Type 0 where
   pub front : blocks ≡ first_chunks n (length s / n) s
@@ -90,3 +92,30 @@ module _ {n : ℕ} {s : List ℕ} {blocks : List (List ℕ)} {rest : List ℕ} (
     pub rest_done : {next : List ℕ} {k : ℕ} → i ≡ length blocks → k ≡ j + length (f rest) → next ≡ written j (f rest) now
         → (k ≡ at + length (f s)) × (next ≡ written at (f s) before)
     rest_done e size wrote = ended (put_part (f rest) [] (rest_part f i e) w size wrote)
+
+    -- where each turn is lent its part of the output
+    pub part_size : {m : ℕ} → i < length blocks → m ≡ length (f (get_or blocks i []))
+        → length (take m (drop j now)) ≡ length (f (get_or blocks i []))
+    part_size {m} h size =
+        length-take-le m (drop j now) (omega (arith, length-drop j now, block_room h)) ∙ size
+
+    pub part_filled : {m k : ℕ} {ys : List ℕ} → i < length blocks → m ≡ length (f (get_or blocks i [])) → k ≡ j + m
+        → ys ≡ f (get_or blocks i []) → Writing at (f s) before (f (drop ((i + 1) * n) s)) k (put_mid j m now ys)
+    part_filled {m} {k} {ys} h size e given =
+        block_done h (omega (arith, size)) (copied j m now ys (f (get_or blocks i [])) given size)
+
+  -- The end where the output is as long as what is written
+  module _ {f : List ℕ → List ℕ} (takes : TakesBy n f) {before now : List ℕ} {i j : ℕ}
+      (w : Writing 0 (f s) before (f (drop (i * n) s)) j now) where
+    module _ (all : length before ≡ length (f s)) (last : i ≡ length blocks) {a : ℕ} (here : a ≡ j) where
+      left : length now - a ≡ length (f rest)
+      left = omega (arith, w.end, w.same, all, ap length (rest_part f i last), length-append (f rest) [])
+
+      pub rest_size : length (take (length now - a) (drop a now)) ≡ length (f rest)
+      rest_size = length-take-le (length now - a) (drop a now) (omega (arith, length-drop a now)) ∙ left
+
+      pub rest_filled : {ys : List ℕ} → ys ≡ f rest → put_mid a (length now - a) now ys ≡ f s
+      rest_filled {ys} given =
+          (rest_done takes w last refl (copied a (length now - a) now ys (f rest) given left
+          ∙ ap (λ (k : ℕ). written k (f rest) now) here)).1
+          ∙ written_whole (f s) before (sym all)

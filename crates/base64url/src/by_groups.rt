@@ -1,6 +1,6 @@
 // Group by group, four characters and three octets: what is left of a text or of octets where no whole block is.
-ghost use Rattle.std.specs.Prelude.{◌≡◌, ◌+◌, ◌*◌, ◌/◌, ◌%◌, ◌≤◌, ◌<◌, map, length};
-ghost use Rattle.prelude.specs.Buffer.{AllBelow, written};
+ghost use Rattle.std.specs.Prelude.{◌≡◌, ◌+◌, ◌*◌, ◌/◌, ◌%◌, ◌<◌, map, length};
+ghost use Rattle.prelude.specs.Buffer.{AllBelow};
 ghost use Rattle.base64url.specs.Base64url.{six_bits, sextets, decoded};
 ghost use Rattle.base64url.specs.Inner.Step.{Tabled};
 
@@ -29,62 +29,53 @@ fn third_octet(r: u8, s: u8) -> u8
     r % 4 * 64 + s
 }
 
-// The three octets of four characters, written from a position on. Answers the position after them.
-fn decode_four(table: &[u8; 256], text: &[u8; 4], out: &mut [u8], at: usize) -> usize
+// The three octets of four characters.
+fn decode_four(table: &[u8; 256], text: &[u8; 4]) -> [u8; 3]
     requires tabled { Tabled table.now }
     requires all_below { AllBelow 64 (map six_bits text.now) }
-    requires text_in_bounds { at + length (decoded text.now) ≤ length out.old }
-    ensures value { result ≡ at + length (decoded text.now) }
-    ensures out_after { out.new ≡ written at (decoded text.now) out.old }
+    ensures { result ≡ decoded text.now }
 {
     let p = step::six_bits(table, text[0]);
     let q = step::six_bits(table, text[1]);
     let r = step::six_bits(table, text[2]);
     let s = step::six_bits(table, text[3]);
-    out[at] = first_octet(p, q);
-    out[at + 1] = second_octet(q, r);
-    out[at + 2] = third_octet(r, s);
-    at + 3
+    [first_octet(p, q), second_octet(q, r), third_octet(r, s)]
 }
 
-// The octets of fewer than four characters, likewise.
-fn decode_few(table: &[u8; 256], text: &[u8], out: &mut [u8], at: usize) -> usize
+// The octets of fewer than four characters.
+fn decode_few(table: &[u8; 256], text: &[u8], out: &mut [u8])
     requires tabled { Tabled table.now }
     requires text_len_bound { length text.now < 4 }
     requires all_below { AllBelow 64 (map six_bits text.now) }
-    requires text_in_bounds { at + length (decoded text.now) ≤ length out.old }
-    ensures value { result ≡ at + length (decoded text.now) }
-    ensures out_after { out.new ≡ written at (decoded text.now) out.old }
+    requires out_len { length out.old ≡ length (decoded text.now) }
+    ensures { out.new ≡ decoded text.now }
 {
     let n = text.len();
     if n < 2 {
-        return at;
+        return;
     }
     let p = step::six_bits(table, text[0]);
     let q = step::six_bits(table, text[1]);
-    out[at] = first_octet(p, q);
+    out[0] = first_octet(p, q);
     if n < 3 {
-        return at + 1;
+        return;
     }
     let r = step::six_bits(table, text[2]);
-    out[at + 1] = second_octet(q, r);
-    at + 2
+    out[1] = second_octet(q, r);
 }
 
-// The octets of a text, group by group, likewise. The table is lent, so that it is built once.
-pub(crate) fn decode_groups(table: &[u8; 256], text: &[u8], out: &mut [u8], at: usize) -> usize
+// The octets of a text, group by group. The table is lent, so that it is built once.
+pub(crate) fn decode_groups(table: &[u8; 256], text: &[u8], out: &mut [u8])
     requires tabled { Tabled table.now }
     requires all_below { AllBelow 64 (map six_bits text.now) }
-    requires text_in_bounds { at + length (decoded text.now) ≤ length out.old }
-    ensures value { result ≡ at + length (decoded text.now) }
-    ensures out_after { out.new ≡ written at (decoded text.now) out.old }
+    requires out_len { length out.old ≡ length (decoded text.now) }
+    ensures { out.new ≡ decoded text.now }
 {
-    let mut j = at;
     let (groups, rest) = text.as_chunks::<4>();
-    for group in groups {
-        j = decode_four(table, group, out, j);
+    for (i, group) in groups.iter().enumerate() {
+        out[3 * i..3 * i + 3].copy_from_slice(&decode_four(table, group));
     }
-    decode_few(table, rest, out, j)
+    decode_few(table, rest, &mut out[3 * groups.len()..]);
 }
 
 // The values of a group of octets a, b and c, of which the first and the last are plain.
@@ -101,50 +92,41 @@ fn third_value(b: u8, c: u8) -> u8
     b % 16 * 4 + c / 64
 }
 
-// The four values of three octets, written from a position on. Answers the position after them.
-fn split_three(octets: &[u8; 3], into: &mut [u8], at: usize) -> usize
-    requires { at + length (sextets octets.now) ≤ length into.old }
-    ensures value { result ≡ at + length (sextets octets.now) }
-    ensures into_after { into.new ≡ written at (sextets octets.now) into.old }
+// The four values of three octets.
+fn split_three(octets: &[u8; 3]) -> [u8; 4]
+    ensures { result ≡ sextets octets.now }
 {
-    into[at] = octets[0] / 4;
-    into[at + 1] = second_value(octets[0], octets[1]);
-    into[at + 2] = third_value(octets[1], octets[2]);
-    into[at + 3] = octets[2] % 64;
-    at + 4
+    let [a, b, c] = *octets;
+    [a / 4, second_value(a, b), third_value(b, c), c % 64]
 }
 
-// The values of fewer than three octets, likewise.
-fn split_few(octets: &[u8], into: &mut [u8], at: usize) -> usize
+// The values of fewer than three octets.
+fn split_few(octets: &[u8], into: &mut [u8])
     requires octets_len_bound { length octets.now < 3 }
-    requires octets_in_bounds { at + length (sextets octets.now) ≤ length into.old }
-    ensures value { result ≡ at + length (sextets octets.now) }
-    ensures into_after { into.new ≡ written at (sextets octets.now) into.old }
+    requires into_len { length into.old ≡ length (sextets octets.now) }
+    ensures { into.new ≡ sextets octets.now }
 {
     let n = octets.len();
     if n < 1 {
-        return at;
+        return;
     }
-    into[at] = octets[0] / 4;
+    into[0] = octets[0] / 4;
     if n < 2 {
-        into[at + 1] = second_value(octets[0], 0);
-        return at + 2;
+        into[1] = second_value(octets[0], 0);
+        return;
     }
-    into[at + 1] = second_value(octets[0], octets[1]);
-    into[at + 2] = third_value(octets[1], 0);
-    at + 3
+    into[1] = second_value(octets[0], octets[1]);
+    into[2] = third_value(octets[1], 0);
 }
 
-// The values of octets, likewise.
-pub(crate) fn split(octets: &[u8], into: &mut [u8], at: usize) -> usize
-    requires { at + length (sextets octets.now) ≤ length into.old }
-    ensures value { result ≡ at + length (sextets octets.now) }
-    ensures into_after { into.new ≡ written at (sextets octets.now) into.old }
+// The values of octets, group by group.
+pub(crate) fn split(octets: &[u8], into: &mut [u8])
+    requires { length into.old ≡ length (sextets octets.now) }
+    ensures { into.new ≡ sextets octets.now }
 {
-    let mut j = at;
     let (groups, rest) = octets.as_chunks::<3>();
-    for group in groups {
-        j = split_three(group, into, j);
+    for (i, group) in groups.iter().enumerate() {
+        into[4 * i..4 * i + 4].copy_from_slice(&split_three(group));
     }
-    split_few(rest, into, j)
+    split_few(rest, &mut into[4 * groups.len()..]);
 }

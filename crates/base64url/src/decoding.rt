@@ -1,11 +1,11 @@
 // Decoding: whole blocks of 128 characters become values, then words of eight values, then octets; what is left goes
 // group by group. The steps between are local arrays, since the compiler does a loop in vectors where it sees that what
 // it reads and what it writes lie apart; and of the sizes tried 128 is the quickest, since it unrolls smaller blocks first.
-ghost use Rattle.std.specs.Prelude.{◌≡◌, ◌+◌, ◌≤◌, map, ◌++◌, length};
-ghost use Rattle.prelude.specs.Buffer.{AllBelow, written};
+ghost use Rattle.std.specs.Prelude.{◌≡◌, map, length};
+ghost use Rattle.prelude.specs.Buffer.{AllBelow};
 ghost use Rattle.base64url.specs.Base64url.{six_bits, decoded};
 ghost use Rattle.base64url.specs.Inner.Step.{near};
-ghost use Rattle.base64url.specs.Inner.Words.{joined, words_of, six_octets, spill_of, octets_of};
+ghost use Rattle.base64url.specs.Inner.Words.{joined, words_of, octets_of};
 
 use crate::{by_groups, step};
 
@@ -23,9 +23,9 @@ fn block_values(text: &[u8; 128], six: &mut [u8; 128])
 fn join(x: u64) -> u64
     ensures { result ≡ joined x }
 {
-    let y = (x & 0x003F003F003F003F) * 64 + (x / 256 & 0x003F003F003F003F);
-    let z = (y & 0x00000FFF00000FFF) * 4096 + (y / 65536 & 0x00000FFF00000FFF);
-    z % 16777216 * 1099511627776 + z / 4294967296 * 65536
+    let y = (x & 0x003F_003F_003F_003F) * 0x40 + (x / 0x100 & 0x003F_003F_003F_003F);
+    let z = (y & 0x0000_0FFF_0000_0FFF) * 0x1000 + (y / 0x1_0000 & 0x0000_0FFF_0000_0FFF);
+    z % 0x100_0000 * 0x100_0000_0000 + z / 0x1_0000_0000 * 0x1_0000
 }
 
 // The words of a block's values.
@@ -38,67 +38,43 @@ fn block_words(six: &[u8; 128], words: &mut [u64; 16])
     }
 }
 
-// Writes the six upper octets of a word from a position on, the highest first. Answers the position after them.
-fn put_six(out: &mut [u8], at: usize, w: u64) -> usize
-    requires { at + 6 ≤ length out.old }
-    ensures value { result ≡ at + 6 }
-    ensures out_after { out.new ≡ written at (six_octets w) out.old }
-{
-    let octets = w.to_be_bytes();
-    out[at..at + 6].copy_from_slice(&octets[..6]);
-    at + 6
-}
-
-// As put_six, in one store of eight octets: the last two are none of the word's, and what is written next goes over them.
-fn put_over(out: &mut [u8], at: usize, w: u64) -> usize
-    requires { at + 8 ≤ length out.old }
-    ensures value { result ≡ at + 6 }
-    ensures out_after { out.new ≡ written at (six_octets w ++ spill_of w) out.old }
-{
-    out[at..at + 8].copy_from_slice(&w.to_be_bytes());
-    at + 6
-}
-
-// The octets of sixteen words: each word's store goes over the end of the one before, and the last is exact.
+// The octets of sixteen words, six each, the highest first. A store of eight octets is one, so each word's but the last writes two
+// that are none of the text's, and the next one's goes over them.
 fn put_words(words: &[u64; 16], out: &mut [u8])
     requires { length out.old ≡ 96 }
     ensures { out.new ≡ octets_of words.now }
 {
-    let mut j = 0;
-    for &w in &words[..15] {
-        j = put_over(out, j, w);
+    for (g, w) in words[..15].iter().enumerate() {
+        out[6 * g..6 * g + 8].copy_from_slice(&w.to_be_bytes());
     }
-    put_six(out, j, words[15]);
+    let last = words[15].to_be_bytes();
+    out[90..].copy_from_slice(&last[..6]);
 }
 
-// The octets of a block, written from a position on. Answers the position after them.
-fn decode_block(text: &[u8; 128], out: &mut [u8], at: usize) -> usize
+// The octets of a block.
+fn decode_block(text: &[u8; 128], out: &mut [u8])
     requires all_below { AllBelow 64 (map six_bits text.now) }
-    requires text_in_bounds { at + length (decoded text.now) ≤ length out.old }
-    ensures value { result ≡ at + length (decoded text.now) }
-    ensures out_after { out.new ≡ written at (decoded text.now) out.old }
+    requires out_len { length out.old ≡ length (decoded text.now) }
+    ensures { out.new ≡ decoded text.now }
 {
     let mut six = [0u8; 128];
     let mut words = [0u64; 16];
     block_values(text, &mut six);
     block_words(&six, &mut words);
-    put_words(&words, &mut out[at..at + 96]);
-    at + 96
+    put_words(&words, out);
 }
 
-// The octets of a text, likewise: whole blocks, then what is left. The table is built after the blocks, which want none:
-// it pays from three characters on.
-pub(crate) fn decode_at(text: &[u8], out: &mut [u8], at: usize) -> usize
+// The octets of a text: whole blocks, then what is left. The table is built after the blocks, which want none: it pays from
+// three characters on.
+pub(crate) fn decode(text: &[u8], out: &mut [u8])
     requires all_below { AllBelow 64 (map six_bits text.now) }
-    requires text_in_bounds { at + length (decoded text.now) ≤ length out.old }
-    ensures value { result ≡ at + length (decoded text.now) }
-    ensures out_after { out.new ≡ written at (decoded text.now) out.old }
+    requires out_len { length out.old ≡ length (decoded text.now) }
+    ensures { out.new ≡ decoded text.now }
 {
-    let mut j = at;
     let (blocks, rest) = text.as_chunks::<128>();
-    for block in blocks {
-        j = decode_block(block, out, j);
+    for (i, block) in blocks.iter().enumerate() {
+        decode_block(block, &mut out[96 * i..96 * i + 96]);
     }
     let table = step::table();
-    by_groups::decode_groups(&table, rest, out, j)
+    by_groups::decode_groups(&table, rest, &mut out[96 * blocks.len()..]);
 }

@@ -1,7 +1,7 @@
 // Encoding: whole blocks of 48 octets become words of six, then eight values of each word, then characters; what is left
 // goes group by group. As in decoding, the steps between are local arrays.
-ghost use Rattle.std.specs.Prelude.{◌≡◌, ◌+◌, ◌≤◌, map, length};
-ghost use Rattle.prelude.specs.Buffer.{AllBelow, written};
+ghost use Rattle.std.specs.Prelude.{◌≡◌, ◌≤◌, map, length};
+ghost use Rattle.prelude.specs.Buffer.{AllBelow};
 ghost use Rattle.base64url.specs.Base64url.{character, encoded};
 ghost use Rattle.base64url.specs.Inner.Words.{spread_of, spread_all, sixes_of};
 
@@ -21,9 +21,9 @@ fn block_sixes(octets: &[u8; 48], words: &mut [u64; 8])
 fn spread(w: u64) -> u64
     ensures { result ≡ spread_of w }
 {
-    let z = w / 1099511627776 + w / 65536 % 16777216 * 4294967296;
-    let y = (z / 4096 & 0x00000FFF00000FFF) + (z & 0x00000FFF00000FFF) * 65536;
-    (y / 64 & 0x003F003F003F003F) + (y & 0x003F003F003F003F) * 256
+    let z = w / 0x100_0000_0000 + w / 0x1_0000 % 0x100_0000 * 0x1_0000_0000;
+    let y = (z / 0x1000 & 0x0000_0FFF_0000_0FFF) + (z & 0x0000_0FFF_0000_0FFF) * 0x1_0000;
+    (y / 0x40 & 0x003F_003F_003F_003F) + (y & 0x003F_003F_003F_003F) * 0x100
 }
 
 // The values of a block's words, eight stored at once.
@@ -35,40 +35,37 @@ fn block_sextets(words: &[u64; 8], six: &mut [u8; 64])
     }
 }
 
-// The characters of values, written from a position on. Answers the position after them.
-fn characters(six: &[u8], out: &mut [u8], at: usize) -> usize
+// The characters of values.
+fn characters(six: &[u8], out: &mut [u8])
     requires all_below { AllBelow 64 six.now }
-    requires six_in_bounds { at + length (map character six.now) ≤ length out.old }
-    ensures value { result ≡ at + length (map character six.now) }
-    ensures out_after { out.new ≡ written at (map character six.now) out.old }
+    requires out_len { length out.old ≡ length six.now }
+    ensures { out.new ≡ map character six.now }
 {
     for (k, &v) in six.iter().enumerate() {
-        out[at + k] = step::character(v);
+        out[k] = step::character(v);
     }
-    at + six.len()
 }
 
-// The text of a block, likewise.
-pub(crate) fn encode_block(octets: &[u8; 48], out: &mut [u8], at: usize) -> usize
-    requires { at + length (encoded octets.now) ≤ length out.old }
-    ensures value { result ≡ at + length (encoded octets.now) }
-    ensures out_after { out.new ≡ written at (encoded octets.now) out.old }
+// The text of a block.
+pub(crate) fn encode_block(octets: &[u8; 48], out: &mut [u8])
+    requires { length out.old ≡ length (encoded octets.now) }
+    ensures { out.new ≡ encoded octets.now }
 {
     let mut words = [0u64; 8];
     let mut six = [0u8; 64];
     block_sixes(octets, &mut words);
     block_sextets(&words, &mut six);
-    characters(&six, out, at)
+    characters(&six, out);
 }
 
-// The text of at most 48 octets, likewise.
-pub(crate) fn encode_few(octets: &[u8], out: &mut [u8], at: usize) -> usize
+// The text of at most 48 octets.
+pub(crate) fn encode_few(octets: &[u8], out: &mut [u8])
     requires octets_len_bound { length octets.now ≤ 48 }
-    requires octets_in_bounds { at + length (encoded octets.now) ≤ length out.old }
-    ensures value { result ≡ at + length (encoded octets.now) }
-    ensures out_after { out.new ≡ written at (encoded octets.now) out.old }
+    requires out_len { length out.old ≡ length (encoded octets.now) }
+    ensures { out.new ≡ encoded octets.now }
 {
     let mut six = [0u8; 64];
-    let n = by_groups::split(octets, &mut six, 0);
-    characters(&six[..n], out, at)
+    let n = out.len();
+    by_groups::split(octets, &mut six[..n]);
+    characters(&six[..n], out);
 }

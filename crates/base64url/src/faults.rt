@@ -4,9 +4,8 @@ ghost use Rattle.prelude.specs.Buffer.{AllBelow};
 ghost use Rattle.base64url.specs.Base64url.{six_bits};
 ghost use Rattle.base64url.specs.Fault.{count_outside, spare_bits};
 
-use blocks::Kind;
-
 use crate::step;
+use blocks::Kind;
 
 // A character outside the alphabet.
 #[derive(Clone, Copy)]

@@ -51,10 +51,9 @@ pub fn check(text: &[u8]) -> Result<(), DecodeError>
 pub fn encoded_length(n: usize) -> usize
     ensures { result ≡ min (encoded_length n) (2 ^ 64 - 1) }
 {
-    if 13835058055282163711 < n {
-        return 18446744073709551615;
-    }
-    n / 3 * 4 + (n % 3 * 4 + 2) / 3
+    (n / 3)
+        .saturating_mul(4)
+        .saturating_add((n % 3 * 4 + 2) / 3)
 }
 
 // How many octets n characters make, floor(3n/4).
@@ -70,10 +69,12 @@ pub fn decode(text: &[u8], out: &mut [u8]) -> Result<usize, DecodeError>
     ensures { Decodes text.now out.old result out.new }
 {
     check(text)?;
-    if out.len() < decoded_length(text.len()) {
+    let n = decoded_length(text.len());
+    if out.len() < n {
         return Err(DecodeError::Short);
     }
-    Ok(decoding::decode_at(text, out, 0))
+    decoding::decode(text, &mut out[..n]);
+    Ok(n)
 }
 
 // The text of octets, written from a position on: whole blocks, then what is left. Answers the position after it.
@@ -85,9 +86,12 @@ pub fn encode_at(octets: &[u8], out: &mut [u8], at: usize) -> usize
     let mut j = at;
     let (blocks, rest) = octets.as_chunks::<48>();
     for block in blocks {
-        j = encoding::encode_block(block, out, j);
+        encoding::encode_block(block, &mut out[j..j + 64]);
+        j += 64;
     }
-    encoding::encode_few(rest, out, j)
+    let end = j + encoded_length(rest.len());
+    encoding::encode_few(rest, &mut out[j..end]);
+    end
 }
 
 // Encodes octets into out from a position on, and answers the position after the text. None is document 01's 1: the text

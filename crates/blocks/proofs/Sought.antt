@@ -1,8 +1,8 @@
 -- What the count of a block tells of it, and of the text that it stands in; and which position is the first.
 use Rattle.std.proofs.Common.{◌≡◌, ℕ, ◌+◌, ◌-◌, ◌<◌, ◌≤◌, Bool, true, false, not, cond, ◌||◌, eqb, List, [], ◌∷◌, length, get_or, take, drop}
-use Rattle.std.proofs.Common.{refl, sym, ap, ◌∙◌, true≢false, ⊎_elim, arith, length-take, length-drop, get_or-take, get_or-drop, take-append-drop, zero-add, inl, inr}
+use Rattle.std.proofs.Common.{refl, sym, ap, ◌∙◌, true≢false, arith, length-take, length-drop, get_or-take, get_or-drop, take-append-drop, zero-add, inl, inr}
 use borrow.Author.Tests.{ne_eqb}
-use Rattle.std.specs.List.{All, AllWithin, count_by, list_any, position_or_len}
+use Rattle.std.specs.List.{AllWithin, count_by, list_any, position_or_len}
 use Rattle.std.proofs.lemmas.List.Folds.{list_any-append, list_any_at, list_any_none, Any-from_list_any}
 use Rattle.std.proofs.lemmas.List.Sums.{sum_by-cons, position_or_len_is}
 use Rattle.std.proofs.lemmas.Bool.{cases_lt}
@@ -33,15 +33,15 @@ module _ (p : ℕ → Bool) where
     pub none_more : (from at e : ℕ) → at ≤ e → e ≤ length s → AllWithin (λ c. p c ≡ false) s from at
         → count_by p (take (e - at) (drop at s)) ≡ 0 → AllWithin (λ c. p c ≡ false) s from e
     none_more from at e ordered fits before none k d l h = elim (cases_lt k at) [
-        | inl u ↦ before k d l u
-        | inr u ↦
+      | inl u ↦ before k d l u
+      | inr u ↦
           let n = e - at in
           let block = take n (drop at s) in
           let q : at + (k - at) ≡ k = omega arith in
           let counted = sym (some_counted block) ∙ ap (λ (m : ℕ). not (eqb m 0)) none in
           ap (λ (m : ℕ). p (get_or s m d)) (sym q) ∙ sym (in_block at n (k - at) d (omega arith))
           ∙ at_no_place block (k - at) d counted (omega (arith, length-take n (drop at s), length-drop at s))
-      ]
+    ]
 
     -- a block in which some are counted
     pub some_there : (at n : ℕ) → 0 < count_by p (take n (drop at s)) → list_any p s ≡ true

@@ -28,7 +28,7 @@ fn count<K: Kind>(kind: K, block: &[u8]) -> u8
     count
 }
 
-// Past whole blocks of N octets of which none is of a kind.
+// Past whole blocks of N octets of which none is of a kind. No `for` over the blocks: what is answered is a position.
 fn pass<K: Kind, const N: usize>(kind: K, s: &[u8], from: usize) -> usize
     requires size { (0 < N) × (N < 256) }
     requires fits { from ≤ length s.now }
@@ -70,13 +70,16 @@ pub fn seek<K: Kind, const N: usize>(kind: K, s: &[u8], at: usize) -> usize
     if n <= at {
         return at;
     }
-    let near = n.min(at + 16);
-    for i in at..near {
+    for few in 0..16 {
+        let i = at + few;
+        if n <= i {
+            return i;
+        }
         if kind.has(s[i]) {
             return i;
         }
     }
-    let far = pass::<K, N>(kind, s, near);
+    let far = pass::<K, N>(kind, s, at + 16);
     for i in far..n {
         if kind.has(s[i]) {
             return i;

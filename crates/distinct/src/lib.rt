@@ -6,15 +6,15 @@ ghost use Rattle.std.specs.Prelude.{◌≡◌, not, ◌*◌, ◌≤◌, length};
 ghost use Rattle.grammar.specs.Grammar.{curly};
 ghost use Rattle.grammar.specs.Reader.{members_at};
 ghost use Rattle.grammar.specs.Spellings.{alike};
-ghost use Rattle.json_read.specs.Inner.Known.{KnownFrom, KnownIn};
+ghost use Rattle.json_read.specs.Entries.{entries_left};
+ghost use Rattle.json_read.specs.Inner.Known.{KnownIn};
 ghost use Rattle.prelude.specs.Any.{any};
 ghost use Rattle.distinct.specs.Names.{depth, name_at, same_name, repeats};
-ghost use Rattle.distinct.specs.Inner.Walking.{row_member, rows_from};
+ghost use Rattle.distinct.specs.Inner.Walking.{row_member};
 
 pub mod window;
 
-use json_read::Position;
-use json_read::member::Row;
+use json_read::member::{Entries, Row};
 
 // A member's name as it is spelled.
 pub fn name(s: &[u8], row: Row) -> &[u8]
@@ -38,24 +38,11 @@ pub fn same_name(s: &[u8], t: &[u8], a: Row, b: Row) -> bool
     says_same(name(s, a), name(t, b))
 }
 
-// Whether one of the members from a position on, at most so many, has a name that says what a member's name says.
-fn again(s: &[u8], row: Row, from: Position, turns: usize) -> bool
-    requires { KnownFrom curly depth s.now turns from.at }
-    ensures { result ≡ any (same_name s.now s.now (row_member row)) (rows_from curly s.now turns from.at) }
+// Whether one of some members has a name that says what a member's name says.
+fn again(s: &[u8], row: Row, mut others: Entries) -> bool
+    ensures { result ≡ any (same_name s.now s.now (row_member row)) (entries_left others.entry) }
 {
-    let mut p = from;
-    let mut left = turns;
-    while 0 < left {
-        let Some(found) = p.member(s, 12, true) else {
-            return false;
-        };
-        if same_name(s, s, row, found.row) {
-            return true;
-        }
-        p = found.next;
-        left -= 1;
-    }
-    false
+    others.any(|other| same_name(s, s, row, other))
 }
 
 // Whether two names of an object say the same.
@@ -63,17 +50,11 @@ fn by_pairs(s: &[u8], at: usize) -> bool
     requires { KnownIn curly depth s.now at }
     ensures { result ≡ repeats s.now (members_at depth s.now at) }
 {
-    let mut p = Position { at }.inside(s);
-    let mut left = s.len();
-    while 0 < left {
-        let Some(found) = p.member(s, 12, true) else {
-            return false;
-        };
-        if again(s, found.row, found.next, left - 1) {
+    let mut members = Entries::members(s, at, 12, true);
+    while let Some(row) = members.next() {
+        if again(s, row, members) {
             return true;
         }
-        p = found.next;
-        left -= 1;
     }
     false
 }
@@ -83,18 +64,7 @@ pub fn count(s: &[u8], at: usize) -> usize
     requires { KnownIn curly depth s.now at }
     ensures { result ≡ length (members_at depth s.now at) }
 {
-    let mut p = Position { at }.inside(s);
-    let mut left = s.len();
-    let mut n: usize = 0;
-    while 0 < left {
-        let Some(found) = p.member(s, 12, true) else {
-            return n;
-        };
-        n += 1;
-        p = found.next;
-        left -= 1;
-    }
-    n
+    Entries::members(s, at, 12, true).count()
 }
 
 // How many members a window has: no more than there are, and than a quarter of the numbers that are lent.

@@ -34,11 +34,11 @@ brackets b ws = bracketed_led b ws
 module _ {S : Type 0} {fits : S → List ℕ → Type 0} {gains : S → List ℕ → S → Type 0} (laws : Laws fits gains) (w : Point S) where
   pub name_parts : (name : List ℕ) → fits w.sink (led_one w.begun (name_text name)) →
       Putting fits gains w.sink (led_one w.begun (name_text name))
-      (led_one w.begun [] ∷ (quote ∷ []) ∷ name ∷ (quote ∷ []) ∷ (colon ∷ []) ∷ []) w.sink
+      (led_one w.begun [] ∷ (quote ∷ []) ∷ name ∷ (quote ∷ colon ∷ []) ∷ []) w.sink
   name_parts name h =
       let all = ap (λ (l : List ℕ). led_one w.begun [] ++ l) (sym (name_is name)) ∙ sym (one_apart w.begun (name_text name)) in
       start laws w.sink (led_one w.begun (name_text name))
-      (led_one w.begun [] ∷ (quote ∷ []) ∷ name ∷ (quote ∷ []) ∷ (colon ∷ []) ∷ []) all h
+      (led_one w.begun [] ∷ (quote ∷ []) ∷ name ∷ (quote ∷ colon ∷ []) ∷ []) all h
 
   pub value_parts : (name v : List ℕ) → Room fits w (member_text name v ∷ []) →
       Putting fits gains w.sink (led w.begun (member_text name v ∷ [])) (led_one w.begun (name_text name) ∷ v ∷ []) w.sink

@@ -10,18 +10,28 @@ ghost use Rattle.json_put.specs.Inner.Members.{raw_of};
 
 use message::Message;
 use prelude::limits::LONGEST;
-use sink::{Buffer, Count};
+use sink::{Buffer, Count, Sink};
 
 pub mod message;
 mod sink;
 mod write;
+
+// The message, between its brackets.
+fn text<S: Sink>(general: bool, message: &Message<'_>, to: &mut S)
+    requires { S.fits to.old (written_text general (raw_of message.now)) }
+    ensures { S.gains to.old (written_text general (raw_of message.now)) to.new }
+{
+    to.octets(b"{");
+    write::members(general, message, false, to);
+    to.octets(b"}");
+}
 
 // How many octets the message has; where it has more than a message may have, one more than that.
 pub fn text_length(general: bool, message: &Message<'_>) -> usize
     ensures { result ≡ min (length (written_text general (raw_of message.now))) (longest + 1) }
 {
     let mut count = Count { n: 0 };
-    write::text(general, message, &mut count);
+    text(general, message, &mut count);
     count.n.min(LONGEST + 1)
 }
 
@@ -32,6 +42,6 @@ pub fn put_text(general: bool, message: &Message<'_>, out: &mut [u8]) -> usize
     ensures out_after { out.new ≡ written 0 (written_text general (raw_of message.now)) out.old }
 {
     let mut buffer = Buffer { out, at: 0 };
-    write::text(general, message, &mut buffer);
+    text(general, message, &mut buffer);
     buffer.at
 }

@@ -1,5 +1,5 @@
 // Where octets go, one behind the other: they are counted, or put into a buffer.
-ghost use Rattle.std.specs.Prelude.{List, [], ◌∷◌, ℕ};
+ghost use Rattle.std.specs.Prelude.{List, ℕ};
 ghost use Rattle.base64url.specs.Base64url.{encoded};
 ghost use Rattle.json_put.specs.Inner.Laws.{Laws};
 ghost use Rattle.json_put.specs.Inner.Sinks.{Any, Counts, counts_laws, Holds, Fills, fills_laws};
@@ -12,10 +12,6 @@ pub(crate) trait Sink {
     ghost gains: { Self → List ℕ → Self → Type 0 };
 
     ghost laws: { Laws fits gains };
-
-    fn octet(&mut self, x: u8)
-        requires { fits self.old (x ∷ []) }
-        ensures { gains self.old (x ∷ []) self.new };
 
     fn octets(&mut self, xs: &[u8])
         requires { fits self.old xs.now }
@@ -39,10 +35,6 @@ impl Sink for Count {
     ghost gains = { Counts };
 
     ghost laws = { counts_laws };
-
-    fn octet(&mut self, _x: u8) {
-        self.n = self.n.saturating_add(1);
-    }
 
     fn octets(&mut self, xs: &[u8]) {
         self.n = self.n.saturating_add(xs.len());
@@ -68,11 +60,6 @@ impl<'a> Sink for Buffer<'a> {
     ghost gains = { Fills };
 
     ghost laws = { fills_laws };
-
-    fn octet(&mut self, x: u8) {
-        self.out[self.at] = x;
-        self.at += 1;
-    }
 
     fn octets(&mut self, xs: &[u8]) {
         prelude::copy_octets(xs, self.out, self.at);

@@ -4,8 +4,7 @@ ghost use Rattle.std.specs.Prelude.{true, [], ◌∷◌, map};
 ghost use Rattle.recipients.specs.Parsed.{recipients_in};
 ghost use Rattle.json_text.specs.Inner.Led.{led_one};
 ghost use Rattle.json_message.specs.JsonText.{header_member, component_member, own_members, element_text, recipient_members};
-ghost use Rattle.json_message.specs.JsonWrite.{written_text};
-ghost use Rattle.json_put.specs.Inner.Members.{name_text, encoded_member, shown, head_members, tail_members, all_members, raw_of, point, Room, Puts};
+ghost use Rattle.json_put.specs.Inner.Members.{name_text, encoded_member, shown, head_members, tail_members, all_members, point, Room, Puts};
 
 use crate::message::Message;
 use crate::sink::Sink;
@@ -18,7 +17,7 @@ fn comma<S: Sink>(begun: bool, to: &mut S)
     ensures { S.gains to.old (led_one begun []) to.new }
 {
     if begun {
-        to.octet(b',');
+        to.octets(b",");
     }
 }
 
@@ -28,10 +27,9 @@ fn member_name<S: Sink>(name: &[u8], begun: bool, to: &mut S)
     ensures { S.gains to.old (led_one begun (name_text name.now)) to.new }
 {
     comma(begun, to);
-    to.octet(b'"');
+    to.octets(b"\"");
     to.octets(name);
-    to.octet(b'"');
-    to.octet(b':');
+    to.octets(b"\":");
 }
 
 // A header's text as a member; nothing where it is absent.
@@ -53,9 +51,9 @@ fn encoded<S: Sink>(name: &[u8], octets: &[u8], begun: bool, to: &mut S) -> bool
     ensures { Puts S.gains (point to.old begun) (encoded_member name.now octets.now) (point to.new result) }
 {
     member_name(name, begun, to);
-    to.octet(b'"');
+    to.octets(b"\"");
     to.encoded(octets);
-    to.octet(b'"');
+    to.octets(b"\"");
     true
 }
 
@@ -87,9 +85,9 @@ fn element<S: Sink>(table: &[u8], body: Body, begun: bool, to: &mut S) -> bool
     ensures { Puts S.gains (point to.old begun) (element_text (shown table.now body) ∷ []) (point to.new result) }
 {
     comma(begun, to);
-    to.octet(b'{');
+    to.octets(b"{");
     own(table, body, false, to);
-    to.octet(b'}');
+    to.octets(b"}");
     true
 }
 
@@ -113,9 +111,9 @@ fn general<S: Sink>(message: &Message<'_>, begun: bool, to: &mut S) -> bool
         (point to.new result) }
 {
     member_name(b"recipients", begun, to);
-    to.octet(b'[');
+    to.octets(b"[");
     elements(message, false, to);
-    to.octet(b']');
+    to.octets(b"]");
     true
 }
 
@@ -155,20 +153,10 @@ fn components<S: Sink>(message: &Message<'_>, begun: bool, to: &mut S) -> bool
 }
 
 // All of them.
-fn members<S: Sink>(many: bool, message: &Message<'_>, begun: bool, to: &mut S) -> bool
+pub(crate) fn members<S: Sink>(many: bool, message: &Message<'_>, begun: bool, to: &mut S) -> bool
     requires { Room S.fits (point to.old begun) (all_members many message.now) }
     ensures { Puts S.gains (point to.old begun) (all_members many message.now) (point to.new result) }
 {
     let next = headers(many, message, begun, to);
     components(message, next, to)
-}
-
-// The message.
-pub(crate) fn text<S: Sink>(many: bool, message: &Message<'_>, to: &mut S)
-    requires { S.fits to.old (written_text many (raw_of message.now)) }
-    ensures { S.gains to.old (written_text many (raw_of message.now)) to.new }
-{
-    to.octet(b'{');
-    members(many, message, false, to);
-    to.octet(b'}');
 }

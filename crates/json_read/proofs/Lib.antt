@@ -1,4 +1,5 @@
 -- Members and elements lie within the text.
+pub mod EntriesLeft
 pub mod Within
 pub mod RowPlaces
 pub mod Levels

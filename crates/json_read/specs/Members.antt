@@ -1,9 +1,9 @@
 -- The code's answers for members and elements.
 use Rattle.std.specs.Prelude as std
-use Rattle.std.specs.Prelude.{ℕ, ◌*◌, cond, List, [], ◌∷◌, ◌++◌, length, eqb, leb, Some, None}
+use Rattle.std.specs.Prelude.{Bool, ℕ, ◌*◌, cond, List, [], ◌∷◌, ◌++◌, length, eqb, leb, Some, None}
 use Rattle.std.proofs.Math.Option.{Option, none, some}
 use Rattle.prelude.specs.Limits.{most_members}
-use Rattle.grammar.specs.Grammar.{comma}
+use Rattle.grammar.specs.Grammar.{comma, Bracket, curly, square}
 use Rattle.grammar.specs.Places as places
 use Rattle.grammar.specs.Reader.{octet_at, step, skip_space, Entry}
 use Rattle.json_read.specs.declared.member.Row.{Row}
@@ -25,6 +25,20 @@ row_of m = record {
   name = record { start = m.name_start; len = m.name_size };
   value = record { start = m.value_start; len = m.value_size };
   kind = m.kind;
+}
+
+-- What opens an array or an object.
+abbrev pub bracket_of : Bool → Bracket
+bracket_of array = cond array square curly
+
+-- The member, or the element, that the code reads as a row.
+abbrev pub row_member : Row → places.Member
+row_member r = record {
+  name_start = r.name.start;
+  name_size = r.name.len;
+  value_start = r.value.start;
+  value_size = r.value.len;
+  kind = r.kind;
 }
 
 -- The answer that a member stands here, and where the next one begins.

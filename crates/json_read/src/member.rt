@@ -5,8 +5,8 @@ ghost use Rattle.prelude.specs.Buffer.{written};
 ghost use Rattle.prelude.specs.Limits.{most_members};
 ghost use Rattle.grammar.specs.Grammar.{curly, square};
 ghost use Rattle.grammar.specs.Reader.{entry_at, value_at, members_at};
-ghost use Rattle.json_read.specs.Members.{first_in, member_of, next_from, five_of, flat, collected_of, member_room, member_width};
-ghost use Rattle.json_read.specs.Inner.Known.{Given, Known, KnownEntry, KnownIn};
+ghost use Rattle.json_read.specs.Members.{first_in, member_of, next_from, five_of, flat, bracket_of, collected_of, member_room, member_width};
+ghost use Rattle.json_read.specs.Inner.Known.{Given, Known, KnownEntry, KnownFrom, KnownIn, given_prop, from_prop};
 
 use crate::Position;
 use prelude::Place;
@@ -30,6 +30,18 @@ pub struct Row {
 pub struct Member {
     pub row: Row,
     pub next: Position,
+}
+
+// The members of an object, or the elements of an array, from a place on (src/entries.rt), no more than are left of the text's octets. What is asked of a judged text is known of all of them.
+#[derive(Clone, Copy)]
+pub struct Entries<'a> {
+    pub text: &'a [u8],
+    pub at: Position,
+    pub left: usize,
+    pub array: bool,
+    pub levels: u32,
+    pub judged: bool,
+    ghost known: { Given judged (KnownFrom (bracket_of array) levels text.now left at.at) } by { given_prop judged (from_prop (bracket_of array) levels text.now left at.at) },
 }
 
 // The five numbers of a row, written from a position on.
@@ -126,20 +138,13 @@ impl Position {
         ensures value { result ≡ collected_of (members_at levels s.now self.at) }
         ensures table_after { table.new ≡ written 0 (flat (take most_members (members_at levels s.now self.at))) table.old }
     {
-        let mut p = self.step(s).skip_space(s);
         let mut count: usize = 0;
-        let mut left = s.len();
-        while 0 < left {
-            let Some(found) = p.member(s, levels, judged) else {
-                return Some(count);
-            };
+        for row in Entries::members(s, self.at, levels, judged) {
             if count == MOST_MEMBERS {
                 return None;
             }
-            put_row(found.row, table, count * WIDTH);
+            put_row(row, table, count * WIDTH);
             count += 1;
-            p = found.next;
-            left -= 1;
         }
         Some(count)
     }

@@ -3,13 +3,13 @@
 use mathlib.Core.Path.{◌≡◌, refl, ap, ap₂, sym, ◌∙◌}
 use mathlib.Core.List.{List, [], ◌∷◌}
 use mathlib.Core.Bool.{Bool, true, false, ◌&&◌}
-use Prim.Native.Nat.{ℕ, suc, ◌+◌, ◌-◌, ◌≤◌, ◌<◌}
+use Prim.Native.Nat.{ℕ, suc, ◌+◌, ◌≤◌, ◌<◌}
 use native.Mathlib.Omega.{arith}
-use lib.ListN.{length, take, drop, get_or, length-drop}
+use lib.ListN.{length, take, drop, get_or}
 use lib.Dec.{leb, eqb}
-use borrow.Author.Tests.{le-leb, lt-leb, eqb-true, eqb-false, eq-eqb, ne_eqb}
+use borrow.Author.Tests.{le-leb, lt-leb}
+use Rattle.prelude.proofs.Lists.{drop_next}
 use Rattle.names.specs.Names.{total, filled, limited, sound}
-use Rattle.names.proofs.Turns.{coming, coming_next, coming_none, coming_all}
 
 -- Before the loop
 
@@ -18,81 +18,64 @@ unfolding sound
 sound_empty [] h = refl
 sound_empty (n ∷ rest) h = absurd (omega arith)
 
-pub sound_many : (list : List ℕ) → 16 < get_or list 0 0 → false ≡ sound list
-unfolding sound
-sound_many [] h = refl
-sound_many (n ∷ rest) h = sym (ap (λ (b : Bool). b && (limited (take n rest) && filled (n ∷ rest))) (lt-leb n 16 h))
-
 false_behind : (a b : Bool) → a && (b && false) ≡ false
 false_behind true true = refl
 false_behind true false = refl
 false_behind false b = refl
 
-pub sound_short : (list : List ℕ) → length list - 1 < get_or list 0 0 → false ≡ sound list
-unfolding sound filled
-sound_short [] h = refl
-sound_short (n ∷ rest) h =
-    let last = eqb (total (take n rest)) (length (drop n rest)) in
-    sym (ap (λ (b : Bool). leb n 16 && (limited (take n rest) && (b && last))) (lt-leb n (length rest) (omega arith))
-    ∙ false_behind (leb n 16) (limited (take n rest)))
+module _ (n : ℕ) (rest : List ℕ) where
+  pub sound_many : 16 < n → false ≡ sound (n ∷ rest)
+  unfolding sound
+  sound_many h = sym (ap (λ (b : Bool). b && (limited (take n rest) && filled (n ∷ rest))) (lt-leb n 16 h))
+
+  pub sound_short : length rest < n → false ≡ sound (n ∷ rest)
+  unfolding sound filled
+  sound_short h =
+      let last = eqb (total (take n rest)) (length (drop n rest)) in
+      sym (ap (λ (b : Bool). leb n 16 && (limited (take n rest) && (b && last))) (lt-leb n (length rest) h)
+      ∙ false_behind (leb n 16) (limited (take n rest)))
 
 -- In the loop
 
--- What is left to be judged: the lengths from the i-th on, and that names of these lengths from `end` on fill the list.
-abbrev pub sound_from : List ℕ → ℕ → ℕ → ℕ → Bool
-sound_from list n end i = limited (coming list n i) && eqb (end + total (coming list n i)) (length list)
+-- What is left to be judged: the lengths to come, and that names of these and of the lengths so far fill the room.
+abbrev pub sound_from : List ℕ → ℕ → ℕ → Bool
+sound_from ks size room = limited ks && eqb (size + total ks) room
 
--- Tests of equivalent equations agree.
-eqb_as : (a b c d : ℕ) → (a ≡ b → c ≡ d) → (c ≡ d → a ≡ b) → eqb a b ≡ eqb c d
-eqb_as a b c d f g = cases (eqb a b) refl
-  where
-    cases : (t : Bool) → eqb a b ≡ t → eqb a b ≡ eqb c d
-    cases true e = e ∙ sym (eq-eqb c d (f (eqb-true a b e)))
-    cases false e = e ∙ sym (ne_eqb c d (λ z. eqb-false a b e (g z)))
-
-pub sound_start : (list : List ℕ) (n : ℕ) → n ≡ get_or list 0 0 → n ≤ 16 → n < length list →
-    sound_from list n (n + 1) 1 ≡ sound list
+pub sound_start : (n : ℕ) (rest : List ℕ) → n ≤ 16 → n ≤ length rest →
+    sound_from (take n rest) 0 (length (drop n rest)) ≡ sound (n ∷ rest)
 unfolding sound filled
-sound_start [] n e few f = absurd (omega arith)
-sound_start (m ∷ rest) n e few f =
-    let size = total (take m rest) in
-    let left = length (drop m rest) in
-    let fills : eqb (m + 1 + size) (suc (length rest)) ≡ eqb size left =
-    let cut = length-drop m rest in
-    eqb_as (m + 1 + size) (suc (length rest)) size left (λ z. omega arith) (λ z. omega arith) in
-    ap (λ (k : ℕ). sound_from (m ∷ rest) k (k + 1) 1) e
-    ∙ ap (λ (ks : List ℕ). limited ks && eqb (m + 1 + total ks) (suc (length rest))) (coming_all m rest)
-    ∙ ap (λ (b : Bool). limited (take m rest) && b) fills
-    ∙ sym (ap₂ (λ (a b : Bool). a && (limited (take m rest) && (b && eqb size left))) (le-leb m 16 (omega arith))
-    (le-leb m (length rest) (omega arith)))
+sound_start n rest few there =
+    let none : 0 + total (take n rest) ≡ total (take n rest) = omega arith in
+    ap (λ (k : ℕ). limited (take n rest) && eqb k (length (drop n rest))) none
+    ∙ sym (ap₂ (λ (a b : Bool). a && (limited (take n rest) && (b && eqb (total (take n rest)) (length (drop n rest)))))
+    (le-leb n 16 few) (le-leb n (length rest) there))
 
-module _ (list : List ℕ) (n end i : ℕ) (h : i ≤ n) (f : n < length list) where
+module _ (ks : List ℕ) (size room i : ℕ) (h : i < length ks) where
+  abbrev later : List ℕ
+  later = drop (i + 1) ks
+
   -- The next length, and those after it.
   sound_next :
-      sound_from list n end i
-      ≡ (leb 1 (get_or list i 0) && (leb (get_or list i 0) 64 && limited (coming list n (i + 1))))
-      && eqb (end + (get_or list i 0 + total (coming list n (i + 1)))) (length list)
+      sound_from (drop i ks) size room
+      ≡ (leb 1 (get_or ks i 0) && (leb (get_or ks i 0) 64 && limited later)) && eqb (size + (get_or ks i 0 + total later)) room
   unfolding limited total
-  sound_next = ap (λ (ks : List ℕ). limited ks && eqb (end + total ks) (length list)) (coming_next list n i h f)
+  sound_next = ap (λ (l : List ℕ). sound_from l size room) (drop_next ks i (i + 1) refl h)
 
-  pub sound_low : get_or list i 0 < 1 → false ≡ sound_from list n end i
-  sound_low l = sym (sound_next ∙ rw (lt-leb 1 (get_or list i 0) l))
+  pub sound_low : get_or ks i 0 < 1 → false ≡ sound_from (drop i ks) size room
+  sound_low l = sym (sound_next ∙ rw (lt-leb 1 (get_or ks i 0) l))
 
-  pub sound_high : 1 ≤ get_or list i 0 → 64 < get_or list i 0 → false ≡ sound_from list n end i
-  sound_high l u = sym (sound_next ∙ rw (le-leb 1 (get_or list i 0) l, lt-leb (get_or list i 0) 64 u))
+  pub sound_high : 1 ≤ get_or ks i 0 → 64 < get_or ks i 0 → false ≡ sound_from (drop i ks) size room
+  sound_high l u = sym (sound_next ∙ rw (le-leb 1 (get_or ks i 0) l, lt-leb (get_or ks i 0) 64 u))
 
-  pub sound_turn : 1 ≤ get_or list i 0 → get_or list i 0 ≤ 64 →
-      sound_from list n (end + get_or list i 0) (i + 1) ≡ sound_from list n end i
+  pub sound_turn : 1 ≤ get_or ks i 0 → get_or ks i 0 ≤ 64 →
+      sound_from later (size + get_or ks i 0) room ≡ sound_from (drop i ks) size room
   sound_turn l u =
-      let more = total (coming list n (i + 1)) in
-      let sum : end + get_or list i 0 + more ≡ end + (get_or list i 0 + more) = omega arith in
-      sym (sound_next ∙ rw (le-leb 1 (get_or list i 0) l, le-leb (get_or list i 0) 64 u, ← sum))
+      let sum : size + get_or ks i 0 + total later ≡ size + (get_or ks i 0 + total later) = omega arith in
+      sym (sound_next ∙ rw (le-leb 1 (get_or ks i 0) l, le-leb (get_or ks i 0) 64 u, ← sum))
 
 -- After it
 
-pub sound_end : (list : List ℕ) (n end i : ℕ) → n < i → eqb end (length list) ≡ sound_from list n end i
+pub sound_end : (ks : List ℕ) (size room : ℕ) → length ks ≡ 0 → eqb size room ≡ sound_from ks size room
 unfolding limited total
-sound_end list n end i h =
-    let same : end ≡ end + 0 = omega arith in
-    ap (λ (k : ℕ). eqb k (length list)) same
-    ∙ sym (ap (λ (ks : List ℕ). limited ks && eqb (end + total ks) (length list)) (coming_none list n i h))
+sound_end [] size room h = let same : size ≡ size + 0 = omega arith in ap (λ (k : ℕ). eqb k room) same
+sound_end (k ∷ ks) size room h = absurd (omega arith)

@@ -3,6 +3,5 @@ pub mod Laws
 pub mod Contents
 pub mod Numbers
 -- For the proofs of the functions.
-pub mod Turns
 pub mod Judging
 pub mod Finding

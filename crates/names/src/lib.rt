@@ -5,34 +5,30 @@
 ghost use Rattle.std.specs.Prelude.{◌≡◌, true};
 ghost use Rattle.names.specs.Names.{names, filled, sound, number_in};
 
+// The caller's list has at most so many names, each of 1 to so many octets.
+const MOST_NAMES: usize = 16;
+const LONGEST_NAME: u8 = 64;
+
 // Whether a lent list is one of at most 16 names of 1 to 64 octets each, which fill it exactly.
 pub fn sound(list: &[u8]) -> bool
     ensures { result ≡ sound list.now }
 {
-    if list.len() == 0 {
+    let Some((&n, rest)) = list.split_first() else {
+        return false;
+    };
+    let n = usize::from(n);
+    if MOST_NAMES < n || rest.len() < n {
         return false;
     }
-    let n = list[0] as usize;
-    if 16 < n {
-        return false;
-    }
-    if list.len() - 1 < n {
-        return false;
-    }
-    let mut end = n + 1;
-    let mut at: usize = 1;
-    while at <= n {
-        let k = list[at];
-        if k < 1 {
+    let (lengths, names) = rest.split_at(n);
+    let mut total = 0;
+    for &k in lengths {
+        if k < 1 || LONGEST_NAME < k {
             return false;
         }
-        if 64 < k {
-            return false;
-        }
-        end += k as usize;
-        at += 1;
+        total += usize::from(k);
     }
-    end == list.len()
+    total == names.len()
 }
 
 // The number of the first name of a list that a spelling has, counted from 1; 0 where it has none.
@@ -40,16 +36,16 @@ pub fn find(list: &[u8], spelled: &[u8]) -> u32
     requires { filled list.now ≡ true }
     ensures { result ≡ number_in (names list.now) spelled.now }
 {
-    let n = list[0] as usize;
-    let mut start = n + 1;
-    let mut i: usize = 1;
-    while i <= n {
-        let end = start + list[i] as usize;
-        if spelling::has(spelled, &list[start..end]) {
-            return i as u32;
+    let Some((&n, rest)) = list.split_first() else {
+        return 0;
+    };
+    let (lengths, mut names) = rest.split_at(usize::from(n));
+    for (i, &k) in lengths.iter().enumerate() {
+        let (name, rest) = names.split_at(usize::from(k));
+        if spelling::has(spelled, name) {
+            return i as u32 + 1;
         }
-        start = end;
-        i += 1;
+        names = rest;
     }
     0
 }

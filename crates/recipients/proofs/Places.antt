@@ -134,6 +134,10 @@ module _ (t : List ℕ) (sound : sound_table t ≡ true) where
   pub lengths_fit : 1 + 8 * said_count t ≤ length t
   lengths_fit = omega (arith, sound_fills, start_first t, start_order t 0 (said_count t) (omega arith))
 
+  -- so do the two lengths of each recipient
+  pub lengths_there : (i : ℕ) → i < said_count t → 1 + 8 * i + 8 ≤ length t
+  lengths_there i h = omega (arith, lengths_fit)
+
   pub body_fits : (i : ℕ) → i < said_count t → body_start t i + header_length t i + key_length t i ≤ length t
   body_fits i h = omega (arith, sound_fills, start_next t i, start_order t (i + 1) (said_count t) (omega arith))
 

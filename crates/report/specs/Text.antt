@@ -1,5 +1,6 @@
 -- Text: numbers in decimal digits, words chosen by a number, and lines.
-use Rattle.std.specs.Prelude.{List, [], ◌∷◌, ◌++◌, cond, ℕ, zero, suc, ◌+◌, ◌/◌, ◌%◌, ltb}
+use Rattle.std.specs.Prelude.{List, [], ◌∷◌, ◌++◌, map, cond, ℕ, zero, suc, ◌+◌, ◌/◌, ◌%◌, ltb}
+use Rattle.std.specs.Borrow.{Bor}
 
 -- The octet of a digit: `0` is 48.
 abbrev pub digit : ℕ → ℕ
@@ -22,6 +23,10 @@ word n (w ∷ []) = w
 word zero (w ∷ v ∷ ws) = w
 word (suc zero) (w ∷ v ∷ ws) = w
 word (suc (suc n)) (w ∷ v ∷ ws) = word (suc n) (v ∷ ws)
+
+-- What some texts say.
+abbrev pub said : List (Bor (List ℕ)) → List (List ℕ)
+said ts = map (λ t. t.now) ts
 
 abbrev pub space : ℕ
 space = 32

@@ -12,50 +12,33 @@ use headers::Components;
 use prelude::Place;
 use rows::layout;
 
-// The words for the reader's numbers, as lists of names, contents first, as `names` reads them. Where one is used it is
-// proved to be the list of the words that the definition has, by computing.
+// The words for the reader's numbers. Where they are used it is proved, by computing, that they are the definition's.
 
-const FORMS: [u8; 27] = *b"\x03\
-    \x07\x09\x07\
-    compact\
-    flattened\
-    general";
+const FORMS: [&str; 3] = ["compact", "flattened", "general"];
 
-const MODES: [u8; 88] = *b"\x05\
-    \x0e\x0c\x10\x17\x11\
-    key-encryption\
-    key-wrapping\
-    direct-agreement\
-    agreement-with-wrapping\
-    direct-encryption";
+const MODES: [&str; 5] = [
+    "key-encryption",
+    "key-wrapping",
+    "direct-agreement",
+    "agreement-with-wrapping",
+    "direct-encryption",
+];
 
-const ORIGINS: [u8; 7] = *b"\x03\
-    \x01\x01\x01\
-    p\
-    u\
-    r";
+const ORIGINS: [&str; 3] = ["p", "u", "r"];
 
-const KINDS: [u8; 44] = *b"\x07\
-    \x06\x05\x06\x06\x04\x05\x04\
-    object\
-    array\
-    string\
-    number\
-    true\
-    false\
-    null";
+const KINDS: [&str; 7] = [
+    "object", "array", "string", "number", "true", "false", "null",
+];
 
 pub(crate) fn put_first(form: u32, count: usize, mode: u32, out: &mut [u8], at: usize) -> usize
     requires { at + length (first_line form count mode) ≤ length out.old }
     ensures value { result ≡ at + length (first_line form count mode) }
     ensures out_after { out.new ≡ written at (first_line form count mode) out.old }
 {
-    let forms = FORMS;
-    let modes = MODES;
     let a = put_word(b"accepted", b' ', out, at);
-    let b = put_named(&forms, form as usize + 1, b' ', out, a);
+    let b = put_named(&FORMS, form as usize + 1, b' ', out, a);
     let c = put_number(count, b' ', out, b);
-    put_named(&modes, mode as usize, b'\n', out, c)
+    put_named(&MODES, mode as usize, b'\n', out, c)
 }
 
 fn put_component(name: &[u8], place: Place, out: &mut [u8], at: usize) -> usize
@@ -88,14 +71,12 @@ fn put_parameter(row: &[u32], out: &mut [u8], at: usize) -> usize
     ensures value { result ≡ at + length (parameter_line (first_of row.now)) }
     ensures out_after { out.new ≡ written at (parameter_line (first_of row.now)) out.old }
 {
-    let origins = ORIGINS;
-    let kinds = KINDS;
-    let a = put_named(&origins, row[layout::ORIGIN] as usize + 1, b' ', out, at);
+    let a = put_named(&ORIGINS, row[layout::ORIGIN] as usize + 1, b' ', out, at);
     let b = put_number(row[layout::NAME_START] as usize, b' ', out, a);
     let c = put_number(row[layout::NAME_SIZE] as usize, b' ', out, b);
     let d = put_number(row[layout::VALUE_START] as usize, b' ', out, c);
     let e = put_number(row[layout::VALUE_SIZE] as usize, b' ', out, d);
-    put_named(&kinds, row[layout::KIND] as usize + 1, b'\n', out, e)
+    put_named(&KINDS, row[layout::KIND] as usize + 1, b'\n', out, e)
 }
 
 // The first parameters of the reader's list.
@@ -106,12 +87,9 @@ pub(crate) fn put_parameters(list: &[u32], count: usize, out: &mut [u8], at: usi
     ensures out_after { out.new ≡ written at (list_lines count list.now) out.old }
 {
     let mut next = at;
-    let mut i: usize = 0;
-    while i < count {
+    for i in 0..count {
         let start = i * layout::LIST_WIDTH;
-        let stop = start + layout::LIST_WIDTH;
-        next = put_parameter(&list[start..stop], out, next);
-        i += 1;
+        next = put_parameter(&list[start..start + layout::LIST_WIDTH], out, next);
     }
     next
 }

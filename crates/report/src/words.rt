@@ -1,8 +1,7 @@
 // Words and numbers with an octet behind each, written from a position on. Each function answers the position after them.
-ghost use Rattle.std.specs.Prelude.{◌≡◌, true, ◌+◌, ◌≤◌, min, length, get_or};
+ghost use Rattle.std.specs.Prelude.{◌≡◌, ◌+◌, ◌≤◌, length};
 ghost use Rattle.prelude.specs.Buffer.{written};
-ghost use Rattle.names.specs.Names.{names, filled};
-ghost use Rattle.report.specs.Text.{decimal, word, ended};
+ghost use Rattle.report.specs.Text.{decimal, word, said, ended};
 
 pub(crate) fn put_word(word: &[u8], end: u8, out: &mut [u8], at: usize) -> usize
     requires { at + length (ended word.now end) ≤ length out.old }
@@ -22,11 +21,11 @@ fn put_digits(n: usize, out: &mut [u8], at: usize) -> usize
     ensures out_after { out.new ≡ written at (decimal n) out.old }
 {
     if n < 10 {
-        out[at] = 48 + n as u8;
+        out[at] = b'0' + n as u8;
         return at + 1;
     }
     let last = put_digits(n / 10, out, at);
-    out[last] = 48 + (n % 10) as u8;
+    out[last] = b'0' + (n % 10) as u8;
     last + 1
 }
 
@@ -40,29 +39,13 @@ pub(crate) fn put_number(n: usize, end: u8, out: &mut [u8], at: usize) -> usize
     last + 1
 }
 
-fn least(a: usize, b: usize) -> usize
-    ensures { result ≡ min a b }
+// The n-th word, counted from 1; the first for 0, and the last where there are fewer.
+pub(crate) fn put_named(words: &[&str], n: usize, end: u8, out: &mut [u8], at: usize) -> usize
+    requires bound { 1 ≤ length words.now }
+    requires end_in_bounds { at + length (ended (word n (said words.now)) end) ≤ length out.old }
+    ensures value { result ≡ at + length (ended (word n (said words.now)) end) }
+    ensures out_after { out.new ≡ written at (ended (word n (said words.now)) end) out.old }
 {
-    if a < b { a } else { b }
-}
-
-// The n-th word of a list, counted from 1; the first for 0, and the last where there are fewer. The list has contents first,
-// as `names` reads it.
-pub(crate) fn put_named(list: &[u8], n: usize, end: u8, out: &mut [u8], at: usize) -> usize
-    requires list_value { filled list.now ≡ true }
-    requires bound { 1 ≤ get_or list.now 0 0 }
-    requires end_in_bounds { at + length (ended (word n (names list.now)) end) ≤ length out.old }
-    ensures value { result ≡ at + length (ended (word n (names list.now)) end) }
-    ensures out_after { out.new ≡ written at (ended (word n (names list.now)) end) out.old }
-{
-    let count = list[0] as usize;
-    let mut start = count + 1;
-    let last = least(n, count);
-    let mut i: usize = 1;
-    while i < last {
-        start += list[i] as usize;
-        i += 1;
-    }
-    let stop = start + list[i] as usize;
-    put_word(&list[start..stop], end, out, at)
+    let i = n.saturating_sub(1).min(words.len() - 1);
+    put_word(words[i].as_bytes(), end, out, at)
 }

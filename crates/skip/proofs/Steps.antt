@@ -2,7 +2,7 @@
 use mathlib.Core.Path.{◌≡◌, refl, ap, ap₂, sym, subst, ◌∙◌}
 use mathlib.Core.Bool.{Bool, true, false, not, ◌&&◌, ◌||◌, true≢false}
 use mathlib.Core.List.{List, [], ◌∷◌}
-use Prim.Native.Nat.{ℕ, zero, suc, ◌+◌, ◌-◌, ◌≤◌, ◌<◌}
+use Prim.Native.Nat.{ℕ, zero, suc, ◌+◌, ◌≤◌, ◌<◌}
 use native.Mathlib.Omega.{arith}
 use lib.ListN.{length, drop, get_or, drop_of_length-le, length-drop}
 use lib.Seq.{get_or-drop}
@@ -176,10 +176,10 @@ alike_unmarked s at =
     let n = position_or_len is_mark (drop at s) in
     elim (cases_lt (length s) at) [
       | inl u ↦
-        let none : at ≡ at + n = simp (drop_of_length-le s {i = at} (omega arith)) (omega arith) in
-        subst (Alike s at) none alike_none
+          let none : at ≡ at + n = simp (drop_of_length-le s {i = at} (omega arith)) (omega arith) in
+          subst (Alike s at) none alike_none
       | inr u ↦
-        let size : n ≤ length (drop at s) = prefix_len-le-length (λ c. not (is_mark c)) (drop at s) in
-        alike_run s n at (at + n) refl (omega (arith, length-drop at s)) (λ k l.
-        ap is_mark (sym (get_or-drop at s k 0)) ∙ fails_before_first is_mark (drop at s) k 0 l)
+          let size : n ≤ length (drop at s) = prefix_len-le-length (λ c. not (is_mark c)) (drop at s) in
+          alike_run s n at (at + n) refl (omega (arith, length-drop at s)) (λ k l.
+          ap is_mark (sym (get_or-drop at s k 0)) ∙ fails_before_first is_mark (drop at s) k 0 l)
     ]

@@ -31,7 +31,7 @@ impl Kind for Mark {
     ghost has = { λ kind. is_mark };
 
     fn has(self, c: u8) -> bool {
-        (c == b'"') | (c == b'\\') | (c == b'[') | (c == b']') | (c == b'{') | (c == b'}')
+        (c == b'"') | (c == b'\\') | (is_opening(c) | is_closing(c))
     }
 }
 

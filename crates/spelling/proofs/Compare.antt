@@ -2,7 +2,7 @@
 -- themselves are taken as they are.
 use mathlib.Core.Path.{◌≡◌, refl, ap, ap₂, sym, subst, ◌∙◌}
 use mathlib.Core.Bool.{Bool, true, false, ◌&&◌}
-use mathlib.Core.List.{List, [], ◌∷◌}
+use mathlib.Core.List.{List, [], ◌∷◌, ◌++◌}
 use mathlib.Core.Option.{none}
 use Prim.Native.Nat.{ℕ, zero, suc, ◌+◌, ◌-◌, ◌≤◌, ◌<◌}
 use native.Mathlib.Omega.{arith}
@@ -12,9 +12,9 @@ use lib.Dec.{eqb, leb, ltb}
 use borrow.Author.Tests.{eq-eqb, ne_eqb, eqb-true, eqb-false, leb-true, leb-false, ltb-true, ltb-false}
 use Rattle.prelude.proofs.Lists.{drop_next}
 use Rattle.grammar.specs.Spellings.{between, undo, undo_from, equal, alike, has}
-use Rattle.spelling.specs.Inner.Cursors.{undo_at, rest, Common}
-use Rattle.spelling.proofs.Cursors.{undo_plain, rest_between}
-use Rattle.spelling.specs.declared.Cursor.{Cursor}
+use Rattle.std.specs.Prelude.{Option, None}
+use Rattle.spelling.specs.Inner.Escapes.{last_octets, undo_at, Common}
+use Rattle.spelling.proofs.Cursors.{undo_plain}
 
 -- What the next octets of two lists say of them.
 module _ (v w : List ℕ) where
@@ -42,26 +42,26 @@ module _ (v w : List ℕ) where
 
 -- From the beginning.
 
-pub alike_start : (v w : List ℕ) → equal (undo_at v 0 0) (undo_at w 0 0) ≡ alike v w
+pub alike_start : (v w : List ℕ) → equal (undo_at v None 0) (undo_at w None 0) ≡ alike v w
 unfolding alike undo
 alike_start v w = refl
 
-pub has_start : (v w : List ℕ) → equal (undo_at v 0 0) (drop 0 w) ≡ has v w
+pub has_start : (v w : List ℕ) → equal (undo_at v None 0) (drop 0 w) ≡ has v w
 unfolding has undo
 has_start v w = refl
 
 -- An octet that both have and that is no backslash.
 module _ (v w : List ℕ) (k : ℕ) (h : k < length v) (i : k < length w) (e : get_or v k 0 ≡ get_or w k 0)
     (n : get_or v k 0 ≡ 92 → ⊥) where
-  pub alike_passes : equal (undo_at v 0 (k + 1)) (undo_at w 0 (k + 1)) ≡ equal (undo_at v 0 k) (undo_at w 0 k)
+  pub alike_passes : equal (undo_at v None (k + 1)) (undo_at w None (k + 1)) ≡ equal (undo_at v None k) (undo_at w None k)
   alike_passes =
-      same (undo_at v 0 k) (undo_at w 0 k) (get_or v k 0) (undo_at v 0 (k + 1)) (get_or w k 0) (undo_at w 0 (k + 1))
-      (undo_plain v 0 k h n) (undo_plain w 0 k i (λ z. n (e ∙ z))) e
+      same (undo_at v None k) (undo_at w None k) (get_or v k 0) (undo_at v None (k + 1)) (get_or w k 0) (undo_at w None (k + 1))
+      (sym (undo_plain v None k h n)) (sym (undo_plain w None k i (λ z. n (e ∙ z)))) e
 
-  pub has_passes : equal (undo_at v 0 (k + 1)) (drop (k + 1) w) ≡ equal (undo_at v 0 k) (drop k w)
+  pub has_passes : equal (undo_at v None (k + 1)) (drop (k + 1) w) ≡ equal (undo_at v None k) (drop k w)
   has_passes =
-      same (undo_at v 0 k) (drop k w) (get_or v k 0) (undo_at v 0 (k + 1)) (get_or w k 0) (drop (k + 1) w)
-      (undo_plain v 0 k h n) (sym (drop_next w k (k + 1) refl i)) e
+      same (undo_at v None k) (drop k w) (get_or v k 0) (undo_at v None (k + 1)) (get_or w k 0) (drop (k + 1) w)
+      (sym (undo_plain v None k h n)) (sym (drop_next w k (k + 1) refl i)) e
 
 -- As many as both begin with.
 
@@ -96,46 +96,44 @@ common_block v w k e m h i c d = (h, (i, λ j l. cases j l (ltb j k) refl))
         let here = d.1.1 (j - k) (omega (arith, size, m, l)) in
         (sym (at v j m l) ∙ here.0 ∙ at w j m l, λ z. here.1 (at v j m l ∙ z))
 
-pub common_alike : (v w : List ℕ) (k : ℕ) → Common v w k → equal (undo_at v 0 k) (undo_at w 0 k) ≡ equal (undo_at v 0 0) (undo_at w 0 0)
+pub common_alike : (v w : List ℕ) (k : ℕ) → Common v w k → equal (undo_at v None k) (undo_at w None k) ≡ equal (undo_at v None 0) (undo_at w None 0)
 common_alike v w zero c = refl
 common_alike v w (suc k) c =
     let here = c.1.1 k (omega arith) in
     let next : suc k ≡ k + 1 = omega arith in
-    ap (λ n. equal (undo_at v 0 n) (undo_at w 0 n)) next
+    ap (λ n. equal (undo_at v None n) (undo_at w None n)) next
     ∙ alike_passes v w k (omega (arith, c.0)) (omega (arith, c.1.0)) here.0 here.1
     ∙ common_alike v w k (common_fewer v w k c)
 
-pub common_has : (v w : List ℕ) (k : ℕ) → Common v w k → equal (undo_at v 0 k) (drop k w) ≡ has v w
+pub common_has : (v w : List ℕ) (k : ℕ) → Common v w k → equal (undo_at v None k) (drop k w) ≡ has v w
 common_has v w zero c = has_start v w
 common_has v w (suc k) c =
     let here = c.1.1 k (omega arith) in
     let next : suc k ≡ k + 1 = omega arith in
-    ap (λ n. equal (undo_at v 0 n) (drop n w)) next
+    ap (λ n. equal (undo_at v None n) (drop n w)) next
     ∙ has_passes v w k (omega (arith, c.0)) (omega (arith, c.1.0)) here.0 here.1
     ∙ common_has v w k (common_fewer v w k c)
 
 -- From two positions on.
 pub common_from : (v w : List ℕ) (i j k : ℕ) → Common (drop i v) (drop j w) k →
-    equal (undo_at v 0 (i + k)) (undo_at w 0 (j + k)) ≡ equal (undo_at v 0 i) (undo_at w 0 j)
+    equal (undo_at v None (i + k)) (undo_at w None (j + k)) ≡ equal (undo_at v None i) (undo_at w None j)
 common_from v w i j k c =
     ap₂ (λ x y. equal (undo_from (between none) x) (undo_from (between none) y)) (sym (drop-drop k i v)) (sym (drop-drop k j w))
     ∙ common_alike (drop i v) (drop j w) k c
 
--- From two cursors on that stand between characters.
-pub common_rest : (v w : List ℕ) (p q : Cursor) → p.left ≤ 0 → q.left ≤ 0 → p.half ≤ 0 → q.half ≤ 0 → (k : ℕ) →
-    Common (drop p.at v) (drop q.at w) k →
-    equal (undo_at v 0 (p.at + k)) (undo_at w 0 (q.at + k)) ≡ equal (rest v p) (rest w q)
-common_rest v w p q l m g h k c =
-    let start : (s : List ℕ) (r : Cursor) → r.left ≤ 0 → r.half ≤ 0 → undo_at s 0 r.at ≡ rest s r =
-    λ s r n i. (let none : 0 ≡ r.half = omega (arith, i) in ap (λ x. undo_at s x r.at) none ∙ rest_between s r n) in
-    common_from v w p.at q.at k c ∙ ap₂ equal (start v p l g) (start w q m h)
+-- From two cursors on that stand between characters, no half before.
+pub common_rest : (v w : List ℕ) (h g : Option ℕ) (i j l m a b k : ℕ) → l ≡ 0 → m ≡ 0 → h ≡ None → g ≡ None →
+    Common (drop i v) (drop j w) k →
+    equal (last_octets l a ++ undo_at v h (i + k)) (last_octets m b ++ undo_at w g (j + k))
+    ≡ equal (last_octets l a ++ undo_at v h i) (last_octets m b ++ undo_at w g j)
+common_rest v w h g i j l m a b k x y e f c = rw (x, y, e, f) (common_from v w i j k c)
 
 -- A different octet that stands for itself.
 pub has_differs : (v w : List ℕ) (k : ℕ) → k < length v → k < length w → (get_or v k 0 ≡ 92 → ⊥) →
-    (get_or v k 0 ≡ get_or w k 0 → ⊥) → false ≡ equal (undo_at v 0 k) (drop k w)
+    (get_or v k 0 ≡ get_or w k 0 → ⊥) → false ≡ equal (undo_at v None k) (drop k w)
 has_differs v w k h i m d =
-    differ (undo_at v 0 k) (drop k w) (get_or v k 0) (undo_at v 0 (k + 1)) (get_or w k 0) (drop (k + 1) w)
-    (undo_plain v 0 k h m) (sym (drop_next w k (k + 1) refl i)) d
+    differ (undo_at v None k) (drop k w) (get_or v k 0) (undo_at v None (k + 1)) (get_or w k 0) (drop (k + 1) w)
+    (sym (undo_plain v None k h m)) (sym (drop_next w k (k + 1) refl i)) d
 
 -- A spelling that is at its end has the octets from k on exactly where there are none.
 pub has_ends : (v w : List ℕ) (k : ℕ) → [] ≡ v → leb (length w) k ≡ equal v (drop k w)

@@ -1,3 +1,4 @@
 pub mod Cursors
 pub mod Compare
 pub mod Fingerprints
+pub mod Answering

@@ -4,7 +4,6 @@ use mathlib.Core.Bool.{Bool, true, false}
 use Prim.Native.Nat.{ℕ}
 use lib.Dec.{eqb}
 use borrow.Author.Tests.{eqb-true, eqb-false}
-use Rattle.base64url.specs.Fault.{count_outside}
 use Rattle.base64url.proofs.Counting.{none_outside}
 use Rattle.base64url.proofs.Answers.{checked_outside, checked_lone, checked_spare, checked_sound}
 use Rattle.base64url.proofs.check.Goals as goal
@@ -25,12 +24,12 @@ returns-then-not-in_alphabet c =
     let text = c.args.text.now in
     let inside = c.in_alphabet.ensures in
     elim c.then-not-in_alphabet.branch [
-      then-not-in_alphabet-via-then-not-in_alphabet w ↦ checked_outside text (some inside w.if-not-in_alphabet.true)
-    | then-not-in_alphabet-via-else-not-in_alphabet+then-text-eq1 w ↦
-        checked_lone text (none inside w.if-not-in_alphabet.false) w.if-text-eq1.true
-    | then-not-in_alphabet-via-else-not-in_alphabet+else-text-eq1+then-spare_bits-ne0 w ↦
-        checked_spare text (none inside w.if-not-in_alphabet.false) w.if-text-eq1.false
-        (λ zero. w.if-spare_bits-ne0.true (w.spare_bits.ensures ∙ zero))
+      | then-not-in_alphabet-via-then-not-in_alphabet w ↦ checked_outside text (some inside w.if-not-in_alphabet.true)
+      | then-not-in_alphabet-via-else-not-in_alphabet+then-text-eq1 w ↦
+          checked_lone text (none inside w.if-not-in_alphabet.false) w.if-text-eq1.true
+      | then-not-in_alphabet-via-else-not-in_alphabet+else-text-eq1+then-spare_bits-ne0 w ↦
+          checked_spare text (none inside w.if-not-in_alphabet.false) w.if-text-eq1.false
+          (λ zero. w.if-spare_bits-ne0.true (w.spare_bits.ensures ∙ zero))
     ]
 
 pub returns : goal.returns

@@ -15,8 +15,8 @@ returns-then-out-at c =
     let octets = c.args.octets.now in
     let out = c.args.out.now in
     let too_long : length out < c.args.at + length (encoded octets) = elim c.then-out-at.branch [
-      then-out-at-via-then-out-at w ↦ omega arith
-    | then-out-at-via-else-out-at+then-out-at-2 w ↦ omega (arith, encoded_length_lem octets, w.encoded_length.ensures)
+      | then-out-at-via-then-out-at w ↦ omega arith
+      | then-out-at-via-else-out-at+then-out-at-2 w ↦ omega (arith, encoded_length_lem octets, w.encoded_length.ensures)
     ] in
     let answer = encode_full octets c.args.at (length out) too_long in
     record { value = answer; out_after = encode_leaves octets c.args.at out None answer }

@@ -1,10 +1,6 @@
 -- `find` answers by the definition: while it goes on, the number among the names still to come is the number among all.
-use Prim.Native.Nat.{◌+◌, ◌-◌}
 use Rattle.names.proofs.Finding.{Finding}
 use Rattle.names.proofs.find.Given as goal
 
 abbrev pub invariant-loop-i : goal.invariant-loop-i
-invariant-loop-i l = Finding l.list l.spelled l.n l.start l.i
-
-abbrev pub decreases-loop-i : goal.decreases-loop-i
-decreases-loop-i l = l.n + 1 - l.i
+invariant-loop-i l = Finding l.list l.spelled l.lengths l.names l.i

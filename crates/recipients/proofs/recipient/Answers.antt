@@ -1,11 +1,10 @@
 -- `recipient` reads the two lengths; the body fits, since the table is sound.
 use mathlib.Core.Path.{◌≡◌}
 use native.Mathlib.Omega.{arith}
-use Prim.Native.Nat.{ℕ, ◌+◌, ◌*◌, ◌≤◌}
-use lib.ListN.{length}
+use Prim.Native.Nat.{ℕ, ◌+◌}
 use Rattle.recipients.specs.Parsed.{header_length, key_length}
 use Rattle.recipients.specs.Inner.Answers.{body_at}
-use Rattle.recipients.proofs.Places.{lengths_fit, body_fits}
+use Rattle.recipients.proofs.Places.{lengths_there, body_fits}
 use Rattle.recipients.specs.declared.Body.{Body}
 use Rattle.recipients.proofs.recipient.Goals as goal
 
@@ -17,28 +16,23 @@ body_is p q r = cc
 
 pub overflow_mul-at : goal.overflow_mul-at
 overflow_mul-at c =
-    let lengths-there : 1 + 8 * c.args.i + 8 ≤ length c.args.table.now = omega (arith, lengths_fit c.args.table.now c.requires.table_value, c.requires.i_bound) in
-    omega (arith, lengths-there)
+    omega (arith, lengths_there c.args.table.now c.requires.table_value c.args.i c.requires.i_bound)
 
 pub overflow_add-at : goal.overflow_add-at
 overflow_add-at c =
-    let lengths-there : 1 + 8 * c.args.i + 8 ≤ length c.args.table.now = omega (arith, lengths_fit c.args.table.now c.requires.table_value, c.requires.i_bound) in
-    omega (arith, lengths-there)
+    omega (arith, lengths_there c.args.table.now c.requires.table_value c.args.i c.requires.i_bound)
 
 pub four_at-header-requires : goal.four_at-header-requires
 four_at-header-requires c =
-    let lengths-there : 1 + 8 * c.args.i + 8 ≤ length c.args.table.now = omega (arith, lengths_fit c.args.table.now c.requires.table_value, c.requires.i_bound) in
-    omega (arith, lengths-there)
+    omega (arith, lengths_there c.args.table.now c.requires.table_value c.args.i c.requires.i_bound)
 
 pub overflow_add-at-2 : goal.overflow_add-at-2
 overflow_add-at-2 c =
-    let lengths-there : 1 + 8 * c.args.i + 8 ≤ length c.args.table.now = omega (arith, lengths_fit c.args.table.now c.requires.table_value, c.requires.i_bound) in
-    omega (arith, lengths-there)
+    omega (arith, lengths_there c.args.table.now c.requires.table_value c.args.i c.requires.i_bound)
 
 pub four_at-key-requires : goal.four_at-key-requires
 four_at-key-requires c =
-    let lengths-there : 1 + 8 * c.args.i + 8 ≤ length c.args.table.now = omega (arith, lengths_fit c.args.table.now c.requires.table_value, c.requires.i_bound) in
-    omega (arith, lengths-there)
+    omega (arith, lengths_there c.args.table.now c.requires.table_value c.args.i c.requires.i_bound)
 
 pub overflow_add-result : goal.overflow_add-result
 unfolding header_length

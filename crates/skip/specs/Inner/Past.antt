@@ -1,7 +1,7 @@
 -- Where an object or an array ends, told by its brackets alone: those in strings do not count, and a backslash in a
 -- string takes the octet behind it along. Nothing else is looked at, so that the answer is an end only in a text that
 -- reads: proofs/Law.antt says so.
-use Rattle.std.specs.Prelude.{List, [], ◌∷◌, Bool, false, cond, ◌≡◌, ℕ, zero, suc, ◌+◌, drop, eqb}
+use Rattle.std.specs.Prelude.{List, [], ◌∷◌, Bool, cond, ◌≡◌, ℕ, zero, suc, ◌+◌, drop, eqb}
 use Rattle.grammar.specs.Grammar.{quote, backslash, among}
 
 -- [ {

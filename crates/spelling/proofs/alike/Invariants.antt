@@ -1,12 +1,11 @@
--- Two spellings say the same: what is to come from the two cursors is equal exactly where the wholes are.
-use Prim.Native.Nat.{◌≤◌}
+-- What is to come from the two cursors is equal exactly where the wholes are.
 use mathlib.Core.Path.{◌≡◌}
 use Rattle.grammar.specs.Spellings.{equal, alike}
 use Rattle.spelling.specs.Inner.Cursors.{rest, size}
 use Rattle.spelling.proofs.alike.Given as goal
 
-abbrev pub invariant-loop-c : goal.invariant-loop-c
-invariant-loop-c l = (equal (rest l.a l.p) (rest l.b l.q) ≡ alike l.a l.b) × ((l.p.half ≤ 56319) × (l.q.half ≤ 56319))
+abbrev pub invariant-loop-p : goal.invariant-loop-p
+invariant-loop-p l = equal (rest l.p) (rest l.q) ≡ alike l.a l.b
 
-abbrev pub decreases-loop-c : goal.decreases-loop-c
-decreases-loop-c l = size l.a l.p
+abbrev pub decreases-loop-p : goal.decreases-loop-p
+decreases-loop-p l = size l.p

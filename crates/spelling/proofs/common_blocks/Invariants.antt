@@ -1,6 +1,6 @@
 -- Blocks that both have, one after the other.
 use Prim.Native.Nat.{◌≤◌, ◌-◌}
-use Rattle.spelling.specs.Inner.Cursors.{Common}
+use Rattle.spelling.specs.Inner.Escapes.{Common}
 use Rattle.spelling.proofs.common_blocks.Given as goal
 
 abbrev pub invariant-loop-k : goal.invariant-loop-k

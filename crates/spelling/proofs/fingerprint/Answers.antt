@@ -1,39 +1,30 @@
--- The fingerprint of a spelling: plain octets and escapes in turn, and the whole stays the same.
-use Prim.Native.Nat.{◌≤◌}
-use mathlib.Core.Path.{refl, ap, sym, subst, ◌∙◌}
-use native.Mathlib.Omega.{arith}
+-- Octet by octet, and the whole stays the same.
+use Prim.Native.Nat.{◌+◌}
+use mathlib.Core.Path.{ap, sym, ◌∙◌}
+use Rattle.std.specs.Prelude.{None}
 use Rattle.grammar.specs.Spellings.{between}
-use Rattle.spelling.specs.Inner.Cursors.{half_of, undo_at, whole}
-use Rattle.spelling.specs.declared.Mixed.{Mixed}
-use Rattle.spelling.proofs.Cursors.{undo_end}
-use Rattle.spelling.proofs.Fingerprints.{mixed_end, mixed_start}
+use Rattle.spelling.specs.Inner.Fingerprints.{fingerprint_from}
+use Rattle.spelling.specs.Inner.Escapes.{half_of, undo_at}
+use Rattle.spelling.proofs.Cursors.{undo_plain, undo_end}
+use Rattle.spelling.proofs.Fingerprints.{mixed_start, mixed_next, mixed_end}
 use Rattle.spelling.proofs.fingerprint.Goals as goal
 
-pub loop-run-init : goal.loop-run-init
-loop-run-init c =
-    let small : Mixed → Type 0 = λ m. m.half ≤ 56319 in
-    (refl, subst small (sym c.mixed_at-p.ensures) (omega arith))
+pub loop-k-init : goal.loop-k-init
+loop-k-init c = mixed_start c.args.a.now
 
-pub mix_plain-run-requires : goal.mix_plain-run-requires
-mix_plain-run-requires c = c.loop-run.invariant.1
-
-pub returns-then-a-run : goal.returns-then-a-run
-returns-then-a-run c =
+pub loop-k-preserved : goal.loop-k-preserved
+loop-k-preserved c =
     let a = c.args.a.now in
-    let over = undo_end a (between (half_of c.mix_plain-run.result.half)) c.mix_plain-run.result.at c.if-a-run.true in
-    mixed_end c.mix_plain-run.result.value (undo_at a c.mix_plain-run.result.half c.mix_plain-run.result.at) (sym over)
-    ∙ c.mix_plain-run.ensures.result_value ∙ c.loop-run.invariant.0
-    ∙ ap (whole a) c.mixed_at-p.ensures ∙ mixed_start a
+    let k = c.loop-k.k in
+    ap (λ h. fingerprint_from h (undo_at a None (k + 1))) c.mix-print.ensures
+    ∙ mixed_next c.loop-k.print _ (undo_at a None (k + 1)) (undo_at a None k) (sym (undo_plain a None k c.loop-k-test.true c.if-c-eq92.false))
+    ∙ c.loop-k.invariant
 
-pub mix_escape-p-requires : goal.mix_escape-p-requires
-mix_escape-p-requires c =
-    let run = c.mix_plain-run.ensures.half_bound in
-    (run.0, c.if-a-run.false, run.2 c.if-a-run.false)
+pub returns-then-c-eq92 : goal.returns-then-c-eq92
+returns-then-c-eq92 c = c.mix_rest.ensures ∙ ap (fingerprint_from c.loop-k.print) c.new.ensures ∙ c.loop-k.invariant
 
-pub loop-run-smaller : goal.loop-run-smaller
-loop-run-smaller c =
-    omega (arith, c.mix_plain-run.ensures.half_bound.1, c.mix_escape-p.ensures.half_bound.1, c.if-a-run.false)
-
-pub loop-run-preserved : goal.loop-run-preserved
-loop-run-preserved c =
-    (c.mix_escape-p.ensures.result_value ∙ c.mix_plain-run.ensures.result_value ∙ c.loop-run.invariant.0, c.mix_escape-p.ensures.half_bound.0)
+pub returns : goal.returns
+returns c =
+    let a = c.args.a.now in
+    let k = c.loop-k.k in
+    mixed_end c.loop-k.print (undo_at a None k) (sym (undo_end a (between (half_of None)) k c.loop-k-test.false)) ∙ c.loop-k.invariant

@@ -1,12 +1,10 @@
--- The fingerprint of a spelling: plain octets and escapes in turn, and the whole stays the same.
-use Prim.Native.Nat.{◌-◌, ◌≤◌}
+-- What was taken in with what is to come is the fingerprint of the whole.
 use mathlib.Core.Path.{◌≡◌}
-use lib.ListN.{length}
-use Rattle.spelling.specs.Inner.Cursors.{whole}
+use Rattle.std.specs.Prelude.{None}
+use Rattle.grammar.specs.Spellings.{undo}
+use Rattle.spelling.specs.Inner.Fingerprints.{fingerprint_from, fingerprint}
+use Rattle.spelling.specs.Inner.Escapes.{undo_at}
 use Rattle.spelling.proofs.fingerprint.Given as goal
 
-abbrev pub invariant-loop-run : goal.invariant-loop-run
-invariant-loop-run l = (whole l.a l.p ≡ whole l.a l.initial.p) × (l.p.half ≤ 56319)
-
-abbrev pub decreases-loop-run : goal.decreases-loop-run
-decreases-loop-run l = length l.a - l.p.at
+abbrev pub invariant-loop-k : goal.invariant-loop-k
+invariant-loop-k l = fingerprint_from l.print (undo_at l.a None l.k) ≡ fingerprint (undo l.a)

@@ -1,41 +1,51 @@
 -- `decode_groups` writes a text's octets: group by group, and then what is left.
-use mathlib.Core.Path.{refl}
+use Prim.Native.Nat.{◌+◌, ◌*◌, ◌-◌}
+use mathlib.Core.Path.{◌≡◌, refl, ◌∙◌}
+use mathlib.Core.List.{[]}
 use native.Mathlib.Omega.{arith}
+use lib.ListN.{length, get_or}
 use Rattle.prelude.proofs.Writing.{begin}
 use Rattle.base64url.specs.Base64url.{six_bits, decoded}
-use Rattle.base64url.proofs.Chunks.{Chunked, chunk_below, rest_below, block_room, block_done, rest_room, rest_done}
+use Rattle.base64url.proofs.Chunks.{Chunked, chunk_below, rest_below, chunk_length, part_filled, rest_size, rest_filled}
 use Rattle.base64url.proofs.Groups.{decoded_by}
+use Rattle.base64url.proofs.Laws.{decoded_length_lem}
 use Rattle.base64url.proofs.by_groups.decode_groups.Goals as goal
 
-pub loop-group-init : goal.loop-group-init
-loop-group-init c = begin c.args.at (decoded c.args.text.now) c.args.out.now c.requires.text_in_bounds
+pub loop-i-init : goal.loop-i-init
+loop-i-init c = begin 0 (decoded c.args.text.now) c.args.out.now (omega (arith, c.requires.out_len))
 
-pub decode_four-j-requires : goal.decode_four-j-requires
-decode_four-j-requires c =
-    let chunks : Chunked 4 c.args.text.now c.as_chunks.result.0.now c.as_chunks.result.1.now = record { front = c.as_chunks.ensures.front; count = c.as_chunks.ensures.front_len; back = c.as_chunks.ensures.back } in
-    record {
-      tabled = c.requires.tabled;
-      all_below = chunk_below chunks c.loop-group.group-index c.loop-group-test.true 64 six_bits c.requires.all_below;
-      text_in_bounds = block_room chunks (decoded_by 4 refl) c.loop-group.invariant c.loop-group-test.true;
-    }
+pub slice_bounds-copy_from_slice-end : goal.slice_bounds-copy_from_slice-end
+slice_bounds-copy_from_slice-end c = omega (arith, decoded_length_lem c.args.text.now, c.as_chunks.ensures.front_len)
 
-pub loop-group-preserved : goal.loop-group-preserved
-loop-group-preserved c =
-    let chunks : Chunked 4 c.args.text.now c.as_chunks.result.0.now c.as_chunks.result.1.now = record { front = c.as_chunks.ensures.front; count = c.as_chunks.ensures.front_len; back = c.as_chunks.ensures.back } in
-    block_done chunks (decoded_by 4 refl) c.loop-group.invariant c.loop-group-test.true c.decode_four-j.ensures.value c.decode_four-j.ensures.out_after
+pub decode_four-requires-clause-all_below : goal.decode_four-requires-clause-all_below
+decode_four-requires-clause-all_below c =
+    let chunks : Chunked 4 c.args.text.now c.as_chunks.result.0.now c.as_chunks.result.1.now =
+    record { front = c.as_chunks.ensures.front; count = c.as_chunks.ensures.front_len; back = c.as_chunks.ensures.back } in
+    chunk_below chunks c.loop-i.i c.loop-i-test.true 64 six_bits c.requires.all_below
 
-pub decode_few-requires : goal.decode_few-requires
-decode_few-requires c =
-    let chunks : Chunked 4 c.args.text.now c.as_chunks.result.0.now c.as_chunks.result.1.now = record { front = c.as_chunks.ensures.front; count = c.as_chunks.ensures.front_len; back = c.as_chunks.ensures.back } in
-    record {
-      tabled = c.requires.tabled;
-      text_len_bound = omega (arith, c.as_chunks.ensures.back_len);
-      all_below = rest_below chunks 64 six_bits c.requires.all_below;
-      text_in_bounds = rest_room chunks (decoded_by 4 refl) c.loop-group.invariant (omega arith);
-    }
+pub decode_few-requires-clause-all_below : goal.decode_few-requires-clause-all_below
+decode_few-requires-clause-all_below c =
+    let chunks : Chunked 4 c.args.text.now c.as_chunks.result.0.now c.as_chunks.result.1.now =
+    record { front = c.as_chunks.ensures.front; count = c.as_chunks.ensures.front_len; back = c.as_chunks.ensures.back } in
+    rest_below chunks 64 six_bits c.requires.all_below
+
+pub loop-i-preserved : goal.loop-i-preserved
+loop-i-preserved c =
+    let chunks : Chunked 4 c.args.text.now c.as_chunks.result.0.now c.as_chunks.result.1.now =
+    record { front = c.as_chunks.ensures.front; count = c.as_chunks.ensures.front_len; back = c.as_chunks.ensures.back } in
+    let i = c.loop-i.i in
+    let block = get_or c.as_chunks.result.0.now i [] in
+    let size : 3 * i + 3 - 3 * i ≡ length (decoded block) = omega (arith, decoded_length_lem block, chunk_length chunks i c.loop-i-test.true) in
+    part_filled chunks (decoded_by 4 refl) c.loop-i.invariant c.loop-i-test.true size (omega arith) (c.copy_from_slice.ensures.after ∙ c.decode_four.ensures)
+
+pub decode_few-requires-clause-out_len : goal.decode_few-requires-clause-out_len
+decode_few-requires-clause-out_len c =
+    let chunks : Chunked 4 c.args.text.now c.as_chunks.result.0.now c.as_chunks.result.1.now =
+    record { front = c.as_chunks.ensures.front; count = c.as_chunks.ensures.front_len; back = c.as_chunks.ensures.back } in
+    rest_size chunks (decoded_by 4 refl) c.loop-i.invariant c.requires.out_len (omega arith) (omega arith)
 
 pub returns : goal.returns
 returns c =
-    let chunks : Chunked 4 c.args.text.now c.as_chunks.result.0.now c.as_chunks.result.1.now = record { front = c.as_chunks.ensures.front; count = c.as_chunks.ensures.front_len; back = c.as_chunks.ensures.back } in
-    let both = rest_done chunks (decoded_by 4 refl) c.loop-group.invariant (omega arith) c.decode_few.ensures.value c.decode_few.ensures.out_after in
-    record { value = both.0; out_after = both.1 }
+    let chunks : Chunked 4 c.args.text.now c.as_chunks.result.0.now c.as_chunks.result.1.now =
+    record { front = c.as_chunks.ensures.front; count = c.as_chunks.ensures.front_len; back = c.as_chunks.ensures.back } in
+    rest_filled chunks (decoded_by 4 refl) c.loop-i.invariant c.requires.out_len (omega arith) (omega arith) c.decode_few.ensures

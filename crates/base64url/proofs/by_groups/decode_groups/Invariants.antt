@@ -5,5 +5,5 @@ use Rattle.prelude.proofs.Writing.{Writing}
 use Rattle.base64url.specs.Base64url.{decoded}
 use Rattle.base64url.proofs.by_groups.decode_groups.Given as goal
 
-abbrev pub invariant-loop-group : goal.invariant-loop-group
-invariant-loop-group l = Writing l.at (decoded l.text) l.initial.out (decoded (drop (l.group-index * 4) l.text)) l.j l.out
+abbrev pub invariant-loop-i : goal.invariant-loop-i
+invariant-loop-i l = Writing 0 (decoded l.text) l.initial.out (decoded (drop (l.i * 4) l.text)) (3 * l.i) l.out

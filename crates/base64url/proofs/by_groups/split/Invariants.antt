@@ -5,5 +5,5 @@ use Rattle.prelude.proofs.Writing.{Writing}
 use Rattle.base64url.specs.Base64url.{sextets}
 use Rattle.base64url.proofs.by_groups.split.Given as goal
 
-abbrev pub invariant-loop-group : goal.invariant-loop-group
-invariant-loop-group l = Writing l.at (sextets l.octets) l.initial.into (sextets (drop (l.group-index * 3) l.octets)) l.j l.into
+abbrev pub invariant-loop-i : goal.invariant-loop-i
+invariant-loop-i l = Writing 0 (sextets l.octets) l.initial.into (sextets (drop (l.i * 3) l.octets)) (4 * l.i) l.into

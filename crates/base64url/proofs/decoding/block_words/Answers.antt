@@ -1,9 +1,9 @@
 -- `block_words` writes a word for each eight values.
-use Prim.Native.Nat.{ℕ, ◌+◌, ◌*◌, ◌≤◌, ◌<◌}
+use Prim.Native.Nat.{ℕ, ◌+◌, ◌*◌}
 use mathlib.Core.Path.{◌≡◌, refl, ap, subst, ◌∙◌}
 use mathlib.Core.List.{List, [], ◌∷◌, ◌++◌}
 use native.Mathlib.Omega.{arith}
-use lib.ListN.{length, drop, get_or, drop_of_length-le}
+use lib.ListN.{drop, drop_of_length-le}
 use Rattle.prelude.proofs.Writing.{Writing, begin, put, done}
 use Rattle.base64url.specs.Inner.Words.{words_of}
 use Rattle.base64url.proofs.Chunks.{Chunked, chunk_part, chunk_length}

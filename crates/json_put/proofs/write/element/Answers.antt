@@ -8,8 +8,8 @@ use Rattle.json_put.proofs.write.element.Goals as goal
 pub comma-requires : goal.comma-requires
 comma-requires g c = next (element_parts g.S.Sink.laws (point c.args.to.now c.args.begun) (shown c.args.table.now c.args.body) c.requires)
 
-pub octet-requires : goal.octet-requires
-octet-requires g c =
+pub octets-requires : goal.octets-requires
+octets-requires g c =
     next
     (element_parts g.S.Sink.laws (point c.args.to.now c.args.begun) (shown c.args.table.now c.args.body) c.requires ▸ c.comma.ensures)
 
@@ -17,19 +17,19 @@ pub own-requires : goal.own-requires
 own-requires g c =
     next
     (element_parts g.S.Sink.laws (point c.args.to.now c.args.begun) (shown c.args.table.now c.args.body) c.requires ▸ c.comma.ensures
-    ▸ c.octet.ensures)
+    ▸ c.octets.ensures)
 
-pub octet-requires-2 : goal.octet-requires-2
-octet-requires-2 g c =
+pub octets-requires-2 : goal.octets-requires-2
+octets-requires-2 g c =
     next
     (element_parts g.S.Sink.laws (point c.args.to.now c.args.begun) (shown c.args.table.now c.args.body) c.requires ▸ c.comma.ensures
-    ▸ c.octet.ensures ▸ c.own.ensures.octets)
+    ▸ c.octets.ensures ▸ c.own.ensures.octets)
 
 pub returns : goal.returns
 returns g c = record {
   octets =
       ended
       (element_parts g.S.Sink.laws (point c.args.to.now c.args.begun) (shown c.args.table.now c.args.body) c.requires ▸ c.comma.ensures
-      ▸ c.octet.ensures ▸ c.own.ensures.octets ▸ c.octet-2.ensures);
+      ▸ c.octets.ensures ▸ c.own.ensures.octets ▸ c.octets-2.ensures);
   begun = refl;
 }

@@ -8,8 +8,8 @@ use Rattle.json_put.proofs.write.encoded.Goals as goal
 pub member_name-requires : goal.member_name-requires
 member_name-requires g c = next (encoded_parts g.S.Sink.laws (point c.args.to.now c.args.begun) c.args.name.now c.args.octets.now c.requires)
 
-pub octet-requires : goal.octet-requires
-octet-requires g c =
+pub octets-requires : goal.octets-requires
+octets-requires g c =
     next
     (encoded_parts g.S.Sink.laws (point c.args.to.now c.args.begun) c.args.name.now c.args.octets.now c.requires ▸ c.member_name.ensures)
 
@@ -17,13 +17,13 @@ pub encoded-requires : goal.encoded-requires
 encoded-requires g c =
     next
     (encoded_parts g.S.Sink.laws (point c.args.to.now c.args.begun) c.args.name.now c.args.octets.now c.requires ▸ c.member_name.ensures
-    ▸ c.octet.ensures)
+    ▸ c.octets.ensures)
 
-pub octet-requires-2 : goal.octet-requires-2
-octet-requires-2 g c =
+pub octets-requires-2 : goal.octets-requires-2
+octets-requires-2 g c =
     next
     (encoded_parts g.S.Sink.laws (point c.args.to.now c.args.begun) c.args.name.now c.args.octets.now c.requires ▸ c.member_name.ensures
-    ▸ c.octet.ensures ▸ c.encoded.ensures)
+    ▸ c.octets.ensures ▸ c.encoded.ensures)
 
 pub returns : goal.returns
 unfolding encoded_member
@@ -31,6 +31,6 @@ returns g c = record {
   octets =
       ended
       (encoded_parts g.S.Sink.laws (point c.args.to.now c.args.begun) c.args.name.now c.args.octets.now c.requires ▸ c.member_name.ensures
-      ▸ c.octet.ensures ▸ c.encoded.ensures ▸ c.octet-2.ensures);
+      ▸ c.octets.ensures ▸ c.encoded.ensures ▸ c.octets-2.ensures);
   begun = refl;
 }

@@ -13,9 +13,9 @@ unfolding ascii
 member_name-requires g c =
     next (general_parts g.S.Sink.laws (point c.args.to.now c.args.begun) (recipients_in c.args.message.now.recipients.now) c.requires)
 
-pub octet-requires : goal.octet-requires
+pub octets-requires : goal.octets-requires
 unfolding ascii
-octet-requires g c =
+octets-requires g c =
     next
     (general_parts g.S.Sink.laws (point c.args.to.now c.args.begun) (recipients_in c.args.message.now.recipients.now) c.requires
     ▸ c.member_name.ensures)
@@ -25,14 +25,14 @@ unfolding ascii
 elements-requires g c =
     next
     (general_parts g.S.Sink.laws (point c.args.to.now c.args.begun) (recipients_in c.args.message.now.recipients.now) c.requires
-    ▸ c.member_name.ensures ▸ c.octet.ensures)
+    ▸ c.member_name.ensures ▸ c.octets.ensures)
 
-pub octet-requires-2 : goal.octet-requires-2
+pub octets-requires-2 : goal.octets-requires-2
 unfolding ascii
-octet-requires-2 g c =
+octets-requires-2 g c =
     next
     (general_parts g.S.Sink.laws (point c.args.to.now c.args.begun) (recipients_in c.args.message.now.recipients.now) c.requires
-    ▸ c.member_name.ensures ▸ c.octet.ensures ▸ c.elements.ensures.octets)
+    ▸ c.member_name.ensures ▸ c.octets.ensures ▸ c.elements.ensures.octets)
 
 pub returns : goal.returns
 unfolding ascii recipient_members
@@ -40,6 +40,6 @@ returns g c = record {
   octets =
       ended
       (general_parts g.S.Sink.laws (point c.args.to.now c.args.begun) (recipients_in c.args.message.now.recipients.now) c.requires
-      ▸ c.member_name.ensures ▸ c.octet.ensures ▸ c.elements.ensures.octets ▸ c.octet-2.ensures);
+      ▸ c.member_name.ensures ▸ c.octets.ensures ▸ c.elements.ensures.octets ▸ c.octets-2.ensures);
   begun = refl;
 }

@@ -7,29 +7,23 @@ use Rattle.json_put.proofs.write.member_name.Goals as goal
 pub comma-requires : goal.comma-requires
 comma-requires g c = next (name_parts g.S.Sink.laws (point c.args.to.now c.args.begun) c.args.name.now c.requires)
 
-pub octet-requires : goal.octet-requires
-octet-requires g c =
-    next (name_parts g.S.Sink.laws (point c.args.to.now c.args.begun) c.args.name.now c.requires ▸ c.comma.ensures)
-
 pub octets-requires : goal.octets-requires
 octets-requires g c =
-    next
-    (name_parts g.S.Sink.laws (point c.args.to.now c.args.begun) c.args.name.now c.requires ▸ c.comma.ensures ▸ c.octet.ensures)
+    next (name_parts g.S.Sink.laws (point c.args.to.now c.args.begun) c.args.name.now c.requires ▸ c.comma.ensures)
 
-pub octet-requires-2 : goal.octet-requires-2
-octet-requires-2 g c =
+pub octets-requires-2 : goal.octets-requires-2
+octets-requires-2 g c =
     next
-    (name_parts g.S.Sink.laws (point c.args.to.now c.args.begun) c.args.name.now c.requires ▸ c.comma.ensures ▸ c.octet.ensures
-    ▸ c.octets.ensures)
+    (name_parts g.S.Sink.laws (point c.args.to.now c.args.begun) c.args.name.now c.requires ▸ c.comma.ensures ▸ c.octets.ensures)
 
-pub octet-requires-3 : goal.octet-requires-3
-octet-requires-3 g c =
+pub octets-requires-3 : goal.octets-requires-3
+octets-requires-3 g c =
     next
-    (name_parts g.S.Sink.laws (point c.args.to.now c.args.begun) c.args.name.now c.requires ▸ c.comma.ensures ▸ c.octet.ensures
-    ▸ c.octets.ensures ▸ c.octet-2.ensures)
+    (name_parts g.S.Sink.laws (point c.args.to.now c.args.begun) c.args.name.now c.requires ▸ c.comma.ensures ▸ c.octets.ensures
+    ▸ c.octets-2.ensures)
 
 pub returns : goal.returns
 returns g c =
     ended
-    (name_parts g.S.Sink.laws (point c.args.to.now c.args.begun) c.args.name.now c.requires ▸ c.comma.ensures ▸ c.octet.ensures
-    ▸ c.octets.ensures ▸ c.octet-2.ensures ▸ c.octet-3.ensures)
+    (name_parts g.S.Sink.laws (point c.args.to.now c.args.begun) c.args.name.now c.requires ▸ c.comma.ensures ▸ c.octets.ensures
+    ▸ c.octets-2.ensures ▸ c.octets-3.ensures)

@@ -7,7 +7,6 @@ use lib.ListN.{get_or}
 use Rattle.prelude.proofs.Writing as writing
 use Rattle.prelude.proofs.Writing.{Writing, begin, put_part, room_part}
 use Rattle.prelude.specs.Ascii.{ascii}
-use Rattle.names.specs.Names.{cut, names, filled, total}
 use Rattle.rows.specs.Tables.{first_of}
 use Rattle.report.specs.Text.{decimal, word, space, line_feed, ended}
 use Rattle.report.specs.Report.{origins, kinds, parameter_line}
@@ -20,11 +19,10 @@ pub overflow_add-row : goal.overflow_add-row
 overflow_add-row c = omega (arith, c.shared_slice_known-2-1.given 0)
 
 pub put_named-a-requires : goal.put_named-a-requires
-unfolding names cut origins ascii filled total
+unfolding origins ascii
 put_named-a-requires c =
     let at-start : (Writing c.args.at (parameter_line (first_of c.args.row.now)) c.args.out.now ((ended (word (get_or c.args.row.now 0 0 + 1) origins) space) ++ (((ended (decimal (get_or c.args.row.now 1 0)) space) ++ ((ended (decimal (get_or c.args.row.now 2 0)) space) ++ ((ended (decimal (get_or c.args.row.now 3 0)) space) ++ ((ended (decimal (get_or c.args.row.now 4 0)) space) ++ (ended (word (get_or c.args.row.now 5 0 + 1) kinds) line_feed))))))) c.args.at c.args.out.now) = begin c.args.at _ c.args.out.now c.requires.row_in_bounds in
     record {
-      list_value = refl;
       bound = omega arith;
       end_in_bounds = room_part ((ended (word (get_or c.args.row.now 0 0 + 1) origins) space)) (((ended (decimal (get_or c.args.row.now 1 0)) space) ++ ((ended (decimal (get_or c.args.row.now 2 0)) space) ++ ((ended (decimal (get_or c.args.row.now 3 0)) space) ++ ((ended (decimal (get_or c.args.row.now 4 0)) space) ++ (ended (word (get_or c.args.row.now 5 0 + 1) kinds) line_feed)))))) refl (at-start);
     }
@@ -33,7 +31,7 @@ pub overflow_cast-row-2 : goal.overflow_cast-row-2
 overflow_cast-row-2 c = omega (arith, c.shared_slice_known-3-1.given 1)
 
 pub put_number-b-requires : goal.put_number-b-requires
-unfolding names cut origins ascii
+unfolding origins ascii
 put_number-b-requires c =
     let at-start : (Writing c.args.at (parameter_line (first_of c.args.row.now)) c.args.out.now ((ended (word (get_or c.args.row.now 0 0 + 1) origins) space) ++ (((ended (decimal (get_or c.args.row.now 1 0)) space) ++ ((ended (decimal (get_or c.args.row.now 2 0)) space) ++ ((ended (decimal (get_or c.args.row.now 3 0)) space) ++ ((ended (decimal (get_or c.args.row.now 4 0)) space) ++ (ended (word (get_or c.args.row.now 5 0 + 1) kinds) line_feed))))))) c.args.at c.args.out.now) = begin c.args.at _ c.args.out.now c.requires.row_in_bounds in
     let behind-origin : (Writing c.args.at (parameter_line (first_of c.args.row.now)) c.args.out.now (((ended (decimal (get_or c.args.row.now 1 0)) space) ++ ((ended (decimal (get_or c.args.row.now 2 0)) space) ++ ((ended (decimal (get_or c.args.row.now 3 0)) space) ++ ((ended (decimal (get_or c.args.row.now 4 0)) space) ++ (ended (word (get_or c.args.row.now 5 0 + 1) kinds) line_feed)))))) c.put_named-a.result c.put_named-a.new.out) = put_part ((ended (word (get_or c.args.row.now 0 0 + 1) origins) space)) (((ended (decimal (get_or c.args.row.now 1 0)) space) ++ ((ended (decimal (get_or c.args.row.now 2 0)) space) ++ ((ended (decimal (get_or c.args.row.now 3 0)) space) ++ ((ended (decimal (get_or c.args.row.now 4 0)) space) ++ (ended (word (get_or c.args.row.now 5 0 + 1) kinds) line_feed)))))) refl (at-start) c.put_named-a.ensures.value c.put_named-a.ensures.out_after in
@@ -43,7 +41,7 @@ pub overflow_cast-row-3 : goal.overflow_cast-row-3
 overflow_cast-row-3 c = omega (arith, c.shared_slice_known-4-1.given 2)
 
 pub put_number-c-requires : goal.put_number-c-requires
-unfolding names cut origins ascii
+unfolding origins ascii
 put_number-c-requires c =
     let at-start : (Writing c.args.at (parameter_line (first_of c.args.row.now)) c.args.out.now ((ended (word (get_or c.args.row.now 0 0 + 1) origins) space) ++ (((ended (decimal (get_or c.args.row.now 1 0)) space) ++ ((ended (decimal (get_or c.args.row.now 2 0)) space) ++ ((ended (decimal (get_or c.args.row.now 3 0)) space) ++ ((ended (decimal (get_or c.args.row.now 4 0)) space) ++ (ended (word (get_or c.args.row.now 5 0 + 1) kinds) line_feed))))))) c.args.at c.args.out.now) = begin c.args.at _ c.args.out.now c.requires.row_in_bounds in
     let behind-origin : (Writing c.args.at (parameter_line (first_of c.args.row.now)) c.args.out.now (((ended (decimal (get_or c.args.row.now 1 0)) space) ++ ((ended (decimal (get_or c.args.row.now 2 0)) space) ++ ((ended (decimal (get_or c.args.row.now 3 0)) space) ++ ((ended (decimal (get_or c.args.row.now 4 0)) space) ++ (ended (word (get_or c.args.row.now 5 0 + 1) kinds) line_feed)))))) c.put_named-a.result c.put_named-a.new.out) = put_part ((ended (word (get_or c.args.row.now 0 0 + 1) origins) space)) (((ended (decimal (get_or c.args.row.now 1 0)) space) ++ ((ended (decimal (get_or c.args.row.now 2 0)) space) ++ ((ended (decimal (get_or c.args.row.now 3 0)) space) ++ ((ended (decimal (get_or c.args.row.now 4 0)) space) ++ (ended (word (get_or c.args.row.now 5 0 + 1) kinds) line_feed)))))) refl (at-start) c.put_named-a.ensures.value c.put_named-a.ensures.out_after in
@@ -54,7 +52,7 @@ pub overflow_cast-row-4 : goal.overflow_cast-row-4
 overflow_cast-row-4 c = omega (arith, c.shared_slice_known-5-1.given 3)
 
 pub put_number-d-requires : goal.put_number-d-requires
-unfolding names cut origins ascii
+unfolding origins ascii
 put_number-d-requires c =
     let at-start : (Writing c.args.at (parameter_line (first_of c.args.row.now)) c.args.out.now ((ended (word (get_or c.args.row.now 0 0 + 1) origins) space) ++ (((ended (decimal (get_or c.args.row.now 1 0)) space) ++ ((ended (decimal (get_or c.args.row.now 2 0)) space) ++ ((ended (decimal (get_or c.args.row.now 3 0)) space) ++ ((ended (decimal (get_or c.args.row.now 4 0)) space) ++ (ended (word (get_or c.args.row.now 5 0 + 1) kinds) line_feed))))))) c.args.at c.args.out.now) = begin c.args.at _ c.args.out.now c.requires.row_in_bounds in
     let behind-origin : (Writing c.args.at (parameter_line (first_of c.args.row.now)) c.args.out.now (((ended (decimal (get_or c.args.row.now 1 0)) space) ++ ((ended (decimal (get_or c.args.row.now 2 0)) space) ++ ((ended (decimal (get_or c.args.row.now 3 0)) space) ++ ((ended (decimal (get_or c.args.row.now 4 0)) space) ++ (ended (word (get_or c.args.row.now 5 0 + 1) kinds) line_feed)))))) c.put_named-a.result c.put_named-a.new.out) = put_part ((ended (word (get_or c.args.row.now 0 0 + 1) origins) space)) (((ended (decimal (get_or c.args.row.now 1 0)) space) ++ ((ended (decimal (get_or c.args.row.now 2 0)) space) ++ ((ended (decimal (get_or c.args.row.now 3 0)) space) ++ ((ended (decimal (get_or c.args.row.now 4 0)) space) ++ (ended (word (get_or c.args.row.now 5 0 + 1) kinds) line_feed)))))) refl (at-start) c.put_named-a.ensures.value c.put_named-a.ensures.out_after in
@@ -66,7 +64,7 @@ pub overflow_cast-row-5 : goal.overflow_cast-row-5
 overflow_cast-row-5 c = omega (arith, c.shared_slice_known-6-1.given 4)
 
 pub put_number-e-requires : goal.put_number-e-requires
-unfolding names cut origins ascii
+unfolding origins ascii
 put_number-e-requires c =
     let at-start : (Writing c.args.at (parameter_line (first_of c.args.row.now)) c.args.out.now ((ended (word (get_or c.args.row.now 0 0 + 1) origins) space) ++ (((ended (decimal (get_or c.args.row.now 1 0)) space) ++ ((ended (decimal (get_or c.args.row.now 2 0)) space) ++ ((ended (decimal (get_or c.args.row.now 3 0)) space) ++ ((ended (decimal (get_or c.args.row.now 4 0)) space) ++ (ended (word (get_or c.args.row.now 5 0 + 1) kinds) line_feed))))))) c.args.at c.args.out.now) = begin c.args.at _ c.args.out.now c.requires.row_in_bounds in
     let behind-origin : (Writing c.args.at (parameter_line (first_of c.args.row.now)) c.args.out.now (((ended (decimal (get_or c.args.row.now 1 0)) space) ++ ((ended (decimal (get_or c.args.row.now 2 0)) space) ++ ((ended (decimal (get_or c.args.row.now 3 0)) space) ++ ((ended (decimal (get_or c.args.row.now 4 0)) space) ++ (ended (word (get_or c.args.row.now 5 0 + 1) kinds) line_feed)))))) c.put_named-a.result c.put_named-a.new.out) = put_part ((ended (word (get_or c.args.row.now 0 0 + 1) origins) space)) (((ended (decimal (get_or c.args.row.now 1 0)) space) ++ ((ended (decimal (get_or c.args.row.now 2 0)) space) ++ ((ended (decimal (get_or c.args.row.now 3 0)) space) ++ ((ended (decimal (get_or c.args.row.now 4 0)) space) ++ (ended (word (get_or c.args.row.now 5 0 + 1) kinds) line_feed)))))) refl (at-start) c.put_named-a.ensures.value c.put_named-a.ensures.out_after in
@@ -82,7 +80,7 @@ pub overflow_add-row-2 : goal.overflow_add-row-2
 overflow_add-row-2 c = omega (arith, c.shared_slice_known-7-1.given 5)
 
 pub put_named-requires : goal.put_named-requires
-unfolding names cut kinds ascii filled total origins
+unfolding kinds ascii origins
 put_named-requires c =
     let at-start : (Writing c.args.at (parameter_line (first_of c.args.row.now)) c.args.out.now ((ended (word (get_or c.args.row.now 0 0 + 1) origins) space) ++ (((ended (decimal (get_or c.args.row.now 1 0)) space) ++ ((ended (decimal (get_or c.args.row.now 2 0)) space) ++ ((ended (decimal (get_or c.args.row.now 3 0)) space) ++ ((ended (decimal (get_or c.args.row.now 4 0)) space) ++ (ended (word (get_or c.args.row.now 5 0 + 1) kinds) line_feed))))))) c.args.at c.args.out.now) = begin c.args.at _ c.args.out.now c.requires.row_in_bounds in
     let behind-origin : (Writing c.args.at (parameter_line (first_of c.args.row.now)) c.args.out.now (((ended (decimal (get_or c.args.row.now 1 0)) space) ++ ((ended (decimal (get_or c.args.row.now 2 0)) space) ++ ((ended (decimal (get_or c.args.row.now 3 0)) space) ++ ((ended (decimal (get_or c.args.row.now 4 0)) space) ++ (ended (word (get_or c.args.row.now 5 0 + 1) kinds) line_feed)))))) c.put_named-a.result c.put_named-a.new.out) = put_part ((ended (word (get_or c.args.row.now 0 0 + 1) origins) space)) (((ended (decimal (get_or c.args.row.now 1 0)) space) ++ ((ended (decimal (get_or c.args.row.now 2 0)) space) ++ ((ended (decimal (get_or c.args.row.now 3 0)) space) ++ ((ended (decimal (get_or c.args.row.now 4 0)) space) ++ (ended (word (get_or c.args.row.now 5 0 + 1) kinds) line_feed)))))) refl (at-start) c.put_named-a.ensures.value c.put_named-a.ensures.out_after in
@@ -91,13 +89,12 @@ put_named-requires c =
     let behind-value-start : (Writing c.args.at (parameter_line (first_of c.args.row.now)) c.args.out.now (((ended (decimal (get_or c.args.row.now 4 0)) space) ++ (ended (word (get_or c.args.row.now 5 0 + 1) kinds) line_feed))) c.put_number-d.result c.put_number-d.new.out) = put_part ((ended (decimal (get_or c.args.row.now 3 0)) space)) (((ended (decimal (get_or c.args.row.now 4 0)) space) ++ (ended (word (get_or c.args.row.now 5 0 + 1) kinds) line_feed))) refl (behind-name-size) c.put_number-d.ensures.value c.put_number-d.ensures.out_after in
     let behind-value-size : (Writing c.args.at (parameter_line (first_of c.args.row.now)) c.args.out.now ((ended (word (get_or c.args.row.now 5 0 + 1) kinds) line_feed)) c.put_number-e.result c.put_number-e.new.out) = put_part ((ended (decimal (get_or c.args.row.now 4 0)) space)) ((ended (word (get_or c.args.row.now 5 0 + 1) kinds) line_feed)) refl (behind-value-start) c.put_number-e.ensures.value c.put_number-e.ensures.out_after in
     record {
-      list_value = refl;
       bound = omega arith;
       end_in_bounds = room_part ((ended (word (get_or c.args.row.now 5 0 + 1) kinds) line_feed)) [] (sym (append-nil ((ended (word (get_or c.args.row.now 5 0 + 1) kinds) line_feed)))) (behind-value-size);
     }
 
 pub returns : goal.returns
-unfolding names cut kinds ascii origins
+unfolding kinds ascii origins
 returns c =
     let at-start : (Writing c.args.at (parameter_line (first_of c.args.row.now)) c.args.out.now ((ended (word (get_or c.args.row.now 0 0 + 1) origins) space) ++ (((ended (decimal (get_or c.args.row.now 1 0)) space) ++ ((ended (decimal (get_or c.args.row.now 2 0)) space) ++ ((ended (decimal (get_or c.args.row.now 3 0)) space) ++ ((ended (decimal (get_or c.args.row.now 4 0)) space) ++ (ended (word (get_or c.args.row.now 5 0 + 1) kinds) line_feed))))))) c.args.at c.args.out.now) = begin c.args.at _ c.args.out.now c.requires.row_in_bounds in
     let behind-origin : (Writing c.args.at (parameter_line (first_of c.args.row.now)) c.args.out.now (((ended (decimal (get_or c.args.row.now 1 0)) space) ++ ((ended (decimal (get_or c.args.row.now 2 0)) space) ++ ((ended (decimal (get_or c.args.row.now 3 0)) space) ++ ((ended (decimal (get_or c.args.row.now 4 0)) space) ++ (ended (word (get_or c.args.row.now 5 0 + 1) kinds) line_feed)))))) c.put_named-a.result c.put_named-a.new.out) = put_part ((ended (word (get_or c.args.row.now 0 0 + 1) origins) space)) (((ended (decimal (get_or c.args.row.now 1 0)) space) ++ ((ended (decimal (get_or c.args.row.now 2 0)) space) ++ ((ended (decimal (get_or c.args.row.now 3 0)) space) ++ ((ended (decimal (get_or c.args.row.now 4 0)) space) ++ (ended (word (get_or c.args.row.now 5 0 + 1) kinds) line_feed)))))) refl (at-start) c.put_named-a.ensures.value c.put_named-a.ensures.out_after in

@@ -14,25 +14,7 @@ use Rattle.report.proofs.lines.put_parameters.Goals as goal
 pub loop-i-init : goal.loop-i-init
 loop-i-init c =
     let list = c.args.list.now in
-    (omega arith, begin_as c.args.at _ _ c.args.out.now (lines_all c.args.count list) c.requires.list_in_bounds)
-
-pub overflow_mul-start : goal.overflow_mul-start
-overflow_mul-start c = omega arith
-
-pub overflow_add-stop : goal.overflow_add-stop
-overflow_add-stop c = omega arith
-
-pub offset_bounds-list-start : goal.offset_bounds-list-start
-offset_bounds-list-start c = omega arith
-
-pub slice_bounds-put_parameter-count : goal.slice_bounds-put_parameter-count
-slice_bounds-put_parameter-count c = omega arith
-
-pub slice_bounds-put_parameter-start : goal.slice_bounds-put_parameter-start
-slice_bounds-put_parameter-start c = omega arith
-
-pub slice_bounds-put_parameter-end : goal.slice_bounds-put_parameter-end
-slice_bounds-put_parameter-end c = omega arith
+    begin_as c.args.at _ _ c.args.out.now (lines_all c.args.count list) c.requires.list_in_bounds
 
 pub put_parameter-next-requires : goal.put_parameter-next-requires
 put_parameter-next-requires c =
@@ -41,30 +23,22 @@ put_parameter-next-requires c =
     record {
       row_len = length-take (c.loop-i.i * list_width + list_width - c.loop-i.i * list_width) from ∙ omega (arith, length-drop (c.loop-i.i * list_width) list);
       row_in_bounds = room_part (parameter_line (first_of (take (c.loop-i.i * list_width + list_width - c.loop-i.i * list_width) from))) _
-          (lines_next c.args.count list c.loop-i.i c.loop-i-test.true) c.loop-i.invariant.1;
+          (lines_next c.args.count list c.loop-i.i c.loop-i-test.true) c.loop-i.invariant;
     }
-
-pub overflow_add-i : goal.overflow_add-i
-overflow_add-i c = omega arith
-
-pub loop-i-smaller : goal.loop-i-smaller
-loop-i-smaller c = omega arith
 
 pub loop-i-preserved : goal.loop-i-preserved
 loop-i-preserved c =
-    let list = c.args.list.now in (
-      omega arith,
-      put_part (parameter_line (first_of (take (c.loop-i.i * list_width + list_width - c.loop-i.i * list_width) (drop (c.loop-i.i * list_width) list)))) _
-          (lines_next c.args.count list c.loop-i.i c.loop-i-test.true) c.loop-i.invariant.1 c.put_parameter-next.ensures.value
-          c.put_parameter-next.ensures.out_after,
-    )
+    let list = c.args.list.now in
+    put_part (parameter_line (first_of (take (c.loop-i.i * list_width + list_width - c.loop-i.i * list_width) (drop (c.loop-i.i * list_width) list)))) _
+    (lines_next c.args.count list c.loop-i.i c.loop-i-test.true) c.loop-i.invariant c.put_parameter-next.ensures.value
+    c.put_parameter-next.ensures.out_after
 
 pub shape_of-out : goal.shape_of-out
-shape_of-out c = c.loop-i.invariant.1.same
+shape_of-out c = c.loop-i.invariant.same
 
 pub returns : goal.returns
 returns c =
     let all = list_lines c.args.count c.args.list.now in
     let both = ended (subst (λ (rest : List ℕ). Writing c.args.at all c.args.out.now rest c.loop-i.next c.loop-i.out)
-    (lines_none c.args.count c.args.list.now c.loop-i.i c.loop-i-test.false) c.loop-i.invariant.1) in
+    (lines_none c.args.count c.args.list.now c.loop-i.i c.loop-i-test.false) c.loop-i.invariant) in
     record { value = both.0; out_after = both.1 }

@@ -1,5 +1,5 @@
 -- `next` gives the body that it stands at, and the next one begins where this one's key ends.
-use Rattle.std.proofs.Common.{◌≡◌, ℕ, ◌+◌, ◌∷◌, length, ap, sym, ◌∙◌, arith, rules}
+use Rattle.std.proofs.Common.{◌+◌, ◌∷◌, length, ap, sym, ◌∙◌, arith, rules}
 use Rattle.recipients.specs.declared.Body.{Body}
 use Rattle.recipients.specs.Inner.Answers.{body_at, bodies_left}
 use Rattle.recipients.proofs.Places.{start_next, lengths_fit, body_fits}

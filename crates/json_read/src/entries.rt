@@ -1,0 +1,73 @@
+// The members of an object, or the elements of an array, one after the other: an iterator over their rows.
+ghost use Rattle.std.specs.Prelude.{◌≡◌};
+ghost use Rattle.std.specs.Iterator.{YieldsFirstBy, item_count};
+ghost use Rattle.grammar.specs.Grammar.{curly, square};
+ghost use Rattle.grammar.specs.Reader.{entry_at, value_at, members_at, rows_in, step};
+ghost use Rattle.json_read.specs.Members.{member_of, bracket_of, row_member};
+ghost use Rattle.json_read.specs.Entries.{entries_left};
+ghost use Rattle.json_read.specs.Inner.Known.{Given, KnownEntry, KnownIn};
+
+use crate::Position;
+use crate::member::{Entries, Member, Row};
+
+impl<'a> Entries<'a> {
+    // The members of the object that begins at a place.
+    pub fn members(text: &'a [u8], at: usize, levels: u32, judged: bool) -> Entries<'a>
+        requires { Given judged (KnownIn curly levels text.now at) }
+        ensures { entries_left result ≡ members_at levels text.now at }
+    {
+        Entries {
+            text,
+            at: Position { at }.inside(text),
+            left: text.len(),
+            array: false,
+            levels,
+            judged,
+        }
+    }
+
+    // The elements of the array that begins at a place.
+    pub fn elements(text: &'a [u8], at: usize, levels: u32, judged: bool) -> Entries<'a>
+        requires { Given judged (KnownIn square levels text.now at) }
+        ensures { entries_left result ≡ rows_in (value_at levels text.now) square text.now (step text.now at) }
+    {
+        Entries {
+            text,
+            at: Position { at }.inside(text),
+            left: text.len(),
+            array: true,
+            levels,
+            judged,
+        }
+    }
+
+    // The one that begins here.
+    fn here(&self) -> Option<Member>
+        requires { Given self.now.judged (KnownEntry (bracket_of self.now.array) self.now.levels self.now.text.now self.now.at.at) }
+        ensures { result ≡ member_of self.now.text.now (entry_at (value_at self.now.levels self.now.text.now) (bracket_of self.now.array) self.now.text.now self.now.at.at) }
+    {
+        if self.array {
+            self.at.element(self.text, self.levels, self.judged)
+        } else {
+            self.at.member(self.text, self.levels, self.judged)
+        }
+    }
+}
+
+impl<'a> Iterator for Entries<'a> {
+    type Item = Row;
+
+    ghost next_gives = { YieldsFirstBy row_member entries_left };
+
+    ghost remaining = { item_count entries_left };
+
+    fn next(&mut self) -> Option<Row> {
+        if self.left == 0 {
+            return None;
+        }
+        let found = self.here()?;
+        self.at = found.next;
+        self.left -= 1;
+        Some(found.row)
+    }
+}
