@@ -4,8 +4,8 @@ use mathlib.Core.Path.{◌≡◌, refl, ap, ap₂, sym, subst, ◌∙◌}
 use mathlib.Core.Bool.{Bool, true, false, not, ◌||◌, cond, true≢false}
 use mathlib.Core.List.{List, [], ◌∷◌, ◌++◌, map}
 use mathlib.Core.Option.{Option, none, some}
-use Prim.Native.Nat.{ℕ, zero, suc, ◌+◌, ◌-◌, ◌*◌, ◌≤◌, ◌<◌}
-use lib.ListN.{drop, get_or}
+use Prim.Native.Nat.{ℕ, zero, suc, ◌+◌, ◌-◌}
+use lib.ListN.{get_or}
 use lib.Dec.{eqb}
 use borrow.Author.Tests.{eq-eqb, ne_eqb}
 use Rattle.grammar.specs.Bounds.{Every}
@@ -14,8 +14,7 @@ use Rattle.grammar.proofs.Spellings.{equal_same}
 use Rattle.grammar.proofs.Scan.{T→true}
 use Rattle.prelude.specs.Any.{any}
 use Rattle.rows.specs.Rows.{Entry, Texts, text_of, spelled_value, value_in, numbered, present, having}
-use Rattle.rows.specs.Tables.{first_of, entries_of, width}
-use Rattle.rows.proofs.Asking.{having_found, having_done, is_some, present_having}
+use Rattle.rows.proofs.Asking.{is_some, present_having}
 use Rattle.rows.proofs.Printing.{StandIn}
 use Rattle.jose.specs.Registered.{enc, string}
 use Rattle.jose.specs.ContentAlgorithm.{sole_string, content_algorithm, differ, differing}
@@ -24,49 +23,30 @@ use Rattle.prelude.specs.declared.Place.{Place}
 use Rattle.jose.specs.Inner.Content.{place_of, named_in, shown_in}
 use Rattle.jose.proofs.Alike.{Alike, Beside}
 
--- Found in a table: the first `enc`, and the next behind it
+-- Where it stands, by the entries that are an `enc`
 
-module _ (count : ℕ) (t : List ℕ) where
-  abbrev all : List Entry
-  all = entries_of count t
+module _ (es : List Entry) where
+  pub none_named : having enc es ≡ [] → None ≡ named_in es
+  unfolding named_in
+  none_named h = sym (ap place_of h)
 
-  abbrev entry : ℕ → Entry
-  entry i = first_of (drop (i * width) t)
+  pub two_named : {e f : Entry} {rest : List Entry} → having enc es ≡ e ∷ (f ∷ rest) → None ≡ named_in es
+  unfolding named_in
+  two_named h = sym (ap place_of h)
 
-  module _ (i : ℕ) (first : having enc (drop i all) ≡ having enc all) where
-    pub none_named : count ≤ i → None ≡ named_in all
+  module _ {e : Entry} (only : having enc es ≡ e ∷ []) where
+    abbrev by : Bool → Maybe Place
+    by b = cond b (Some (record { start = e.member.value_start + 1; len = e.member.value_size - 2 })) None
+
+    one_is : named_in es ≡ by (eqb e.member.kind string)
     unfolding named_in
-    none_named h = sym (ap place_of (sym first ∙ having_done enc count i t h))
+    one_is = ap place_of only
 
-    module _ (h : i < count) (is : (entry i).number ≡ enc) where
-      from_first : having enc all ≡ entry i ∷ having enc (drop (i + 1) all)
-      from_first = sym first ∙ having_found enc count i t h is
+    pub other_named : (e.member.kind ≡ string → ⊥) → None ≡ named_in es
+    other_named n = sym (one_is ∙ ap by (ne_eqb e.member.kind string n))
 
-      module _ (j : ℕ) (next : having enc (drop j all) ≡ having enc (drop (i + 1) all)) where
-        pub two_named : j < count → (entry j).number ≡ enc → None ≡ named_in all
-        unfolding named_in
-        two_named below also =
-            sym (ap place_of
-            (from_first ∙ ap (λ (l : List Entry). entry i ∷ l) (sym next ∙ having_found enc count j t below also)))
-
-        module _ (last : count ≤ j) where
-          only : having enc all ≡ entry i ∷ []
-          only = from_first ∙ ap (λ (l : List Entry). entry i ∷ l) (sym next ∙ having_done enc count j t last)
-
-          abbrev by : Bool → Maybe Place
-          by b =
-              cond b
-              (Some (record { start = (entry i).member.value_start + 1; len = (entry i).member.value_size - 2 })) None
-
-          one_is : named_in all ≡ by (eqb (entry i).member.kind string)
-          unfolding named_in
-          one_is = ap place_of only
-
-          pub other_named : ((entry i).member.kind ≡ string → ⊥) → None ≡ named_in all
-          other_named n = sym (one_is ∙ ap by (ne_eqb (entry i).member.kind string n))
-
-          pub string_named : (entry i).member.kind ≡ string → by true ≡ named_in all
-          string_named e = sym (one_is ∙ ap by (eq-eqb (entry i).member.kind string e))
+    pub string_named : e.member.kind ≡ string → by true ≡ named_in es
+    string_named h = sym (one_is ∙ ap by (eq-eqb e.member.kind string h))
 
 -- Entries of one number
 

@@ -13,11 +13,8 @@ use rows::table::Entries;
 pub fn sole(entries: Entries) -> Option<Place>
     ensures { result ≡ named_in (the_entries entries.entry) }
 {
-    let at = entries.next(0, ENC);
-    if entries.count <= at {
-        return None;
-    }
-    if entries.next(at + 1, ENC) < entries.count {
+    let at = entries.next(0, ENC)?;
+    if entries.next(at + 1, ENC).is_some() {
         return None;
     }
     let e = entries.at(at);

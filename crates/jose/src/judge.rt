@@ -61,13 +61,7 @@ const PROTECTED: [Rule; 5] = [
 fn wrong_key(mode: u32, sizes: Sizes) -> bool
     ensures { result ≡ wrong_key mode sizes }
 {
-    if mode == 3 {
-        return sizes.key != 0;
-    }
-    if mode == 5 {
-        return sizes.key != 0;
-    }
-    sizes.key == 0
+    (mode == 3 || mode == 5) != (sizes.key == 0)
 }
 
 // Whether one recipient, whose key is wrong or not, breaks a rule.

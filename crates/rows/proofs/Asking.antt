@@ -5,8 +5,8 @@ use mathlib.Core.Bool.{Bool, true, false, ◌||◌, cond}
 use mathlib.Core.List.{List, [], ◌∷◌}
 use Prim.Native.Nat.{ℕ, ◌+◌, ◌*◌, ◌≤◌, ◌<◌}
 use lib.ListN.{drop}
-use lib.Dec.{eqb, ltb}
-use borrow.Author.Tests.{eq-eqb, ne_eqb, ltb-true, ltb-false}
+use lib.Dec.{eqb}
+use borrow.Author.Tests.{eq-eqb, ne_eqb}
 use Rattle.prelude.specs.Any.{any, any_pair}
 use Rattle.rows.specs.Rows.{Entry, numbered, present, having}
 use Rattle.rows.specs.Tables.{first_of, entries_of, width}
@@ -95,14 +95,3 @@ present_having n (e ∷ es) = cases (numbered n e) (present_having n es)
         b || any (numbered n) es ≡ is_some (cond b (e ∷ having n es) (having n es))
     cases true later = refl
     cases false later = later
-
--- By the first that was found, `count` where there is none.
-pub present_found : (n count i : ℕ) (t : List ℕ) → having n (drop i (entries_of count t)) ≡ having n (entries_of count t) →
-    (i < count → (first_of (drop (i * width) t)).number ≡ n) → ltb i count ≡ present n (entries_of count t)
-present_found n count i t same is = cases (ltb i count) refl ∙ sym (present_having n (entries_of count t))
-  where
-    cases : (b : Bool) → ltb i count ≡ b → b ≡ is_some (having n (entries_of count t))
-    cases true e =
-        let below = ltb-true i count e in
-        ap is_some (sym (having_found n count i t below (is below)) ∙ same)
-    cases false e = ap is_some (sym (having_done n count i t (ltb-false i count e)) ∙ same)

@@ -1,9 +1,8 @@
--- Comparing fingerprints first changes no answer: names that say the same have one fingerprint. So two entries say the
--- same where their fingerprints are one, their origins are asked for, and their names say the same.
+-- Comparing fingerprints first changes no answer: names that say the same have one fingerprint.
 use mathlib.Core.Path.{◌≡◌, refl, ap, sym, ◌∙◌}
 use mathlib.Core.Bool.{Bool, true, false, ◌&&◌}
 use Prim.Native.Nat.{ℕ}
-use Rattle.grammar.specs.Spellings.{undo, alike}
+use Rattle.grammar.specs.Spellings.{undo}
 use Rattle.spelling.specs.Inner.Fingerprints.{fingerprint}
 use Rattle.spelling.proofs.Fingerprints.{alike_not}
 use Rattle.rows.specs.Rows.{Entry, Texts, name_in, apart, same}
@@ -20,11 +19,3 @@ module _ (across : Bool) (ts : Texts) (e f : Entry) where
       ap (λ (x : Bool). apart across e.origin f.origin && x)
       (alike_not (name_in ts e) (name_in ts f) (λ z. h (a ∙ z ∙ sym b)))
       ∙ and_false (apart across e.origin f.origin)
-
-  -- The origins are not asked for.
-  pub same_beside : apart across e.origin f.origin ≡ false → same across ts e f ≡ false
-  same_beside h = ap (λ (b : Bool). b && alike (name_in ts e) (name_in ts f)) h
-
-  -- The names decide.
-  pub same_alike : apart across e.origin f.origin ≡ true → same across ts e f ≡ alike (name_in ts e) (name_in ts f)
-  same_alike h = ap (λ (b : Bool). b && alike (name_in ts e) (name_in ts f)) h

@@ -1,24 +1,14 @@
 -- Entries laid out as the list's numbers, one after the other: what is still to come is the list from the next entry on.
-use mathlib.Core.Path.{◌≡◌, ap, sym, subst, ◌∙◌}
+use mathlib.Core.Path.{◌≡◌, ap, subst}
 use mathlib.Core.List.{List}
-use Prim.Native.Nat.{ℕ, ◌+◌, ◌-◌, ◌*◌, ◌≤◌, ◌<◌}
+use Prim.Native.Nat.{ℕ, ◌+◌, ◌*◌, ◌≤◌, ◌<◌}
 use native.Mathlib.Omega.{arith}
-use lib.ListN.{length, take, drop, length-drop}
-use lib.Seq.{take-take}
+use lib.ListN.{length, drop}
 use Rattle.prelude.specs.Buffer.{written}
 use Rattle.prelude.proofs.Writing.{Writing, begin, put_part, done}
 use Rattle.rows.specs.Rows.{Entry}
 use Rattle.rows.specs.Tables.{list_row, listed, first_of, entries_of, width, list_width}
-use Rattle.rows.proofs.Entries.{listed_length, entries_length, eight_first, entry_at, entries_done}
-
--- The part of a table that is an entry's first six numbers.
-pub six_part : (t : List ℕ) (start : ℕ) → start + width ≤ length t
-    → take (start + 6 - start) (drop start t) ≡ list_row (first_of (drop start t))
-six_part t start h =
-    let six_long : start + 6 - start ≡ 6 = omega arith in
-    let entry = drop start t in
-    ap (λ (n : ℕ). take n entry) six_long ∙ sym (take-take list_width width entry (omega arith))
-    ∙ ap (take 6) (eight_first entry (omega (arith, h, length-drop start t)))
+use Rattle.rows.proofs.Entries.{listed_length, entries_length, entry_at, entries_done}
 
 -- Entries of a table laid out into a list.
 module _ (t : List ℕ) (count : ℕ) (before : List ℕ) where

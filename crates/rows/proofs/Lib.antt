@@ -8,7 +8,7 @@ pub mod Printing
 pub mod Collecting
 -- Entries laid out as the list.
 pub mod Laying
--- An entry's text, and the value of the first entry of a name.
+-- The value of the first entry of a name.
 pub mod Values
 -- Comparing fingerprints first changes no answer.
 pub mod Clashing

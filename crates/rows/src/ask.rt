@@ -1,5 +1,5 @@
 // Questions on an entry, on its texts, and on the entries of a table.
-ghost use Rattle.std.specs.Prelude.{Bool, ◌≡◌, ◌+◌, ◌-◌, ◌*◌, ◌≤◌, ◌<◌, length, drop, get_or};
+ghost use Rattle.std.specs.Prelude.{Bool, ◌≡◌, ◌+◌, ◌-◌, ◌*◌, ◌≤◌, ◌<◌, List, [], ◌∷◌, length, drop, get_or, MatchOption};
 ghost use Rattle.prelude.specs.Any.{any};
 ghost use Rattle.prelude.specs.Limits.{number_limit};
 ghost use Rattle.rows.specs.Rows.{Entry as Said};
@@ -153,19 +153,19 @@ impl<'a> Entries<'a> {
         false
     }
 
-    // The first from one on that has the n-th of the names; `count` where none does.
-    pub fn next(self, from: usize, n: u32) -> usize
+    // The first from one on that has the n-th of the names.
+    pub fn next(self, from: usize, n: u32) -> Option<usize>
         requires { from ≤ self.count }
-        ensures lower_bound { (from ≤ result) × (result ≤ self.entry.count) }
-        ensures table_value { having n (drop result (the_entries self.entry)) ≡ having n (drop from (the_entries self.entry)) }
-        ensures table_value_2 { result < self.entry.count → (first_of (drop (result * width) self.entry.table.now)).number ≡ n }
+        ensures { MatchOption result (having n (drop from (the_entries self.entry)) ≡ [])
+            (λ i. (from ≤ i) × ((i < self.entry.count) × (having n (drop from (the_entries self.entry))
+            ≡ first_of (drop (i * width) self.entry.table.now) ∷ having n (drop (i + 1) (the_entries self.entry))))) }
     {
         for i in from..self.count {
             if self.at(i).number() == n {
-                return i;
+                return Some(i);
             }
         }
-        self.count
+        None
     }
 
     // Whether one of them has the n-th of the names.

@@ -1,34 +1,26 @@
--- `wrong_key` asks for the two modes, one after the other.
+-- `wrong_key` asks whether the mode has no key of its own, against whether there is none.
 use mathlib.Core.Path.{◌≡◌, refl, ap, sym, ◌∙◌}
-use mathlib.Core.Bool.{Bool, true, false, not, xor}
+use mathlib.Core.Bool.{Bool, true, false, not, beq, xor, ◌||◌}
 use Prim.Native.Nat.{ℕ}
 use lib.Dec.{eqb}
 use borrow.Author.Tests.{ne_eqb}
-use Rattle.jose.specs.HeaderRules.{wrong_key}
+use Rattle.jose.specs.HeaderRules.{keyless}
+use Rattle.jose.proofs.judge.wrong_key.Goals.{then-mode-eq3, else-mode-eq3}
 use Rattle.jose.proofs.judge.wrong_key.Goals as goal
 
-keyless : (b : Bool) → not b ≡ xor true b
+differing : (a b : Bool) → not (beq a b) ≡ xor a b
 unfolding xor
-keyless true = refl
-keyless false = refl
-
-keyed : (b : Bool) → b ≡ xor false b
-unfolding xor
-keyed true = refl
-keyed false = refl
-
-pub returns-then-mode-eq3 : goal.returns-then-mode-eq3
-returns-then-mode-eq3 c =
-    let args = c.args in
-    keyless (eqb args.sizes.key 0) ∙ sym (ap (λ (m : ℕ). wrong_key m args.sizes) c.if-mode-eq3.true)
-
-pub returns-then-mode-eq5 : goal.returns-then-mode-eq5
-returns-then-mode-eq5 c =
-    let args = c.args in
-    keyless (eqb args.sizes.key 0) ∙ sym (ap (λ (m : ℕ). wrong_key m args.sizes) c.if-mode-eq5.true)
+differing true true = refl
+differing true false = refl
+differing false true = refl
+differing false false = refl
 
 pub returns : goal.returns
 returns c =
-    let args = c.args in
-    keyed (eqb args.sizes.key 0)
-    ∙ sym (simp (ne_eqb args.mode 3 c.if-mode-eq3.false, ne_eqb args.mode 5 c.if-mode-eq5.false))
+    let m = c.args.mode in
+    let is : c.if-mode-eq3.result ≡ keyless m =
+    elim c.if-mode-eq3.branch [
+      then-mode-eq3 w ↦ w.result-is ∙ ap (λ (k : ℕ). eqb k 3) w.if-mode-eq3.true ∙ sym (ap keyless w.if-mode-eq3.true)
+    | else-mode-eq3 w ↦ w.result-is ∙ sym (ap (λ (b : Bool). b || eqb m 5) (ne_eqb m 3 w.if-mode-eq3.false))
+    ] in
+    differing c.if-mode-eq3.result (eqb c.args.sizes.key 0) ∙ ap (λ (b : Bool). xor b (eqb c.args.sizes.key 0)) is

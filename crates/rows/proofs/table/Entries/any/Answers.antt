@@ -1,12 +1,8 @@
 -- `any` asks one entry after the other.
-use mathlib.Core.Path.{◌≡◌, refl, ap, sym, ◌∙◌}
-use native.Mathlib.Omega.{arith}
-use Prim.Native.Nat.{ℕ, ◌*◌}
+use mathlib.Core.Path.{ap, sym, ◌∙◌}
+use Prim.Native.Nat.{ℕ}
 use mathlib.Core.List.{List}
-use lib.ListN.{drop}
-use mathlib.Core.Bool.{Bool, true, false}
-use Rattle.rows.specs.Rows.{Entry}
-use Rattle.rows.specs.Tables.{first_of, width}
+use Rattle.rows.specs.Tables.{first_of}
 use Rattle.rows.proofs.Asking.{any_turn, any_found, any_done}
 use Rattle.rows.proofs.table.Entries.any.Goals as goal
 

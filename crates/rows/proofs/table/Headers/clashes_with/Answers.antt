@@ -1,5 +1,5 @@
 -- `clashes_with` asks one entry after the other behind the i-th.
-use mathlib.Core.Path.{ap, ap₂, sym, subst, ◌∙◌}
+use mathlib.Core.Path.{ap₂, sym, subst, ◌∙◌}
 use mathlib.Core.List.{List}
 use Prim.Native.Nat.{ℕ}
 use Rattle.rows.specs.Rows.{same}
