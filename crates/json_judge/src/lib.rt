@@ -28,6 +28,7 @@ use jose::lists::ENC;
 use json_read::Position;
 use prelude::Place;
 use prelude::refusal::Refusal;
+use recipients::bodies::Bodies;
 use rows::table::{Entries, Headers, Texts};
 use prelude::limits::{HEADER_ROOM, LEVELS};
 
@@ -42,23 +43,17 @@ fn unread_within(levels: u32, text: &[u8]) -> bool
 }
 
 // 7 on the own headers.
-fn own_unread(levels: u32, recipients: &[u8], n: usize) -> bool
-    requires recipients_value { sound_table recipients.now ≡ true }
-    requires n_value { n ≡ said_count recipients.now }
+fn own_unread(levels: u32, recipients: &[u8]) -> bool
+    requires { sound_table recipients.now ≡ true }
     ensures { result ≡ any (λ q. unread_within levels q.header) (recipients_in recipients.now) }
 {
-    let mut start = 1 + 8 * n;
-    let mut i: usize = 0;
-    while i < n {
-        let body = recipients::recipient(recipients, i, start);
+    for body in Bodies::of(recipients) {
         if unread_within(
             levels,
             parts::part(recipients, body.header.start, body.header.len),
         ) {
             return true;
         }
-        start = body.key.start + body.key.len;
-        i += 1;
     }
     false
 }
@@ -79,21 +74,15 @@ fn hollow_text(text: &[u8]) -> bool
 }
 
 // 10 on the own headers, which read.
-fn own_hollow(recipients: &[u8], n: usize) -> bool
+fn own_hollow(recipients: &[u8]) -> bool
     requires recipients_value { sound_table recipients.now ≡ true }
-    requires n_value { n ≡ said_count recipients.now }
     requires own_readable { OwnReadable (recipients_in recipients.now) }
     ensures { result ≡ any (λ q. hollow_text q.header) (recipients_in recipients.now) }
 {
-    let mut start = 1 + 8 * n;
-    let mut i: usize = 0;
-    while i < n {
-        let body = recipients::recipient(recipients, i, start);
+    for body in Bodies::of(recipients) {
         if hollow_text(parts::part(recipients, body.header.start, body.header.len)) {
             return true;
         }
-        start = body.key.start + body.key.len;
-        i += 1;
     }
     false
 }
@@ -286,16 +275,8 @@ fn judge_parameters(
 }
 
 // 7 on all texts: the shared one within `outer` levels, the own ones within `inner`.
-fn unread_texts(
-    outer: u32,
-    inner: u32,
-    header: &[u8],
-    shared: &[u8],
-    recipients: &[u8],
-    n: usize,
-) -> bool
-    requires recipients_value { sound_table recipients.now ≡ true }
-    requires n_value { n ≡ said_count recipients.now }
+fn unread_texts(outer: u32, inner: u32, header: &[u8], shared: &[u8], recipients: &[u8]) -> bool
+    requires { sound_table recipients.now ≡ true }
     ensures { result ≡ unread_texts outer inner header.now shared.now
         (recipients_in recipients.now) }
 {
@@ -305,13 +286,12 @@ fn unread_texts(
     if unread_within(outer, shared) {
         return true;
     }
-    own_unread(inner, recipients, n)
+    own_unread(inner, recipients)
 }
 
 // 10 on all texts, which read.
-fn hollow_texts(header: &[u8], shared: &[u8], recipients: &[u8], n: usize) -> bool
+fn hollow_texts(header: &[u8], shared: &[u8], recipients: &[u8]) -> bool
     requires recipients_value { sound_table recipients.now ≡ true }
-    requires n_value { n ≡ said_count recipients.now }
     requires readable { Readable header.now }
     requires readable_2 { Readable shared.now }
     requires own_readable { OwnReadable (recipients_in recipients.now) }
@@ -323,7 +303,7 @@ fn hollow_texts(header: &[u8], shared: &[u8], recipients: &[u8], n: usize) -> bo
     if hollow_text(shared) {
         return true;
     }
-    own_hollow(recipients, n)
+    own_hollow(recipients)
 }
 
 // The levels that are left to an own header where it will stand.
@@ -343,7 +323,7 @@ pub fn judge_over(header: &[u8], shared: &[u8], recipients: &[u8], n: usize) -> 
     if HEADER_ROOM < header.len() {
         return Err(Refusal::LongHeader);
     }
-    if unread_texts(LEVELS, LEVELS, header, shared, recipients, n) {
+    if unread_texts(LEVELS, LEVELS, header, shared, recipients) {
         return Err(Refusal::Unread);
     }
     Err(Refusal::LongMessage)
@@ -376,11 +356,10 @@ pub fn judge_within(
         header,
         shared,
         recipients,
-        n,
     ) {
         return Err(Refusal::Unread);
     }
-    if hollow_texts(header, shared, recipients, n) {
+    if hollow_texts(header, shared, recipients) {
         return Err(Refusal::Shape);
     }
     judge_parameters(header, shared, known, recipients, n, sizes)

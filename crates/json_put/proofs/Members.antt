@@ -7,12 +7,13 @@ use Rattle.grammar.specs.Grammar.{curly, quote, colon}
 use Rattle.recipients.specs.Table.{RawRecipient}
 use Rattle.recipients.specs.Parsed.{said_count, recipient_at, recipients_from, recipients_in, sound_table}
 use Rattle.recipients.specs.declared.Body.{Body}
-use Rattle.recipients.specs.Inner.Answers.{body_at, bodies_from, bodies_left}
+use Rattle.recipients.specs.Inner.Answers.{body_at, shown, bodies_left}
 use Rattle.recipients.proofs.Places.{recipients_next, sound_some}
+use Rattle.recipients.proofs.Left.{shown_is, shown_left}
 use Rattle.json_text.specs.Pieces.{quoted, member_text, bracketed}
 use Rattle.json_message.specs.JsonText.{header_member, component_member, own_members, element_text, recipient_members, top_members, json_text}
 use Rattle.json_message.specs.JsonWrite.{message_of, written_text}
-use Rattle.json_put.specs.Inner.Members.{name_text, encoded_member, shown, head_members, tail_members, all_members, raw_of}
+use Rattle.json_put.specs.Inner.Members.{name_text, encoded_member, head_members, tail_members, all_members, raw_of}
 use Rattle.json_put.specs.declared.message.Message.{Message}
 
 -- Members
@@ -56,11 +57,6 @@ unfolding own_members
 own_is x header key p q =
     sym (ap₂ (λ (h k : List ℕ). header_member (ascii "header") h ++ component_member (ascii "encrypted_key") k) p q)
 
--- it stands at its places
-pub shown_is : (t : List ℕ) (i : ℕ) → shown t (body_at t i) ≡ recipient_at t i
-unfolding shown body_at recipient_at
-shown_is t i = refl
-
 -- flattened, the members are those of the first recipient
 pub flat_members : (t : List ℕ) → sound_table t ≡ true → (many : Bool) → many ≡ false → (b : Body) → b ≡ body_at t 0 →
     recipient_members many (recipients_in t) ≡ own_members (shown t b)
@@ -72,18 +68,10 @@ flat_members t sound many e b at =
 
 -- The elements of the recipients that stand at these places; all of them
 abbrev pub texts_of : List ℕ → List Body → List (List ℕ)
-texts_of t bs = map (λ (b : Body). element_text (shown t b)) bs
-
-texts_from : (t : List ℕ) (n i : ℕ) → texts_of t (bodies_from t n i) ≡ map element_text (recipients_from t n i)
-unfolding bodies_from recipients_from shown body_at recipient_at
-texts_from t zero i = refl
-texts_from t (suc n) i = ap (λ (l : List (List ℕ)). element_text (recipient_at t i) ∷ l) (texts_from t n (suc i))
+texts_of t bs = map element_text (map (shown t) bs)
 
 pub texts_all : (t : List ℕ) → texts_of t (bodies_left t 0) ≡ map element_text (recipients_in t)
-unfolding recipients_in
-texts_all t =
-    let whole : said_count t - 0 ≡ said_count t = omega arith in
-    ap (λ (n : ℕ). texts_of t (bodies_from t n 0)) whole ∙ texts_from t (said_count t) 0
+texts_all t = ap (map element_text) (shown_left t)
 
 -- The message
 module _ (general : Bool) (m : Message) where

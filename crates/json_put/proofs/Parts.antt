@@ -6,14 +6,14 @@ use Rattle.grammar.specs.Grammar.{Bracket, curly, square, opening, closing, quot
 use Rattle.recipients.specs.Table.{RawRecipient}
 use Rattle.recipients.specs.declared.Body.{Body}
 use Rattle.recipients.specs.Parsed.{recipients_in}
-use Rattle.recipients.specs.Inner.Answers.{bodies_left}
+use Rattle.recipients.specs.Inner.Answers.{shown, bodies_left}
 use Rattle.json_text.specs.Pieces.{quoted, member_text, bracketed}
 use Rattle.json_text.specs.Inner.Led.{led, led_one}
 use Rattle.json_text.proofs.Led.{one_apart, led_one_lem, bracketed_led}
 use Rattle.json_message.specs.JsonText.{header_member, component_member, own_members, element_text, recipient_members}
 use Rattle.json_message.specs.JsonWrite.{written_text}
 use Rattle.json_put.specs.Inner.Laws.{Laws}
-use Rattle.json_put.specs.Inner.Members.{name_text, encoded_member, shown, head_members, tail_members, all_members, raw_of, Point, Room, Puts}
+use Rattle.json_put.specs.Inner.Members.{name_text, encoded_member, head_members, tail_members, all_members, raw_of, Point, Room, Puts}
 use Rattle.json_put.specs.declared.message.Message.{Message}
 use Rattle.json_put.proofs.Members.{name_is, member_is, own_is, text_is, texts_of, texts_all}
 use Rattle.json_put.proofs.Putting.{Putting, flat, start, apart, member_laws}

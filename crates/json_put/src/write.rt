@@ -2,9 +2,10 @@
 // whether one stands before, and says whether one stands before what follows.
 ghost use Rattle.std.specs.Prelude.{true, [], ◌∷◌, map};
 ghost use Rattle.recipients.specs.Parsed.{recipients_in};
+ghost use Rattle.recipients.specs.Inner.Answers.{shown};
 ghost use Rattle.json_text.specs.Inner.Led.{led_one};
 ghost use Rattle.json_message.specs.JsonText.{header_member, component_member, own_members, element_text, recipient_members};
-ghost use Rattle.json_put.specs.Inner.Members.{name_text, encoded_member, shown, head_members, tail_members, all_members, point, Room, Puts};
+ghost use Rattle.json_put.specs.Inner.Members.{name_text, encoded_member, head_members, tail_members, all_members, point, Room, Puts};
 
 use crate::message::Message;
 use crate::sink::Sink;

@@ -21,7 +21,6 @@ pub own_hollow-requires : goal.own_hollow-requires
 own_hollow-requires c =
     record {
       recipients_value = c.requires.recipients_value;
-      n_value = c.requires.n_value;
       own_readable = c.requires.own_readable;
     }
 

@@ -11,11 +11,7 @@ pub returns-then-header-gt-HEADER_ROOM : goal.returns-then-header-gt-HEADER_ROOM
 returns-then-header-gt-HEADER_ROOM c = within_long _ _ _ _ _ _ _ c.if-header-gt-HEADER_ROOM.true
 
 pub unread_texts-requires : goal.unread_texts-requires
-unread_texts-requires c =
-    record {
-      recipients_value = c.requires.recipients_value;
-      n_value = c.requires.n_value;
-    }
+unread_texts-requires c = c.requires.recipients_value
 
 pub returns-then-unread_texts : goal.returns-then-unread_texts
 returns-then-unread_texts c =
@@ -30,7 +26,6 @@ hollow_texts-requires c =
     let both = texts_readable c.args.general _ _ _ short c.requires.shared_len_bound c.requires.own_short read in
     record {
       recipients_value = c.requires.recipients_value;
-      n_value = c.requires.n_value;
       readable = both.0;
       readable_2 = both.1.0;
       own_readable = both.1.1;

@@ -1,72 +1,47 @@
 -- Those before have a member; the first without one is found.
-use mathlib.Core.Path.{refl, ap, sym, subst, ◌∙◌}
-use native.Mathlib.Omega.{arith}
-use Rattle.recipients.proofs.Places.{start_first, lengths_fit, body_fits, start_next}
+use Rattle.std.proofs.Common.{List, map, ap, sym, subst, ◌∙◌}
+use Rattle.prelude.specs.Any.{any}
+use Rattle.recipients.specs.Table.{RawRecipient}
+use Rattle.recipients.specs.declared.bodies.Bodies.{Bodies}
+use Rattle.recipients.specs.Inner.Answers.{shown, bodies_left}
+use Rattle.recipients.proofs.Left.{shown_left}
 use Rattle.json_message.specs.Inner.PiecesOrder.{hollow_text}
-use Rattle.json_judge.specs.Inner.Asked.{Readable}
-use Rattle.json_judge.proofs.Walk.{header_is_lem, next_start, found_any, passed_any, end_any, next_every}
+use Rattle.json_judge.specs.Inner.Asked.{Readable, OwnReadable}
+use Rattle.json_judge.proofs.Walk.{found_any, passed_any, end_any, every_next}
 use Rattle.json_judge.proofs.own_hollow.Invariants.{faulty}
 use Rattle.json_judge.proofs.own_hollow.Goals as goal
 
-pub overflow_mul-start : goal.overflow_mul-start
-overflow_mul-start c = omega (arith, lengths_fit c.args.recipients.now c.requires.recipients_value, c.requires.n_value)
-
-pub overflow_add-start : goal.overflow_add-start
-overflow_add-start c = omega (arith, lengths_fit c.args.recipients.now c.requires.recipients_value, c.requires.n_value)
-
-pub loop-i-init : goal.loop-i-init
-loop-i-init c =
-    (omega arith, (omega (arith, start_first c.args.recipients.now, c.requires.n_value), (refl, c.requires.own_readable)))
-
-pub recipient-body-requires : goal.recipient-body-requires
-recipient-body-requires c =
+pub loop-body-init : goal.loop-body-init
+loop-body-init c =
+    let t = c.args.recipients.now in
+    let all = ap (λ (b : Bodies). bodies_left b.table.now b.i) c.into_iter-body-iterator.ensures.into_iter_gives ∙ c.of-body-items.ensures in
+    let whole = ap (λ bs. map (shown t) bs) all ∙ shown_left t in
     record {
-      table_value = c.requires.recipients_value;
-      i_bound = omega (arith, c.loop-i-test.true, c.requires.n_value);
-      start_value = c.loop-i.invariant.1.0;
+      same = ap (any faulty) whole;
+      readable = subst OwnReadable (sym whole) c.requires.own_readable;
     }
 
 pub hollow_text-requires : goal.hollow_text-requires
+unfolding shown
 hollow_text-requires c =
-    let t = c.args.recipients.now in
-    let here = c.loop-i-test.true in
-    let own = c.part.ensures.octets ∙ header_is_lem t c.loop-i.i _ c.recipient-body.ensures in
-    let next = next_every (λ r. Readable r.header) t c.loop-i.i (omega (arith, here, c.requires.n_value)) c.loop-i.invariant.1.1.1 in
-    subst Readable (sym own) next.0
+    subst Readable (sym c.part.ensures.octets)
+    (every_next (λ r. Readable r.header) c.args.recipients.now _ _ _ c.in-Some.ensures.steps c.loop-body.invariant.readable).0
 
 pub returns-then-hollow_text : goal.returns-then-hollow_text
+unfolding shown
 returns-then-hollow_text c =
-    let t = c.args.recipients.now in
-    let here = c.loop-i-test.true in
-    let own = c.part.ensures.octets ∙ header_is_lem t c.loop-i.i _ c.recipient-body.ensures in
-    let found = ap hollow_text (sym own) ∙ sym c.hollow_text.ensures ∙ c.if-hollow_text.true in
-    found_any faulty t c.loop-i.i (omega (arith, here, c.requires.n_value)) found ∙ c.loop-i.invariant.1.1.0
+    let found = ap hollow_text (sym c.part.ensures.octets) ∙ sym c.hollow_text.ensures ∙ c.if-hollow_text.true in
+    found_any faulty c.args.recipients.now _ _ _ c.in-Some.ensures.steps found ∙ c.loop-body.invariant.same
 
-pub overflow_add-start-in-loop-i : goal.overflow_add-start-in-loop-i
-overflow_add-start-in-loop-i c =
+pub loop-body-preserved : goal.loop-body-preserved
+unfolding shown
+loop-body-preserved c =
     let t = c.args.recipients.now in
-    let here = c.loop-i-test.true in
-    let next = next_start t c.loop-i.i _ c.recipient-body.ensures in
-    omega (arith, next, start_next t c.loop-i.i, body_fits t c.requires.recipients_value c.loop-i.i (omega (arith, here, c.requires.n_value)))
-
-pub loop-i-preserved : goal.loop-i-preserved
-loop-i-preserved c =
-    let t = c.args.recipients.now in
-    let here = c.loop-i-test.true in
-    let body = c.recipient-body.ensures in
-    let own = c.part.ensures.octets ∙ header_is_lem t c.loop-i.i _ body in
-    let passed = ap hollow_text (sym own) ∙ sym c.hollow_text.ensures ∙ c.if-hollow_text.false in (
-      omega (arith, here),
-      (
-        next_start t c.loop-i.i _ c.recipient-body.ensures,
-        (
-          passed_any faulty t c.loop-i.i (omega (arith, here, c.requires.n_value)) passed ∙ c.loop-i.invariant.1.1.0,
-          (next_every (λ r. Readable r.header) t c.loop-i.i (omega (arith, here, c.requires.n_value)) c.loop-i.invariant.1.1.1).1,
-        ),
-      ),
-    )
+    let passed = ap hollow_text (sym c.part.ensures.octets) ∙ sym c.hollow_text.ensures ∙ c.if-hollow_text.false in
+    record {
+      same = passed_any faulty t _ _ _ c.in-Some.ensures.steps passed ∙ c.loop-body.invariant.same;
+      readable = (every_next (λ r. Readable r.header) t _ _ _ c.in-Some.ensures.steps c.loop-body.invariant.readable).1;
+    }
 
 pub returns : goal.returns
-returns c =
-    end_any faulty c.args.recipients.now c.loop-i.i (omega (arith, c.loop-i-test.false, c.requires.n_value))
-    ∙ c.loop-i.invariant.1.1.0
+returns c = end_any faulty c.args.recipients.now _ c.in-None.ensures.steps.0 ∙ c.loop-body.invariant.same

@@ -1,12 +1,9 @@
 -- Members of an object, or elements of an array, written one after the other: a writer says whether one stands before.
 use Rattle.std.specs.Prelude.{◌≡◌, Bool, List, [], ◌∷◌, ◌++◌, ℕ}
 use Rattle.prelude.specs.Ascii.{ascii}
-use Rattle.parts.specs.Parts.{part}
 use Rattle.base64url.specs.Base64url.{encoded}
 use Rattle.grammar.specs.Grammar.{colon}
-use Rattle.recipients.specs.Table.{RawRecipient}
 use Rattle.recipients.specs.Parsed.{recipients_in}
-use Rattle.recipients.specs.declared.Body.{Body}
 use Rattle.json_text.specs.Pieces.{quoted, member_text}
 use Rattle.json_text.specs.Inner.Led.{led, begun_after}
 use Rattle.json_message.specs.JsonText.{header_member, component_member, recipient_members}
@@ -40,13 +37,6 @@ tail_members m =
 
 abbrev pub all_members : Bool → Message → List (List ℕ)
 all_members general m = head_members general m ++ tail_members m
-
--- The recipient whose header and key stand at these places.
-unfoldable pub shown : List ℕ → Body → RawRecipient
-shown t b = record {
-  header = part t b.header.start b.header.len;
-  key = part t b.key.start b.key.len;
-}
 
 -- Members written to a sink
 

@@ -1,5 +1,7 @@
 -- The answers of the code on a table.
 use Rattle.std.specs.Prelude.{List, [], ◌∷◌, cond, ℕ, zero, suc, Option, Some, None, ◌+◌, ◌-◌}
+use Rattle.parts.specs.Parts.{part}
+use Rattle.recipients.specs.Table.{RawRecipient}
 use Rattle.recipients.specs.Parsed.{said_count, header_length, key_length, body_start, sound_table}
 use Rattle.recipients.specs.declared.Body.{Body}
 
@@ -14,7 +16,14 @@ body_at t i = record {
   key = record { start = body_start t i + header_length t i; len = key_length t i };
 }
 
--- So many from the i-th on, and all from the i-th on.
+-- The recipient whose header and key stand at these places.
+unfoldable pub shown : List ℕ → Body → RawRecipient
+shown t b = record {
+  header = part t b.header.start b.header.len;
+  key = part t b.key.start b.key.len;
+}
+
+-- The places of so many from the i-th on, and of all from the i-th on.
 
 unfoldable pub bodies_from : List ℕ → ℕ → ℕ → List Body
 bodies_from t zero i = []

@@ -1,6 +1,7 @@
 -- `element` writes the comma, and the members between brackets.
 use Rattle.std.proofs.Common.{refl}
-use Rattle.json_put.specs.Inner.Members.{point, shown}
+use Rattle.recipients.specs.Inner.Answers.{shown}
+use Rattle.json_put.specs.Inner.Members.{point}
 use Rattle.json_put.proofs.Putting.{next, ◌▸◌, ended}
 use Rattle.json_put.proofs.Parts.{element_parts}
 use Rattle.json_put.proofs.write.element.Goals as goal

@@ -1,6 +1,7 @@
 -- `own` writes the header, and the key behind it.
 use Rattle.prelude.specs.Ascii.{ascii}
-use Rattle.json_put.specs.Inner.Members.{point, shown}
+use Rattle.recipients.specs.Inner.Answers.{shown}
+use Rattle.json_put.specs.Inner.Members.{point}
 use Rattle.json_put.proofs.Putting.{next, ◌▸◌, ended}
 use Rattle.json_put.proofs.Parts.{own_parts}
 use Rattle.json_put.proofs.write.own.Goals as goal
