@@ -28,9 +28,9 @@ use jose::lists::ENC;
 use json_read::Position;
 use prelude::Place;
 use prelude::refusal::Refusal;
-use recipients::bodies::Bodies;
 use rows::table::{Entries, Headers, Texts};
 use prelude::limits::{HEADER_ROOM, LEVELS};
+use recipients::bodies::Bodies;
 
 // 7 on a text within so many levels; an absent one is not judged.
 fn unread_within(levels: u32, text: &[u8]) -> bool
@@ -220,8 +220,7 @@ fn judge_recipients<'a>(
     let mut start = 1 + 8 * n;
     let head = recipients::recipient(recipients, 0, start);
     let first = parts::part(recipients, head.header.start, head.header.len);
-    let mut i: usize = 0;
-    while i < n {
+    for i in 0..n {
         let body = recipients::recipient(recipients, i, start);
         let own = parts::part(recipients, body.header.start, body.header.len);
         let its = Sizes {
@@ -235,7 +234,6 @@ fn judge_recipients<'a>(
         named = first_content(i, named, faults.content);
         content = content.or(content_fault(first, named, own, faults.content));
         start = body.key.start + body.key.len;
-        i += 1;
     }
     match fault_of_all(broken, has_enc, content) {
         Some(refusal) => Err(refusal),
@@ -352,13 +350,7 @@ pub fn judge_within(
     if HEADER_ROOM < header.len() {
         return Err(Refusal::LongHeader);
     }
-    if unread_texts(
-        LEVELS - 1,
-        own_levels(general),
-        header,
-        shared,
-        recipients,
-    ) {
+    if unread_texts(LEVELS - 1, own_levels(general), header, shared, recipients) {
         return Err(Refusal::Unread);
     }
     if hollow_texts(header, shared, recipients) {

@@ -1,11 +1,11 @@
 -- Members: what they are made of, in the order in which they are written.
-use Rattle.std.proofs.Common.{◌≡◌, refl, ap, ap₂, sym, ◌∙◌, Bool, true, false, List, [], ◌∷◌, ◌++◌, map, append_assoc, ℕ, zero, suc, ◌-◌, ◌==◌, length, arith}
+use Rattle.std.proofs.Common.{◌≡◌, refl, ap, ap₂, sym, ◌∙◌, Bool, true, false, List, [], ◌∷◌, ◌++◌, map, append_assoc, ℕ, ◌==◌, length, arith}
 use Rattle.std.proofs.lemmas.Bool.{eqb-true}
 use mathlib.Core.Bool.{true≢false}
 use Rattle.prelude.specs.Ascii.{ascii}
 use Rattle.grammar.specs.Grammar.{curly, quote, colon}
 use Rattle.recipients.specs.Table.{RawRecipient}
-use Rattle.recipients.specs.Parsed.{said_count, recipient_at, recipients_from, recipients_in, sound_table}
+use Rattle.recipients.specs.Parsed.{recipients_in, sound_table}
 use Rattle.recipients.specs.declared.Body.{Body}
 use Rattle.recipients.specs.Inner.Answers.{body_at, shown, bodies_left}
 use Rattle.recipients.proofs.Places.{recipients_next, sound_some}

@@ -13,7 +13,7 @@ use Rattle.jose.specs.ContentAlgorithm.{differ}
 use Rattle.jose.specs.Inner.Content.{named_in, shown_in}
 use Rattle.headers.specs.Headers.{protected_entries}
 use Rattle.recipients.specs.Parsed.{said_count, recipient_at}
-use Rattle.recipients.proofs.Places.{start_first, lengths_fit, body_fits, start_next, sound_few, sound_some}
+use Rattle.recipients.proofs.Places.{start_first, lengths_fit, body_fits, start_next, sound_some}
 use Rattle.json_message.specs.Handed.{text_entries}
 use Rattle.json_judge.specs.Inner.Asked.{Readable, with_key_size, own_tests, rules_tests}
 use Rattle.json_judge.proofs.Walk.{header_is_lem, next_start, next_every}
@@ -102,14 +102,6 @@ overflow_add-start-in-loop-i c =
     let i = c.loop-i.i in
     let next = next_start t i _ c.recipient-body.ensures in
     omega (arith, next, start_next t i, body_fits t c.requires.recipients_value i (below))
-
-pub overflow_add-i : goal.overflow_add-i
-overflow_add-i c =
-    let below : c.loop-i.i < said_count c.args.recipients.now = omega (arith, c.loop-i-test.true, c.requires.n_value) in
-    omega (arith, below, sound_few c.args.recipients.now c.requires.recipients_value)
-
-pub loop-i-smaller : goal.loop-i-smaller
-loop-i-smaller c = omega (arith, c.loop-i-test.true)
 
 pub loop-i-preserved : goal.loop-i-preserved
 unfolding first

@@ -1,7 +1,6 @@
 -- Those before have a member; the first without one is found.
-use Rattle.std.proofs.Common.{List, map, ap, sym, subst, ◌∙◌}
+use Rattle.std.proofs.Common.{map, ap, sym, subst, ◌∙◌}
 use Rattle.prelude.specs.Any.{any}
-use Rattle.recipients.specs.Table.{RawRecipient}
 use Rattle.recipients.specs.declared.bodies.Bodies.{Bodies}
 use Rattle.recipients.specs.Inner.Answers.{shown, bodies_left}
 use Rattle.recipients.proofs.Left.{shown_left}

@@ -1,5 +1,5 @@
 -- Those before have a reading; the first without one is found.
-use Rattle.std.proofs.Common.{List, map, ap, sym, ◌∙◌}
+use Rattle.std.proofs.Common.{map, ap, sym, ◌∙◌}
 use Rattle.prelude.specs.Any.{any}
 use Rattle.recipients.specs.declared.bodies.Bodies.{Bodies}
 use Rattle.recipients.specs.Inner.Answers.{shown, bodies_left}
