@@ -26,7 +26,7 @@ returns-then-n-lt1 c =
     let table = c.args.table.now in
     let n = said table c.from-n.ensures c.in_ok-first.ensures.value in
     count_malformed table (elim c.then-n-lt1.branch [
-      then-n-lt1-via-then-n-lt1 w ↦ none_unsound table (omega (arith, n, w.if-n-lt1))
+      | then-n-lt1-via-then-n-lt1 w ↦ none_unsound table (omega (arith, n, w.if-n-lt1))
       | then-n-lt1-via-else-n-lt1+then-n-gt-MOST_RECIPIENTS w ↦ many_unsound table (omega (arith, n, w.if-n-lt1)) (omega (arith, n, w.if-n-gt-MOST_RECIPIENTS))
     ])
 
