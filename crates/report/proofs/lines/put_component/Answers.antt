@@ -1,6 +1,6 @@
 -- `put_component` writes the name and the two numbers one behind the other.
 use mathlib.Core.List.{List, [], ◌∷◌}
-use Prim.Native.Nat.{ℕ, ◌+◌}
+use Prim.Native.Nat.{ℕ}
 use native.Mathlib.Omega.{arith}
 use Rattle.prelude.specs.declared.Place.{Place}
 use Rattle.report.specs.Text as Text

@@ -1,6 +1,6 @@
 -- `put_components` writes one line behind the other.
 use mathlib.Core.List.{List, [], ◌∷◌}
-use Prim.Native.Nat.{ℕ, ◌+◌}
+use Prim.Native.Nat.{ℕ}
 use native.Mathlib.Omega.{arith}
 use Rattle.prelude.specs.Ascii.{ascii}
 use Rattle.headers.specs.declared.Components.{Components}

@@ -28,7 +28,7 @@ put_named-b-requires c =
     record {
       bound = omega arith;
       end_in_bounds = fits (step (start c.args.at (parts c.args.form c.args.count c.args.mode) c.args.out.now c.requires) (omega arith)
-    c.put_word-a.ensures.value c.put_word-a.ensures.out_after) (omega arith);
+          c.put_word-a.ensures.value c.put_word-a.ensures.out_after) (omega arith);
     }
 
 pub put_number-c-requires : goal.put_number-c-requires
@@ -44,9 +44,9 @@ put_named-requires c =
     record {
       bound = omega arith;
       end_in_bounds = fits (step (step (step (start c.args.at (parts c.args.form c.args.count c.args.mode) c.args.out.now c.requires) (omega arith)
-    c.put_word-a.ensures.value c.put_word-a.ensures.out_after) (omega arith)
-    c.put_named-b.ensures.value c.put_named-b.ensures.out_after) (omega arith)
-    c.put_number-c.ensures.value c.put_number-c.ensures.out_after) (omega arith);
+          c.put_word-a.ensures.value c.put_word-a.ensures.out_after) (omega arith)
+          c.put_named-b.ensures.value c.put_named-b.ensures.out_after) (omega arith)
+          c.put_number-c.ensures.value c.put_number-c.ensures.out_after) (omega arith);
     }
 
 pub returns : goal.returns

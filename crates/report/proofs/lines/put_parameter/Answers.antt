@@ -64,11 +64,11 @@ put_named-requires c =
     record {
       bound = omega arith;
       end_in_bounds = fits (step (step (step (step (step (start c.args.at (parts c.args.row.now) c.args.out.now c.requires.row_in_bounds) (omega arith)
-    c.put_named-a.ensures.value c.put_named-a.ensures.out_after) (omega arith)
-    c.put_number-b.ensures.value c.put_number-b.ensures.out_after) (omega arith)
-    c.put_number-c.ensures.value c.put_number-c.ensures.out_after) (omega arith)
-    c.put_number-d.ensures.value c.put_number-d.ensures.out_after) (omega arith)
-    c.put_number-e.ensures.value c.put_number-e.ensures.out_after) (omega arith);
+          c.put_named-a.ensures.value c.put_named-a.ensures.out_after) (omega arith)
+          c.put_number-b.ensures.value c.put_number-b.ensures.out_after) (omega arith)
+          c.put_number-c.ensures.value c.put_number-c.ensures.out_after) (omega arith)
+          c.put_number-d.ensures.value c.put_number-d.ensures.out_after) (omega arith)
+          c.put_number-e.ensures.value c.put_number-e.ensures.out_after) (omega arith);
     }
 
 pub returns : goal.returns
