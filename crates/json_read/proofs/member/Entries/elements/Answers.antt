@@ -1,10 +1,11 @@
--- From the first one on they are all.
-use Rattle.grammar.specs.Grammar.{square}
-use Rattle.grammar.specs.Reader.{step}
-use Rattle.json_read.proofs.MemberRows.{rows_first}
+-- The elements are what stands in an array.
+use mathlib.Core.Path.{ap}
+use Rattle.grammar.specs.Reader.{elements_of, elements_at}
 use Rattle.json_read.proofs.member.Entries.elements.Goals as goal
 
 pub returns : goal.returns
-returns c =
-    let s = c.args.text.now in
-    rows_first square s c.args.levels (step s c.args.at) c.inside.result.at c.inside.ensures
+unfolding elements_at
+returns c = record {
+  rows = c.all.ensures;
+  elements = ap elements_of c.all.ensures;
+}
