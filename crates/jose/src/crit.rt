@@ -8,11 +8,11 @@ ghost use Rattle.prelude.specs.Any.{any, any_pair};
 ghost use Rattle.rows.specs.Inner.Views.{the_entry, the_entries, the_texts};
 ghost use Rattle.jose.specs.HeaderRules.{spelled_element, unknown, same_element, misplaced};
 ghost use Rattle.jose.specs.HeaderRules.{is_empty, wrong_crit, critical};
-ghost use Rattle.json_read.specs.Entries.{elements_left};
+ghost use Rattle.json_read.specs.Rows.{elements_left};
 ghost use Rattle.jose.specs.Inner.Elements.{element_of};
 
 use crate::lists::CRIT;
-use json_read::member::{Entries, Row};
+use json_read::member::{Row, Rows};
 use prelude::limits::LEVELS;
 use rows::layout::STRING;
 use rows::table::{Entry, Headers};
@@ -33,7 +33,7 @@ fn spelled(s: &[u8], row: Row) -> &[u8]
 fn empty(s: &[u8], at: usize) -> bool
     ensures { result ≡ is_empty (elements_at levels s.now at) }
 {
-    Entries::elements(s, at, LEVELS, false).next().is_none()
+    Rows::elements(s, at, LEVELS, false).next().is_none()
 }
 
 // Whether an element is no string, or none of the known names.
@@ -49,7 +49,7 @@ fn some_unknown(s: &[u8], known: &[u8], at: usize) -> bool
     requires { filled known.now ≡ true }
     ensures { result ≡ any (unknown (names known.now) s.now) (elements_at levels s.now at) }
 {
-    Entries::elements(s, at, LEVELS, false).any(|row| unknown(s, known, row))
+    Rows::elements(s, at, LEVELS, false).any(|row| unknown(s, known, row))
 }
 
 // Whether two elements say the same.
@@ -60,7 +60,7 @@ fn same(s: &[u8], a: Row, b: Row) -> bool
 }
 
 // Whether one of some elements says what an element says.
-fn again(s: &[u8], row: Row, mut others: Entries) -> bool
+fn again(s: &[u8], row: Row, mut others: Rows) -> bool
     ensures { result ≡ any (same_element s.now (element_of row)) (elements_left others.entry) }
 {
     others.any(|other| same(s, row, other))
@@ -71,7 +71,7 @@ fn again(s: &[u8], row: Row, mut others: Entries) -> bool
 fn twice(s: &[u8], at: usize) -> bool
     ensures { result ≡ any_pair (same_element s.now) (elements_at levels s.now at) }
 {
-    let mut elements = Entries::elements(s, at, LEVELS, false);
+    let mut elements = Rows::elements(s, at, LEVELS, false);
     while let Some(row) = elements.next() {
         if again(s, row, elements) {
             return true;
@@ -97,7 +97,7 @@ fn misplaced(h: Headers, s: &[u8], row: Row) -> bool
 fn some_misplaced(h: Headers, s: &[u8], at: usize) -> bool
     ensures { result ≡ any (misplaced (the_texts h.entry.texts) (the_entries h.entry.entries) s.now) (elements_at levels s.now at) }
 {
-    Entries::elements(s, at, LEVELS, false).any(|row| misplaced(h, s, row))
+    Rows::elements(s, at, LEVELS, false).any(|row| misplaced(h, s, row))
 }
 
 // Whether the elements of an array in the text s are wrong as those of `crit`.

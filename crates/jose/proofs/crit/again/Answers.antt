@@ -1,7 +1,7 @@
 -- `again` asks it of each.
 use borrow.Author.Rules.{rules}
 use borrow.Author.Tests.{tests}
-use Rattle.json_read.proofs.EntriesLeft.{any_element_left}
+use Rattle.json_read.proofs.RowsLeft.{any_element_left}
 use Rattle.jose.specs.HeaderRules.{same_element}
 use Rattle.jose.specs.Inner.Elements.{element_of}
 use Rattle.jose.proofs.crit.again.Goals as goal

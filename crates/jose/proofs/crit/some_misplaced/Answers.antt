@@ -4,7 +4,7 @@ use borrow.Author.Rules.{rules}
 use borrow.Author.Tests.{tests}
 use Rattle.prelude.specs.Any.{any}
 use Rattle.rows.specs.Inner.Views.{the_entries, the_texts}
-use Rattle.json_read.proofs.EntriesLeft.{any_element_left}
+use Rattle.json_read.proofs.RowsLeft.{any_element_left}
 use Rattle.jose.specs.HeaderRules.{misplaced}
 use Rattle.jose.proofs.crit.some_misplaced.Goals as goal
 

@@ -4,7 +4,7 @@ use borrow.Author.Rules.{rules}
 use borrow.Author.Tests.{tests}
 use Rattle.names.specs.Names.{names}
 use Rattle.prelude.specs.Any.{any}
-use Rattle.json_read.proofs.EntriesLeft.{any_element_left}
+use Rattle.json_read.proofs.RowsLeft.{any_element_left}
 use Rattle.jose.specs.HeaderRules.{unknown}
 use Rattle.jose.proofs.crit.some_unknown.Goals as goal
 

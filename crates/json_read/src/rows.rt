@@ -4,19 +4,19 @@ ghost use Rattle.std.specs.Iterator.{YieldsFirstBy, item_count};
 ghost use Rattle.grammar.specs.Grammar.{curly, square};
 ghost use Rattle.grammar.specs.Reader.{entry_at, value_at, members_at, elements_at, rows_in, step};
 ghost use Rattle.json_read.specs.Members.{member_of, bracket_of, row_member};
-ghost use Rattle.json_read.specs.Entries.{entries_left, elements_left};
+ghost use Rattle.json_read.specs.Rows.{rows_left, elements_left};
 ghost use Rattle.json_read.specs.Inner.Known.{Given, KnownEntry, KnownIn};
 
 use crate::Position;
-use crate::member::{Entries, Member, Row};
+use crate::member::{Member, Row, Rows};
 
-impl<'a> Entries<'a> {
+impl<'a> Rows<'a> {
     // All those in the object or the array that begins at a place.
-    fn all(text: &'a [u8], at: usize, array: bool, levels: u32, judged: bool) -> Entries<'a>
+    fn all(text: &'a [u8], at: usize, array: bool, levels: u32, judged: bool) -> Rows<'a>
         requires { Given judged (KnownIn (bracket_of array) levels text.now at) }
-        ensures { entries_left result ≡ rows_in (value_at levels text.now) (bracket_of array) text.now (step text.now at) }
+        ensures { rows_left result ≡ rows_in (value_at levels text.now) (bracket_of array) text.now (step text.now at) }
     {
-        Entries {
+        Rows {
             text,
             at: Position { at }.inside(text),
             left: text.len(),
@@ -27,20 +27,20 @@ impl<'a> Entries<'a> {
     }
 
     // The members of the object that begins at a place.
-    pub fn members(text: &'a [u8], at: usize, levels: u32, judged: bool) -> Entries<'a>
+    pub fn members(text: &'a [u8], at: usize, levels: u32, judged: bool) -> Rows<'a>
         requires { Given judged (KnownIn curly levels text.now at) }
-        ensures { entries_left result ≡ members_at levels text.now at }
+        ensures { rows_left result ≡ members_at levels text.now at }
     {
-        Entries::all(text, at, false, levels, judged)
+        Rows::all(text, at, false, levels, judged)
     }
 
     // The elements of the array that begins at a place.
-    pub fn elements(text: &'a [u8], at: usize, levels: u32, judged: bool) -> Entries<'a>
+    pub fn elements(text: &'a [u8], at: usize, levels: u32, judged: bool) -> Rows<'a>
         requires { Given judged (KnownIn square levels text.now at) }
-        ensures rows { entries_left result ≡ rows_in (value_at levels text.now) square text.now (step text.now at) }
+        ensures rows { rows_left result ≡ rows_in (value_at levels text.now) square text.now (step text.now at) }
         ensures elements { elements_left result ≡ elements_at levels text.now at }
     {
-        Entries::all(text, at, true, levels, judged)
+        Rows::all(text, at, true, levels, judged)
     }
 
     // The one that begins here.
@@ -56,12 +56,12 @@ impl<'a> Entries<'a> {
     }
 }
 
-impl<'a> Iterator for Entries<'a> {
+impl<'a> Iterator for Rows<'a> {
     type Item = Row;
 
-    ghost next_gives = { YieldsFirstBy row_member entries_left };
+    ghost next_gives = { YieldsFirstBy row_member rows_left };
 
-    ghost remaining = { item_count entries_left };
+    ghost remaining = { item_count rows_left };
 
     fn next(&mut self) -> Option<Row> {
         if self.left == 0 {

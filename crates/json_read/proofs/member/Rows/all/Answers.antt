@@ -2,7 +2,7 @@
 use Rattle.grammar.specs.Reader.{step}
 use Rattle.json_read.specs.Members.{bracket_of}
 use Rattle.json_read.proofs.MemberRows.{rows_first}
-use Rattle.json_read.proofs.member.Entries.all.Goals as goal
+use Rattle.json_read.proofs.member.Rows.all.Goals as goal
 
 pub returns : goal.returns
 returns c =

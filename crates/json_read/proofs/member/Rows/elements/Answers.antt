@@ -1,7 +1,7 @@
 -- The elements are what stands in an array.
 use mathlib.Core.Path.{ap}
 use Rattle.grammar.specs.Reader.{elements_of, elements_at}
-use Rattle.json_read.proofs.member.Entries.elements.Goals as goal
+use Rattle.json_read.proofs.member.Rows.elements.Goals as goal
 
 pub returns : goal.returns
 unfolding elements_at

@@ -1,6 +1,6 @@
 -- The members are what stands in an object.
 use Rattle.grammar.specs.Reader.{members_at}
-use Rattle.json_read.proofs.member.Entries.members.Goals as goal
+use Rattle.json_read.proofs.member.Rows.members.Goals as goal
 
 pub returns : goal.returns
 unfolding members_at
