@@ -2,10 +2,10 @@
 ghost use Rattle.std.specs.Prelude.{◌≡◌};
 ghost use Rattle.std.specs.Iterator.{YieldsFirstBy, item_count};
 ghost use Rattle.grammar.specs.Grammar.{curly, square};
-ghost use Rattle.grammar.specs.Reader.{entry_at, value_at, members_at, elements_at, rows_in, step};
+ghost use Rattle.grammar.specs.Reader.{entry_at, value_at, members_at, elements_at, rows_at, rows_in, step};
 ghost use Rattle.json_read.specs.Members.{member_of, bracket_of, row_member};
 ghost use Rattle.json_read.specs.Rows.{rows_left, elements_left};
-ghost use Rattle.json_read.specs.Inner.Known.{Given, KnownEntry, KnownIn};
+ghost use Rattle.json_read.specs.Inner.Known.{Given, KnownEntry, KnownFrom, KnownIn};
 
 use crate::Position;
 use crate::member::{Member, Row, Rows};
@@ -41,6 +41,27 @@ impl<'a> Rows<'a> {
         ensures elements { elements_left result ≡ elements_at levels text.now at }
     {
         Rows::all(text, at, true, levels, judged)
+    }
+
+    // The members from a position on, at most so many.
+    pub fn members_from(
+        text: &'a [u8],
+        at: Position,
+        left: usize,
+        levels: u32,
+        judged: bool,
+    ) -> Rows<'a>
+        requires { Given judged (KnownFrom curly levels text.now left at.at) }
+        ensures { rows_left result ≡ rows_at (value_at levels text.now) curly text.now left at.at }
+    {
+        Rows {
+            text,
+            at,
+            left,
+            array: false,
+            levels,
+            judged,
+        }
     }
 
     // The one that begins here.

@@ -13,6 +13,7 @@ ghost use Rattle.distinct.specs.Inner.Filter.{Empty};
 ghost use Rattle.pairs.specs.Inner.Walks.{Table, Kept, Left};
 
 use json_read::Position;
+use json_read::member::Rows;
 
 // Where the search for a fingerprint begins.
 fn start(v: u32, size: usize) -> usize
@@ -83,22 +84,15 @@ fn enter(s: &[u8], from: Position, turns: usize, size: usize, work: &mut [u32])
     requires empty { Empty work.old size }
     ensures { Empty work.new size }
 {
-    let mut p = from;
-    let mut left = turns;
     let mut number: usize = 0;
-    while 0 < left {
+    for row in Rows::members_from(s, from, turns, 12, true) {
         if number == size {
             return;
         }
         if 4294967295 < number {
             return;
         }
-        let Some(found) = p.member(s, 12, true) else {
-            return;
-        };
-        put(work, size, distinct::window::tag_of(s, found.row), number);
-        p = found.next;
-        left -= 1;
+        put(work, size, distinct::window::tag_of(s, row), number);
         number += 1;
     }
 }
