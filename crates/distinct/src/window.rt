@@ -124,7 +124,8 @@ fn clashes(
     false
 }
 
-// Enters the members of a window, each against those before it.
+// Enters the members of a window, each against those before it. A window is said by where it begins and how many of it have
+// been entered, so that this walk keeps positions.
 fn fill(s: &[u8], from: Position, left: usize, filter: &mut [u32], size: usize) -> Window
     requires known_from { KnownFrom curly depth s.now left from.at }
     requires size_nonzero { (0 < size) × (4 * size ≤ length filter.old) }

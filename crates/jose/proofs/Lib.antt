@@ -1,8 +1,6 @@
 -- For the proofs of the functions.
 pub mod Asked
-pub mod Elements
 pub mod InTable
-pub mod Walks
 -- Rules asked in order.
 pub mod Order
 -- On what the rules depend.

@@ -16,7 +16,7 @@ use Rattle.std.proofs.lemmas.Iterator.Search.{any_from_yields_List}
 use Rattle.prelude.specs.Any.{any}
 use Rattle.json_read.specs.Rows.{rows_left, elements_left}
 use Rattle.json_read.specs.declared.member.Rows.{Rows}
-use Rattle.grammar.specs.Grammar.{Bracket, curly, square}
+use Rattle.grammar.specs.Grammar.{Bracket, curly}
 use Rattle.grammar.specs.Places.{Member, Element}
 use Rattle.grammar.specs.Reader.{entry_at, value_at, rows_at, as_element, elements_of}
 use Rattle.json_read.specs.Members.{row_here, member_of, bracket_of, row_member, five_of, numbers}

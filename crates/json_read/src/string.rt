@@ -5,9 +5,8 @@ ghost use Rattle.grammar.specs.Strings.{hex_digit, is_high, is_low};
 ghost use Rattle.grammar.specs.Reader.{octet_at, skip, between, escaping, digit, after_unit, scan_string, string_at};
 ghost use Rattle.json_read.specs.Inner.Ends.{ends_of, hex_at, Small, resumed, Beyond, escape_of};
 
-use blocks::Kind;
-
 use crate::Position;
+use blocks::Kind;
 
 // What an escape gives: the position after it, and whether it is a first half that waits for its second.
 #[derive(Clone, Copy)]

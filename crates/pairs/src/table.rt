@@ -97,7 +97,7 @@ fn enter(s: &[u8], from: Position, turns: usize, size: usize, work: &mut [u32])
     }
 }
 
-// One pass over the right object, which leaves its members' positions.
+// One pass over the right object, which leaves its members' positions: so it keeps them itself.
 fn meet(t: &[u8], at: usize, size: usize, work: &mut [u32])
     requires known_in { KnownIn curly depth t.now at }
     requires size_nonzero { (0 < size) × (8 * size ≤ length work.old) }

@@ -2,7 +2,7 @@
 use Rattle.std.specs.Prelude as std
 use Rattle.std.specs.Prelude.{Some, None, Bool, ℕ, ◌+◌, ◌*◌, ◌<◌, ◌≡◌, true, cond, List, length, drop, get_or}
 use Rattle.std.proofs.Math.Option.{Option, none, some}
-use Rattle.grammar.specs.Grammar.{is_unescaped, is_hex}
+use Rattle.grammar.specs.Grammar.{is_hex}
 use Rattle.grammar.specs.Strings.{hex_more}
 use Rattle.grammar.specs.Reader.{octet_at, step, End, refused, ended, Turn, broken, closed, go_on, between, escaping, digit, scan_string}
 use Rattle.grammar.specs.Reader.{Answer, nothing, found, Before}

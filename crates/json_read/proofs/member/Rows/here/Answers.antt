@@ -1,5 +1,4 @@
 -- `here` reads a member or an element, as the bracket tells.
-use mathlib.Core.Path.{ap, sym, ◌∙◌}
 use Rattle.json_read.proofs.RowsLeft.{given_member, given_element}
 use Rattle.json_read.proofs.member.Rows.here.Goals as goal
 
