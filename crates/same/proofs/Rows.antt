@@ -8,21 +8,16 @@ use Rattle.std.specs.Iterator.{YieldsFirstBy}
 use Rattle.json_read.specs.Rows.{rows_left}
 use Rattle.json_read.specs.declared.member.Rows.{Rows}
 use mathlib.Core.List.{List, [], ◌∷◌, ◌++◌}
-use Prim.Native.Nat.{ℕ, ◌<◌}
-use lib.ListN.{length}
+use Prim.Native.Nat.{ℕ}
 use Rattle.grammar.specs.Grammar.{Bracket, square}
 use Rattle.grammar.specs.Places.{Member, Element, kind_nested}
 use Rattle.grammar.specs.Reader.{step, found, value_at, as_element, members_at, rows_in}
-use Rattle.json_read.specs.Members.{first_in, row_here, member_of}
 use Rattle.json_read.specs.Inner.Known.{KnownIn}
-use Rattle.json_read.specs.declared.Position.{Position}
 use Rattle.json_read.specs.declared.member.Row.{Row}
-use Rattle.json_read.proofs.MemberRows.{rows_first, the_read}
 use Rattle.json_read.proofs.Knowing.{value_known}
 use Rattle.json_read.proofs.RowValues as json
 use Rattle.json_read.proofs.RowValues.{entry_reads, members_read_lem}
-use Rattle.distinct.specs.Inner.Walking.{row_member, rows_from}
-use Rattle.distinct.proofs.Walks.{row_member_lem}
+use Rattle.distinct.specs.Inner.Walking.{row_member}
 use Rattle.same.specs.Same.{depth}
 use Rattle.same.specs.Inner.Walking.{Reads, is_none}
 

@@ -18,8 +18,8 @@ ghost use Rattle.shape.specs.Inner.Answers.{starts_order, passed_at, Leaves, Lea
 use crate::held::component;
 use crate::{member, number};
 use json_read::member::Rows;
-use prelude::refusal::Refusal;
 use prelude::limits::{LEVELS, MOST_RECIPIENTS};
+use prelude::refusal::Refusal;
 use rows::table::Entries;
 
 // The recipient of the first entries, written from a position on.
@@ -100,7 +100,11 @@ fn element(message: &[u8], at: usize, into: &mut [usize], to: usize) -> Result<u
 
 // 8 to 10 on the elements at some starts, in turn: their recipients as numbers of the table, those before one that is
 // refused, and how many they are.
-pub(crate) fn elements(message: &[u8], starts: &[usize], into: &mut [usize]) -> Result<usize, Refusal>
+pub(crate) fn elements(
+    message: &[u8],
+    starts: &[usize],
+    into: &mut [usize],
+) -> Result<usize, Refusal>
     requires message_len_bound { length message.now ≤ longest }
     requires recipient_width_in_bounds { length starts.now * recipient_width ≤ length into.old }
     requires every { Every (KnownIn curly levels message.now) starts.now }

@@ -7,8 +7,7 @@ use Rattle.grammar.specs.Grammar.{curly, square}
 use Rattle.grammar.specs.Reader.{members_at}
 use Rattle.grammar.specs.Spellings.{alike}
 use Rattle.json_read.specs.Rows.{rows_left, elements_left}
-use Rattle.distinct.specs.Inner.Walking.{row_member, rows_from}
-use Rattle.distinct.proofs.Walks.{known_all, known_more, row_more, none_here, none_spent}
+use Rattle.distinct.specs.Inner.Walking.{row_member}
 use Rattle.pairs.specs.Inner.Walks.{Stepped}
 use Rattle.pairs.proofs.Tables.{going_kept, kept_front}
 use Rattle.same.specs.Same.{depth, all, same_elements, has_pair, same_at, inner_at}
@@ -92,7 +91,7 @@ arrays-loop-a-init t c =
     record {
       same =
           ap₂ (same_elements (inner_at c.args.levels s t)) (ap elements_left it ∙ c.elements-a-items.ensures.elements)
-              c.elements-others.ensures.elements;
+          c.elements-others.ensures.elements;
       left = elements_read s c.args.i _ (ap rows_left it ∙ c.elements-a-items.ensures.rows);
       right = elements_read t c.args.j _ c.elements-others.ensures.rows;
     }
@@ -139,7 +138,7 @@ arrays-loop-a-preserved t c =
       same =
           choices.order_on (inner_at c.args.levels c.args.s.now c.args.t.now) (rows_left c.loop-a.a-iterator) (rows_left c.loop-a.others)
           (row_member c.in-Some.a) (rows_left c.next.new.self) c.in-Some.ensures.steps (row_member c.in-Some-next.b) (rows_left c.next-in-loop-a.new.self)
-    c.in-Some-next.ensures.steps
+          c.in-Some-next.ensures.steps
           (choices.inner_less c.args.levels c.args.s.now c.args.t.now _ _ c.if-levels-eq0.false
           ∙ sym (ap₂ (λ v w. same_at (c.args.levels - 1) c.args.s.now c.args.t.now (element_of v) (element_of w))
           c.value_of.ensures c.value_of-in-loop-a.ensures)

@@ -13,7 +13,7 @@ use Rattle.rows.specs.Inner.Views.{the_entries}
 use Rattle.grammar.specs.Grammar.{curly, square}
 use Rattle.grammar.specs.Bounds.{Every}
 use Rattle.json_read.specs.Inner.Known.{KnownIn}
-use Rattle.prelude.specs.Refusals.{first, as_stage, number_of}
+use Rattle.prelude.specs.Refusals.{first, as_stage}
 use Rattle.headers.proofs.Stages.{passed_is}
 use Rattle.shape.specs.Shape.{Recipient}
 use Rattle.shape.specs.Inner.Answers.{flat_recipients, starts_of, array_order}

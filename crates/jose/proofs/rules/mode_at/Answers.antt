@@ -8,7 +8,6 @@ use Rattle.names.specs.Names.{names, list_of, number_in}
 use Rattle.names.proofs.Contents.{names_of_lem, filled_list}
 use Rattle.algorithms.specs.Algorithms.{algs, alg_name, alg_names, nth, mode_of}
 use Rattle.algorithms.specs.declared.Alg.{Alg}
-use borrow.Author.Rules.{rules}
 use Rattle.jose.proofs.rules.mode_at.Goals as goal
 
 pub number_in-requires : goal.number_in-requires

@@ -8,7 +8,7 @@ use Rattle.prelude.specs.Buffer.{written}
 use Rattle.names.specs.Names.{list_of}
 use Rattle.names.proofs.Laws.{names_of_lem}
 use Rattle.rows.specs.Rows.{Entry}
-use Rattle.prelude.specs.Refusals.{first, stage_of, as_stage, number_of}
+use Rattle.prelude.specs.Refusals.{first, stage_of, as_stage}
 use Rattle.headers.specs.Headers.{object_order}
 use Rattle.shape.specs.Shape.{member_names, wrong_element, recipient_of}
 use Rattle.shape.specs.Recipients.{element_entries}

@@ -3,7 +3,7 @@ use Rattle.grammar.specs.Grammar.{curly}
 use Rattle.json_read.specs.Inner.Known.{KnownIn}
 use Rattle.shape.proofs.Known.{every_at}
 use Rattle.shape.proofs.Reading.{reading, room, read_on, read_length, read_refused, read_out}
-use Rattle.prelude.specs.Refusals.{as_stage, number_of}
+use Rattle.prelude.specs.Refusals.{as_stage}
 use mathlib.Core.Path.{ap, ◌∙◌}
 use Rattle.prelude.proofs.Exits.{handed_up}
 use Rattle.shape.proofs.element.elements.Goals as goal
