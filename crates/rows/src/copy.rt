@@ -7,12 +7,14 @@ ghost use Rattle.rows.specs.Inner.Views.{the_entry, the_entries};
 use crate::layout;
 use crate::table::{Entries, Entry};
 
-// Numbers copied into a table from a position on.
+// Numbers copied into a table from a position on: a loop, as `prelude::copy_octets` is one.
 pub fn copy(from: &[u32], into: &mut [u32], at: usize)
     requires { at + length from.now ≤ length into.old }
     ensures { into.new ≡ written at from.now into.old }
 {
-    into[at..at + from.len()].copy_from_slice(from);
+    for (k, &x) in from.iter().enumerate() {
+        into[at + k] = x;
+    }
 }
 
 impl<'a> Entry<'a> {

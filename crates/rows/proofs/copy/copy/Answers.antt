@@ -1,19 +1,12 @@
--- `copy` writes the whole list in the place of a part of the table.
-use mathlib.Core.Path.{◌≡◌, ap, ap₂, ◌∙◌}
-use mathlib.Core.List.{List, ◌++◌}
-use Prim.Native.Nat.{ℕ, ◌+◌, ◌-◌}
-use native.Mathlib.Omega.{arith}
-use lib.ListN.{length, take, drop}
-use lib.Seq.{drop-drop}
-use Rattle.prelude.specs.Buffer.{written}
+-- `copy` writes the whole list: the loop writes it element by element.
+use Rattle.prelude.proofs.Copying.{copy_begins, copy_turn, copied}
 use Rattle.rows.proofs.copy.copy.Goals as goal
 
+pub loop-k-init : goal.loop-k-init
+loop-k-init c = copy_begins c.args.at c.args.from.now c.args.into.now c.requires
+
+pub loop-k-preserved : goal.loop-k-preserved
+loop-k-preserved c = copy_turn c.loop-k.invariant c.loop-k-test.true
+
 pub returns : goal.returns
-unfolding written
-returns c =
-    let at = c.args.at in
-    let from = c.args.from.now in
-    let into = c.args.into.now in
-    let long : at + (at + length from - at) ≡ at + length from = omega arith in
-    ap₂ (λ (l t : List ℕ). take at into ++ (l ++ t)) c.copy_from_slice.ensures.after
-    (drop-drop (at + length from - at) at into ∙ ap (λ (k : ℕ). drop k into) long)
+returns c = copied c.loop-k.invariant c.loop-k-test.false
