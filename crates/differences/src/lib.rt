@@ -254,11 +254,5 @@ pub fn compare(
         own: &right_own,
         counts: &right_counts,
     };
-    hand_out(
-        &mine,
-        &mut left_table,
-        &yours,
-        &mut right_table,
-        list,
-    )
+    hand_out(&mine, &mut left_table, &yours, &mut right_table, list)
 }

@@ -6,7 +6,7 @@ ghost use Rattle.std.specs.Prelude.{◌≡◌, not, ◌*◌, ◌≤◌, length};
 ghost use Rattle.grammar.specs.Grammar.{curly};
 ghost use Rattle.grammar.specs.Reader.{members_at};
 ghost use Rattle.grammar.specs.Spellings.{alike};
-ghost use Rattle.json_read.specs.Entries.{entries_left};
+ghost use Rattle.json_read.specs.Rows.{rows_left};
 ghost use Rattle.json_read.specs.Inner.Known.{KnownIn};
 ghost use Rattle.prelude.specs.Any.{any};
 ghost use Rattle.distinct.specs.Names.{depth, name_at, same_name, repeats};
@@ -14,7 +14,7 @@ ghost use Rattle.distinct.specs.Inner.Walking.{row_member};
 
 pub mod window;
 
-use json_read::member::{Entries, Row};
+use json_read::member::{Row, Rows};
 
 // A member's name as it is spelled.
 pub fn name(s: &[u8], row: Row) -> &[u8]
@@ -39,8 +39,8 @@ pub fn same_name(s: &[u8], t: &[u8], a: Row, b: Row) -> bool
 }
 
 // Whether one of some members has a name that says what a member's name says.
-fn again(s: &[u8], row: Row, mut others: Entries) -> bool
-    ensures { result ≡ any (same_name s.now s.now (row_member row)) (entries_left others.entry) }
+fn again(s: &[u8], row: Row, mut others: Rows) -> bool
+    ensures { result ≡ any (same_name s.now s.now (row_member row)) (rows_left others.entry) }
 {
     others.any(|other| same_name(s, s, row, other))
 }
@@ -50,7 +50,7 @@ fn by_pairs(s: &[u8], at: usize) -> bool
     requires { KnownIn curly depth s.now at }
     ensures { result ≡ repeats s.now (members_at depth s.now at) }
 {
-    let mut members = Entries::members(s, at, 12, true);
+    let mut members = Rows::members(s, at, 12, true);
     while let Some(row) = members.next() {
         if again(s, row, members) {
             return true;
@@ -64,7 +64,7 @@ pub fn count(s: &[u8], at: usize) -> usize
     requires { KnownIn curly depth s.now at }
     ensures { result ≡ length (members_at depth s.now at) }
 {
-    Entries::members(s, at, 12, true).count()
+    Rows::members(s, at, 12, true).count()
 }
 
 // How many members a window has: no more than there are, and than a quarter of the numbers that are lent.

@@ -12,7 +12,7 @@ ghost use Rattle.distinct.specs.Inner.Walking.{row_member, rows_from};
 ghost use Rattle.distinct.specs.Inner.Filter.{tag_of, start_of, Marked, Looked, Entered, Filled, Empty};
 
 use json_read::Position;
-use json_read::member::Row;
+use json_read::member::{Row, Rows};
 
 // The first free place from a tag's start on; or that the tag stands before it, or that no place is free.
 #[derive(Clone, Copy)]
@@ -97,19 +97,7 @@ fn earlier(s: &[u8], row: Row, from: Position, turns: usize) -> bool
     requires { KnownFrom curly depth s.now turns from.at }
     ensures { result ≡ any (λ x. same_name s.now s.now x (row_member row)) (rows_from curly s.now turns from.at) }
 {
-    let mut p = from;
-    let mut left = turns;
-    while 0 < left {
-        let Some(found) = p.member(s, 12, true) else {
-            return false;
-        };
-        if crate::same_name(s, s, found.row, row) {
-            return true;
-        }
-        p = found.next;
-        left -= 1;
-    }
-    false
+    Rows::members_from(s, from, turns, 12, true).any(|other| crate::same_name(s, s, other, row))
 }
 
 // Whether one of the first members from a position on has a name that says what a later one's says. They have been
@@ -136,7 +124,8 @@ fn clashes(
     false
 }
 
-// Enters the members of a window, each against those before it.
+// Enters the members of a window, each against those before it. A window is said by where it begins and how many of it have
+// been entered, so that this walk keeps positions.
 fn fill(s: &[u8], from: Position, left: usize, filter: &mut [u32], size: usize) -> Window
     requires known_from { KnownFrom curly depth s.now left from.at }
     requires size_nonzero { (0 < size) × (4 * size ≤ length filter.old) }
@@ -176,17 +165,10 @@ fn against(
     requires size_nonzero { (0 < size) × (4 * size ≤ length filter.old) }
     ensures { result ≡ any (λ m. any (λ x. same_name s.now s.now x m) (rows_from curly s.now done from.at)) (rows_from curly s.now left behind.at) }
 {
-    let mut p = behind;
-    let mut rest = left;
-    while 0 < rest {
-        let Some(found) = p.member(s, 12, true) else {
-            return false;
-        };
-        if clashes(s, found.row, from, done, filter, size, false) {
+    for row in Rows::members_from(s, behind, left, 12, true) {
+        if clashes(s, row, from, done, filter, size, false) {
             return true;
         }
-        p = found.next;
-        rest -= 1;
     }
     false
 }

@@ -13,10 +13,10 @@ ghost use Rattle.jwe_write.specs.Write.{raw};
 ghost use Rattle.jwe_write.specs.Answers.{WritesCompact};
 ghost use Rattle.json_message.specs.JsonWrite.{raw_json};
 ghost use Rattle.json_write.specs.Answers.{WritesJson};
-ghost use Rattle.differences.specs.Answers.{Compares};
+ghost use Rattle.differences.specs.Answers.{as_answer, Compares};
 
 use base64url::DecodeError;
-use differences::Answer;
+use differences::Unanswered;
 use jwe::Reading;
 use prelude::Place;
 use prelude::refusal::Refusal;
@@ -133,11 +133,17 @@ pub fn write_json(
     )
 }
 
-// What differs between two messages. `known` lists the extension names that the caller knows. Both messages are judged as for recipient 0.
+// What differs between two messages: how many lines there are, or why none are given. `known` lists the extension names that the caller
+// knows. Both messages are judged as for recipient 0.
 // Where both are accepted and the list holds all lines, it begins with them, eight numbers each, and the rest of it is unchanged; elsewhere
 // all of it is, and there are no lines.
-pub fn differences(left: &[u8], right: &[u8], known: &[u8], list: &mut [u32]) -> Answer
-    ensures { Compares left.now right.now known.now list.old result list.new }
+pub fn differences(
+    left: &[u8],
+    right: &[u8],
+    known: &[u8],
+    list: &mut [u32],
+) -> Result<usize, Unanswered>
+    ensures { Compares left.now right.now known.now list.old (as_answer result) list.new }
 {
     differences::compare(left, right, known, list)
 }

@@ -1,5 +1,19 @@
 // What differs between two messages, for C.
-ghost use Rattle.differences.specs.Answers.{answer_of, Compares};
+ghost use Rattle.std.specs.Prelude.{◌≡◌};
+ghost use Rattle.differences.specs.Answers.{answer_of, refusal_number, Compares};
+
+use differences::Unanswered;
+use prelude::refusal::Refusal;
+
+// The number of a refusal, 0 where there is none.
+fn number_or_0(refusal: Option<Refusal>) -> u32
+    ensures { result ≡ refusal_number refusal }
+{
+    match refusal {
+        Some(e) => e.number(),
+        None => 0,
+    }
+}
 
 // Compares two messages: the own number, 1 where both are accepted and the list cannot hold all lines. *left_refusal and *right_refusal are
 // the messages' refusals as for recipient 0 given room, *lines is how many lines the list begins with, eight numbers each; its rest is
@@ -16,9 +30,22 @@ pub fn jwe_differences(
     ensures { Compares left.now right.now known.now list.old
         (answer_of result left_refusal.new right_refusal.new lines.new) list.new }
 {
-    let answer = gateway::differences(left, right, known, list);
-    *left_refusal = answer.left;
-    *right_refusal = answer.right;
-    *lines = answer.lines;
-    answer.number
+    *left_refusal = 0;
+    *right_refusal = 0;
+    *lines = 0;
+    match gateway::differences(left, right, known, list) {
+        Ok(count) => {
+            *lines = count;
+            0
+        }
+        Err(Unanswered::ShortOutput) => 1,
+        Err(Unanswered::Refused {
+            left: l,
+            right: r,
+        }) => {
+            *left_refusal = number_or_0(l);
+            *right_refusal = number_or_0(r);
+            0
+        }
+    }
 }

@@ -1,7 +1,5 @@
 -- For the proofs of the functions.
 pub mod Asked
-pub mod Elements
-pub mod Walks
 -- Rules asked in order.
 pub mod Order
 -- On what the rules depend.

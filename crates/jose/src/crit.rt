@@ -8,11 +8,11 @@ ghost use Rattle.prelude.specs.Any.{any, any_pair};
 ghost use Rattle.rows.specs.Inner.Views.{the_entry, the_entries, the_texts};
 ghost use Rattle.jose.specs.HeaderRules.{spelled_element, unknown, same_element, misplaced};
 ghost use Rattle.jose.specs.HeaderRules.{is_empty, wrong_crit, critical};
-ghost use Rattle.jose.specs.Inner.Elements.{element_of, elements_from};
+ghost use Rattle.json_read.specs.Rows.{elements_left};
+ghost use Rattle.jose.specs.Inner.Elements.{element_of};
 
 use crate::lists::CRIT;
-use json_read::Position;
-use json_read::member::Row;
+use json_read::member::{Row, Rows};
 use prelude::limits::LEVELS;
 use rows::layout::STRING;
 use rows::table::{Entry, Headers};
@@ -33,10 +33,7 @@ fn spelled(s: &[u8], row: Row) -> &[u8]
 fn empty(s: &[u8], at: usize) -> bool
     ensures { result ≡ is_empty (elements_at levels s.now at) }
 {
-    Position { at }
-        .inside(s)
-        .element(s, LEVELS, false)
-        .is_none()
+    Rows::elements(s, at, LEVELS, false).next().is_none()
 }
 
 // Whether an element is no string, or none of the known names.
@@ -52,19 +49,7 @@ fn some_unknown(s: &[u8], known: &[u8], at: usize) -> bool
     requires { filled known.now ≡ true }
     ensures { result ≡ any (unknown (names known.now) s.now) (elements_at levels s.now at) }
 {
-    let mut p = Position { at }.inside(s);
-    let mut left = s.len();
-    while 0 < left {
-        let Some(found) = p.element(s, LEVELS, false) else {
-            return false;
-        };
-        if unknown(s, known, found.row) {
-            return true;
-        }
-        p = found.next;
-        left -= 1;
-    }
-    false
+    Rows::elements(s, at, LEVELS, false).any(|row| unknown(s, known, row))
 }
 
 // Whether two elements say the same.
@@ -74,23 +59,11 @@ fn same(s: &[u8], a: Row, b: Row) -> bool
     spelling::alike(spelled(s, a), spelled(s, b))
 }
 
-// Whether one of the elements from a position on, at most so many, says what an element says.
-fn again(s: &[u8], row: Row, from: Position, turns: usize) -> bool
-    ensures { result ≡ any (same_element s.now (element_of row)) (elements_from s.now turns from.at) }
+// Whether one of some elements says what an element says.
+fn again(s: &[u8], row: Row, mut others: Rows) -> bool
+    ensures { result ≡ any (same_element s.now (element_of row)) (elements_left others.entry) }
 {
-    let mut p = from;
-    let mut left = turns;
-    while 0 < left {
-        let Some(found) = p.element(s, LEVELS, false) else {
-            return false;
-        };
-        if same(s, row, found.row) {
-            return true;
-        }
-        p = found.next;
-        left -= 1;
-    }
-    false
+    others.any(|other| same(s, row, other))
 }
 
 // Whether two elements of an array say the same. Each is compared with those after it until two do; where all are known
@@ -98,17 +71,11 @@ fn again(s: &[u8], row: Row, from: Position, turns: usize) -> bool
 fn twice(s: &[u8], at: usize) -> bool
     ensures { result ≡ any_pair (same_element s.now) (elements_at levels s.now at) }
 {
-    let mut p = Position { at }.inside(s);
-    let mut left = s.len();
-    while 0 < left {
-        let Some(found) = p.element(s, LEVELS, false) else {
-            return false;
-        };
-        if again(s, found.row, found.next, left - 1) {
+    let mut elements = Rows::elements(s, at, LEVELS, false);
+    while let Some(row) = elements.next() {
+        if again(s, row, elements) {
             return true;
         }
-        p = found.next;
-        left -= 1;
     }
     false
 }
@@ -130,19 +97,7 @@ fn misplaced(h: Headers, s: &[u8], row: Row) -> bool
 fn some_misplaced(h: Headers, s: &[u8], at: usize) -> bool
     ensures { result ≡ any (misplaced (the_texts h.entry.texts) (the_entries h.entry.entries) s.now) (elements_at levels s.now at) }
 {
-    let mut p = Position { at }.inside(s);
-    let mut left = s.len();
-    while 0 < left {
-        let Some(found) = p.element(s, LEVELS, false) else {
-            return false;
-        };
-        if misplaced(h, s, found.row) {
-            return true;
-        }
-        p = found.next;
-        left -= 1;
-    }
-    false
+    Rows::elements(s, at, LEVELS, false).any(|row| misplaced(h, s, row))
 }
 
 // Whether the elements of an array in the text s are wrong as those of `crit`.

@@ -1,3 +1,4 @@
+pub mod Exits
 pub mod Texts
 pub mod Walk
 pub mod Stages

@@ -16,7 +16,8 @@ use Rattle.rows.proofs.Printing.{StandIn, entries_stand}
 use Rattle.jose.specs.Registered.{registered, enc}
 use Rattle.jose.specs.ContentAlgorithm.{content_algorithm, differ, differing}
 use Rattle.jose.specs.Inner.Content.{named_in, shown_in}
-use Rattle.jose.specs.declared.content.Named.{Named}
+use Rattle.std.specs.Prelude as code
+use Rattle.prelude.specs.declared.Place.{Place}
 use Rattle.jose.proofs.Alike.{any_made}
 use Rattle.jose.proofs.ContentAlgorithm.{content_own, content_shown, content_shared, none_differing}
 use Rattle.headers.specs.Headers.{outermost, protected_entries}
@@ -95,7 +96,7 @@ module _ (f : RawRecipient → List Test) (p : (r : RawRecipient) → nonzero (f
 
 -- 21, by the own headers: where its content algorithm stands, what is shown there, and whether that differs from the first one's.
 
-abbrev pub named_by : RawRecipient → Named
+abbrev pub named_by : RawRecipient → code.Option Place
 named_by r = named_in (text_entries 2 r.header)
 
 abbrev pub shown_by : RawRecipient → Option (List ℕ)
@@ -191,7 +192,7 @@ module _ (t : List ℕ) (sound : sound_table t ≡ true) (i : ℕ) (h : i < said
 -- What is known before the i-th: the first entries of the table, which are all recipients', are there; those before passed
 -- 8 and 9; the first refusal of one of them by the rules, and by 21; and where the first one's content algorithm stands.
 pub record Walked (known : List (List ℕ)) (header shared : List ℕ) (z : Sizes) (t : List ℕ) (front size : ℕ) (table : List ℕ)
-    (broken content : ℕ) (named : Named) (start i : ℕ) : Type 0 where
+    (broken content : ℕ) (named : code.Option Place) (start i : ℕ) : Type 0 where
   pub within : i ≤ said_count t
   pub at : start ≡ body_start t i
   pub same : length table ≡ size
@@ -204,7 +205,7 @@ pub record Walked (known : List (List ℕ)) (header shared : List ℕ) (z : Size
   pub first_named : 0 < i → named ≡ named_by (recipient_at t 0)
 
 -- Where the first one's content algorithm stands, behind the i-th.
-pub named_next : (t : List ℕ) (i : ℕ) (named its next : Named) → next ≡ cond (eqb i 0) its named →
+pub named_next : (t : List ℕ) (i : ℕ) (named its next : code.Option Place) → next ≡ cond (eqb i 0) its named →
     its ≡ named_by (recipient_at t i) → (0 < i → named ≡ named_by (recipient_at t 0)) → next ≡ named_by (recipient_at t 0)
 named_next t i named its next is here before = cases (eqb i 0) refl is
   where

@@ -114,10 +114,10 @@ struct Faults {
 
 // A recipient with this own header and these sizes judged. The first entries of the table are all recipients', and
 // stay; what stands behind them afterwards is free: the table is a caller's own.
-fn judge_recipient(
-    header: &[u8],
-    shared: &[u8],
-    own: &[u8],
+fn judge_recipient<'a>(
+    header: &'a [u8],
+    shared: &'a [u8],
+    own: &'a [u8],
     known: &[u8],
     sizes: Sizes,
     table: &mut [u32],
@@ -141,16 +141,18 @@ fn judge_recipient(
         own,
     };
     let entries = Entries {
-        table,
+        table: &table[..],
         count: front + count,
     };
-    let headers = Headers { texts, entries };
+    let all = Headers { texts, entries };
+    let rules = jose::judge::judge(all, known, sizes).err();
+    let start = front * rows::layout::WIDTH;
     let its = Entries {
-        table: &table[front * rows::layout::WIDTH..],
+        table: &table[start..],
         count,
     };
     Ok(Faults {
-        rules: jose::judge::judge(headers, known, sizes).err(),
+        rules,
         content: jose::content::sole(its),
     })
 }
@@ -187,11 +189,11 @@ fn fault_of_all(rules: Option<Refusal>, shared: bool, content: Option<Refusal>) 
 
 // 8 and 9 on each recipient's own header, 12 to 18 on each recipient, and 21 on all. Each own header is collected once: while the
 // later ones are asked for 8 and 9, the first refusal of an earlier recipient waits, and so does 21.
-fn judge_recipients(
-    header: &[u8],
-    shared: &[u8],
+fn judge_recipients<'a>(
+    header: &'a [u8],
+    shared: &'a [u8],
     known: &[u8],
-    recipients: &[u8],
+    recipients: &'a [u8],
     n: usize,
     sizes: Sizes,
     table: &mut [u32],
@@ -207,11 +209,11 @@ fn judge_recipients(
         sizes (recipients_in recipients.now))) n }
     ensures table_len_unchanged { length table.new ≡ length table.old }
 {
-    let has_enc = Entries {
-        table,
+    let common = Entries {
+        table: &table[..],
         count: front,
-    }
-    .present(ENC);
+    };
+    let has_enc = common.present(ENC);
     let mut broken = None;
     let mut content = None;
     let mut named = None;
@@ -241,11 +243,11 @@ fn judge_recipients(
 }
 
 // 8 and 9 on all texts, 12 to 18 on each recipient, and 21 on all.
-fn judge_parameters(
-    header: &[u8],
-    shared: &[u8],
+fn judge_parameters<'a>(
+    header: &'a [u8],
+    shared: &'a [u8],
     known: &[u8],
-    recipients: &[u8],
+    recipients: &'a [u8],
     n: usize,
     sizes: Sizes,
 ) -> Result<usize, Refusal>

@@ -1,5 +1,5 @@
 -- Members and elements lie within the text.
-pub mod EntriesLeft
+pub mod RowsLeft
 pub mod Within
 pub mod RowPlaces
 pub mod Levels

@@ -57,7 +57,7 @@ module _ (l : ℕ) (s : List ℕ) (b : Bracket) where
           let others = more (skip_space s (step s q)) in
           (h, either (Every RowReads) (eqb (octet_at s q) comma) (λ _. others) (λ _. tt))
 
-  rows_read : (at : ℕ) → Every RowReads (rows_in (value_at l s) b s at)
+  pub rows_read : (at : ℕ) → Every RowReads (rows_in (value_at l s) b s at)
   unfolding rows_in
   rows_read at =
       let q = skip_space s at in

@@ -1,4 +1,4 @@
 -- The code's answers for those of the reader's definition (crate grammar).
 pub mod Members
-pub mod Entries
+pub mod Rows
 pub mod Inner

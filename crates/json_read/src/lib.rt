@@ -7,9 +7,9 @@ ghost use Rattle.grammar.specs.Grammar.{is_space, is_digit};
 ghost use Rattle.grammar.specs.Reader.{octet_at, step, skip, skip_space, opens_object, read_text};
 ghost use Rattle.json_read.specs.Inner.Ends.{found_of};
 
-pub mod entries;
 pub mod member;
 mod number;
+mod rows;
 mod string;
 mod value;
 

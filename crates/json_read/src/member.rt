@@ -32,9 +32,9 @@ pub struct Member {
     pub next: Position,
 }
 
-// The members of an object, or the elements of an array, from a place on (src/entries.rt), no more than are left of the text's octets. What is asked of a judged text is known of all of them.
+// The members of an object, or the elements of an array, from a place on (src/rows.rt), no more than are left of the text's octets. What is asked of a judged text is known of all of them.
 #[derive(Clone, Copy)]
-pub struct Entries<'a> {
+pub struct Rows<'a> {
     pub text: &'a [u8],
     pub at: Position,
     pub left: usize,
@@ -139,7 +139,7 @@ impl Position {
         ensures table_after { table.new ≡ written 0 (flat (take most_members (members_at levels s.now self.at))) table.old }
     {
         let mut count: usize = 0;
-        for row in Entries::members(s, self.at, levels, judged) {
+        for row in Rows::members(s, self.at, levels, judged) {
             if count == MOST_MEMBERS {
                 return None;
             }

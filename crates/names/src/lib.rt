@@ -5,8 +5,10 @@
 ghost use Rattle.std.specs.Prelude.{◌≡◌, true};
 ghost use Rattle.names.specs.Names.{names, filled, sound, number_in};
 
-// The caller's list has at most so many names, each of 1 to so many octets.
+// The most names of the caller's list.
 const MOST_NAMES: usize = 16;
+
+// The most octets of one of them.
 const LONGEST_NAME: u8 = 64;
 
 // Whether a lent list is one of at most 16 names of 1 to 64 octets each, which fill it exactly.

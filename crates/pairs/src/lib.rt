@@ -86,7 +86,8 @@ fn held(s: &[u8], t: &[u8], row: Row, at: usize, number: usize, size: usize, wor
     near(s, t, row, at, Position { at: q as usize }, number)
 }
 
-// Looks for a left member's name along all right members.
+// Looks for a left member's name along all right members. What is found is handed on with the position behind it, so that this
+// walk keeps positions.
 fn scan(s: &[u8], t: &[u8], row: Row, at: usize, number: usize) -> Found
     requires { KnownIn curly depth t.now at }
     ensures { Scanned s.now t.now at (row_member row) number result }

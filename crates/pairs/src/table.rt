@@ -13,6 +13,7 @@ ghost use Rattle.distinct.specs.Inner.Filter.{Empty};
 ghost use Rattle.pairs.specs.Inner.Walks.{Table, Kept, Left};
 
 use json_read::Position;
+use json_read::member::Rows;
 
 // Where the search for a fingerprint begins.
 fn start(v: u32, size: usize) -> usize
@@ -83,27 +84,20 @@ fn enter(s: &[u8], from: Position, turns: usize, size: usize, work: &mut [u32])
     requires empty { Empty work.old size }
     ensures { Empty work.new size }
 {
-    let mut p = from;
-    let mut left = turns;
     let mut number: usize = 0;
-    while 0 < left {
+    for row in Rows::members_from(s, from, turns, 12, true) {
         if number == size {
             return;
         }
         if 4294967295 < number {
             return;
         }
-        let Some(found) = p.member(s, 12, true) else {
-            return;
-        };
-        put(work, size, distinct::window::tag_of(s, found.row), number);
-        p = found.next;
-        left -= 1;
+        put(work, size, distinct::window::tag_of(s, row), number);
         number += 1;
     }
 }
 
-// One pass over the right object, which leaves its members' positions.
+// One pass over the right object, which leaves its members' positions: so it keeps them itself.
 fn meet(t: &[u8], at: usize, size: usize, work: &mut [u32])
     requires known_in { KnownIn curly depth t.now at }
     requires size_nonzero { (0 < size) × (8 * size ≤ length work.old) }

@@ -2,7 +2,9 @@
 pub mod Decimal
 -- A text and the octet behind it.
 pub mod Behind
--- The n-th word of a list with contents first, as the code looks for it.
+-- A text written part by part.
+pub mod Parts
+-- The n-th of some words, as the code looks for it.
 pub mod Picking
 -- The lines of a list of parameters.
 pub mod Listing

@@ -1,46 +1,32 @@
 -- What the rows of a judged text read: the elements of an array, and that each row's value stands where the row says.
 use mathlib.Core.Path.{◌≡◌, ap, sym, subst, ◌∙◌}
 use Rattle.grammar.specs.Bounds.{Every}
+use mathlib.Core.Bool.{Bool, true, false, not}
+use Rattle.std.specs.Prelude as std
+use Rattle.std.specs.Prelude.{Some, None}
+use Rattle.std.specs.Iterator.{YieldsFirstBy}
+use Rattle.json_read.specs.Rows.{rows_left}
+use Rattle.json_read.specs.declared.member.Rows.{Rows}
 use mathlib.Core.List.{List, [], ◌∷◌, ◌++◌}
-use Prim.Native.Nat.{ℕ, ◌<◌}
-use lib.ListN.{length}
+use Prim.Native.Nat.{ℕ}
 use Rattle.grammar.specs.Grammar.{Bracket, square}
 use Rattle.grammar.specs.Places.{Member, Element, kind_nested}
-use Rattle.grammar.specs.Reader.{step, found, entry_at, value_at, as_element, members_at, elements_of, elements_at}
-use Rattle.json_read.specs.Members.{first_in, row_here, member_of}
+use Rattle.grammar.specs.Reader.{step, found, value_at, as_element, members_at, rows_in}
 use Rattle.json_read.specs.Inner.Known.{KnownIn}
-use Rattle.json_read.specs.declared.Position.{Position}
 use Rattle.json_read.specs.declared.member.Row.{Row}
-use Rattle.json_read.proofs.MemberRows.{rows_first, the_read}
 use Rattle.json_read.proofs.Knowing.{value_known}
 use Rattle.json_read.proofs.RowValues as json
 use Rattle.json_read.proofs.RowValues.{entry_reads, members_read_lem}
-use Rattle.distinct.specs.Inner.Walking.{row_member, rows_from}
-use Rattle.distinct.proofs.Walks.{row_member_lem}
+use Rattle.distinct.specs.Inner.Walking.{row_member}
 use Rattle.same.specs.Same.{depth}
-use Rattle.same.specs.Inner.Walking.{Reads}
-
--- From the first one on they are all.
-pub elements_all : (s : List ℕ) (at q : ℕ) → q ≡ first_in s at →
-    elements_of (rows_from square s (length s) q) ≡ elements_at depth s at
-unfolding elements_at
-elements_all s at q e = ap elements_of (rows_first square s depth (step s at) q e)
+use Rattle.same.specs.Inner.Walking.{Reads, is_none}
 
 -- A value of a kind, where it stands.
 pub reads_in : (b : Bracket) (s : List ℕ) (x : Element) → x.kind ≡ kind_nested b → Reads s x →
     KnownIn b depth s x.start
 reads_in b s x e r = value_known b depth s x.start r.end (r.is ∙ ap (found r.end) e)
 
-module _ (b : Bracket) (s : List ℕ) (left at : ℕ) (h : 0 < left) (row : Row) (next : Position)
-    (e : row_here row next ≡ member_of s (entry_at (value_at depth s) b s at)) where
-  pub row_reads : Reads s (as_element (row_member row))
-  row_reads =
-      let read = the_read b s depth left at h row next e in
-      let r = rw read.is at (entry_reads depth s b at) in
-      subst (λ (m : Member). Reads s (as_element m)) (sym (row_member_lem row read.entry.row read.five))
-      (record { end = r.end; is = r.is })
-
--- The values of an object's members read: of one among them, and of those from a position on.
+-- The values of an object's members, or an array's elements, read: of one among them, and of those from a position on.
 
 abbrev pub RowReads : List ℕ → Member → Type 0
 RowReads s m = json.Reads depth s m.value_start m.kind
@@ -64,3 +50,15 @@ pub first_reads : (s : List ℕ) (rows : List Member) (m : Member) (others : Lis
 first_reads s rows m others e h =
     let k = subst (Every (RowReads s)) e h in
     (member_reads s m k.0, k.1)
+
+pub elements_read : (s : List ℕ) (at : ℕ) (rows : List Member) → rows ≡ rows_in (value_at depth s) square s (step s at) →
+    Every (RowReads s) rows
+elements_read s at rows e = subst (Every (RowReads s)) (sym e) (json.rows_read depth s square (step s at))
+
+-- Whether one is left, as the code asks it.
+pub none_is : (e u : Rows) (o : std.Option Row) (b : Bool) → std.is_some o ≡ not b → YieldsFirstBy row_member rows_left e o u →
+    b ≡ is_none (rows_left e)
+none_is e u None true n h = sym (ap is_none h.0)
+none_is e u (Some row) false n h = sym (ap is_none h)
+none_is e u None false n h = cc
+none_is e u (Some row) true n h = cc

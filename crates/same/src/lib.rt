@@ -6,14 +6,13 @@ ghost use Rattle.std.specs.Prelude.{◌≡◌, not, false, ◌&&◌, ◌≤◌, 
 ghost use Rattle.grammar.specs.Grammar.{curly, square};
 ghost use Rattle.grammar.specs.Reader.{members_at, elements_at, as_element};
 ghost use Rattle.grammar.specs.Spellings.{equal};
-ghost use Rattle.json_read.specs.Inner.Known.{KnownFrom, KnownIn};
-ghost use Rattle.distinct.specs.Inner.Walking.{row_member, rows_from};
+ghost use Rattle.json_read.specs.Inner.Known.{KnownIn};
+ghost use Rattle.distinct.specs.Inner.Walking.{row_member};
 ghost use Rattle.pairs.specs.Inner.Walks.{Kept};
 ghost use Rattle.same.specs.Same.{depth, all, own_at, spelled_at, repeats, same_elements, has_pair, inner_at, same_at};
-ghost use Rattle.same.specs.Inner.Walking.{work_room, element_of, value_of, Reads, is_none};
+ghost use Rattle.same.specs.Inner.Walking.{work_room, element_of, value_of, Reads};
 
-use json_read::Position;
-use json_read::member::Row;
+use json_read::member::{Row, Rows};
 use pairs::Step;
 
 // How many numbers a caller lends to the comparison, which works in them. What they hold does not matter.
@@ -58,17 +57,6 @@ fn spelled(s: &[u8], v: Value) -> &[u8]
         return &s[..0];
     }
     parts::part(s, start + 1, prelude::minus(v.len, 2))
-}
-
-// Whether no element begins at a position.
-fn none_left(s: &[u8], p: Position, left: usize) -> bool
-    requires { KnownFrom square depth s.now left p.at }
-    ensures { result ≡ is_none (rows_from square s.now left p.at) }
-{
-    if left == 0 {
-        return true;
-    }
-    p.element(s, 12, true).is_none()
 }
 
 // Whether two objects can be compared by name: they have as many members, and neither has a name twice.
@@ -148,39 +136,19 @@ fn arrays(s: &[u8], t: &[u8], i: usize, j: usize, levels: u32, work: &mut [u32])
     requires known_in_2 { KnownIn square depth t.now j }
     ensures { result ≡ same_elements (inner_at levels s.now t.now) (elements_at depth s.now i) (elements_at depth t.now j) }
 {
-    let mut p = Position { at: i }.inside(s);
-    let mut q = Position { at: j }.inside(t);
-    let mut left = s.len();
-    let mut right = t.len();
-    while 0 < left {
-        let Some(found) = p.element(s, 12, true) else {
-            return none_left(t, q, right);
-        };
-        if right == 0 {
-            return false;
-        }
-        let Some(beside) = q.element(t, 12, true) else {
+    let mut others = Rows::elements(t, j, 12, true);
+    for a in Rows::elements(s, i, 12, true) {
+        let Some(b) = others.next() else {
             return false;
         };
         if levels == 0 {
             return false;
         }
-        if !compare(
-            s,
-            t,
-            value_of(found.row),
-            value_of(beside.row),
-            levels - 1,
-            work,
-        ) {
+        if !compare(s, t, value_of(a), value_of(b), levels - 1, work) {
             return false;
         }
-        p = found.next;
-        q = beside.next;
-        left -= 1;
-        right -= 1;
     }
-    none_left(t, q, right)
+    others.next().is_none()
 }
 
 // Whether two values are the same: the same octets; or, of one kind, strings that say the same, arrays in order, objects

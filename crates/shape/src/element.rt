@@ -5,11 +5,11 @@ ghost use Rattle.prelude.specs.Limits.{levels, longest, most_recipients};
 ghost use Rattle.grammar.specs.Grammar.{curly, square};
 ghost use Rattle.grammar.specs.Bounds.{Every};
 ghost use Rattle.grammar.specs.Reader.{elements_at};
-ghost use Rattle.json_read.specs.Inner.Known.{KnownFrom, KnownIn};
+ghost use Rattle.json_read.specs.Inner.Known.{KnownIn};
 ghost use Rattle.prelude.specs.Any.{any};
 ghost use Rattle.rows.specs.Inner.Views.{the_entries};
 ghost use Rattle.prelude.specs.Refusals.{first, stage_of, as_stage};
-ghost use Rattle.jose.specs.Inner.Elements.{elements_from};
+ghost use Rattle.json_read.specs.Rows.{elements_left};
 ghost use Rattle.shape.specs.Shape.{no_object, recipient_of};
 ghost use Rattle.shape.specs.Recipients.{element_entries, element_order};
 ghost use Rattle.shape.specs.Inner.Answers.{three, flat_recipients, starts_of, array_order, counted};
@@ -17,9 +17,9 @@ ghost use Rattle.shape.specs.Inner.Answers.{starts_order, passed_at, Leaves, Lea
 
 use crate::held::component;
 use crate::{member, number};
-use json_read::Position;
-use prelude::refusal::Refusal;
+use json_read::member::Rows;
 use prelude::limits::{LEVELS, MOST_RECIPIENTS};
+use prelude::refusal::Refusal;
 use rows::table::Entries;
 
 // The recipient of the first entries, written from a position on.
@@ -34,24 +34,11 @@ pub(crate) fn put(members: Entries, into: &mut [usize], at: usize)
     into[at + 2] = key.len;
 }
 
-// Whether one of the elements from a position on, at most so many, is no object.
-fn some_no_object(message: &[u8], from: Position, turns: usize) -> bool
-    requires { KnownFrom square levels message.now turns from.at }
-    ensures { result ≡ any no_object (elements_from message.now turns from.at) }
+// Whether one of some elements is no object.
+fn some_no_object(mut elements: Rows) -> bool
+    ensures { result ≡ any no_object (elements_left elements.entry) }
 {
-    let mut p = from;
-    let mut left = turns;
-    while 0 < left {
-        let Some(found) = p.element(message, LEVELS, true) else {
-            return false;
-        };
-        if found.row.kind != 0 {
-            return true;
-        }
-        p = found.next;
-        left -= 1;
-    }
-    false
+    elements.any(|row| row.kind != 0)
 }
 
 // What is answered where all elements are objects, and no more than 8.
@@ -71,26 +58,20 @@ pub(crate) fn walk(message: &[u8], at: usize, starts: &mut [usize]) -> Result<us
     ensures value { as_stage result ≡ stage_of (first (array_order (elements_at levels message.now at))) (length (elements_at levels message.now at)) }
     ensures leaves { Leaves (starts_of (elements_at levels message.now at)) starts.old starts.new (as_stage result) }
 {
-    let mut p = Position { at }.inside(message);
+    let mut elements = Rows::elements(message, at, LEVELS, true);
     let mut count: usize = 0;
-    let mut left = message.len();
-    while 0 < left {
-        let Some(found) = p.element(message, LEVELS, true) else {
-            return counted(count);
-        };
-        if found.row.kind != 0 {
+    while let Some(row) = elements.next() {
+        if row.kind != 0 {
             return Err(Refusal::Shape);
         }
         if count == MOST_RECIPIENTS {
-            if some_no_object(message, found.next, left - 1) {
+            if some_no_object(elements) {
                 return Err(Refusal::Shape);
             }
             return Err(Refusal::ManyRecipients);
         }
-        starts[count] = found.row.value.start;
+        starts[count] = row.value.start;
         count += 1;
-        p = found.next;
-        left -= 1;
     }
     counted(count)
 }
@@ -119,7 +100,11 @@ fn element(message: &[u8], at: usize, into: &mut [usize], to: usize) -> Result<u
 
 // 8 to 10 on the elements at some starts, in turn: their recipients as numbers of the table, those before one that is
 // refused, and how many they are.
-pub(crate) fn elements(message: &[u8], starts: &[usize], into: &mut [usize]) -> Result<usize, Refusal>
+pub(crate) fn elements(
+    message: &[u8],
+    starts: &[usize],
+    into: &mut [usize],
+) -> Result<usize, Refusal>
     requires message_len_bound { length message.now ≤ longest }
     requires recipient_width_in_bounds { length starts.now * recipient_width ≤ length into.old }
     requires every { Every (KnownIn curly levels message.now) starts.now }

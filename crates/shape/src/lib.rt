@@ -11,8 +11,8 @@ ghost use Rattle.shape.specs.Recipients.{top_entries, top_order, elements_order,
 ghost use Rattle.shape.specs.Inner.Answers.{top_table, flat_recipients, written_in, recipients_room};
 
 use json_read::Position;
-use prelude::refusal::Refusal;
 use prelude::limits::{LEVELS, MOST_RECIPIENTS};
+use prelude::refusal::Refusal;
 use rows::table::Entries;
 
 // The known members of a message, contents first.

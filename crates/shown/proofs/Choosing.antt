@@ -9,6 +9,7 @@ use borrow.Author.Tests.{eq-eqb, ne_eqb, le-leb, lt-leb}
 use lib.ListN.{length}
 use denote.Ref.{Bor}
 use Rattle.parts.specs.Parts.{fits, part, part_at}
+use Rattle.parts.proofs.Laws.{part_empty}
 use Rattle.shown.specs.Shown.{value_shown, value_at}
 
 module _ (message header : List ℕ) (origin start size : ℕ) where
@@ -21,6 +22,9 @@ module _ (message header : List ℕ) (origin start size : ℕ) where
   unfolding value_shown
   from_header e =
       ap (λ (b : Bool). cond b (part header start size) (cond (leb origin 2) (part message start size) [])) (eq-eqb origin 0 e)
+
+  pub from_unfit : origin ≡ 0 → length header < start + size → value_shown message header origin start size ≡ []
+  from_unfit e h = from_header e ∙ part_empty header start size h
 
   pub from_message : (origin ≡ 0 → ⊥) → origin ≤ 2 → value_shown message header origin start size ≡ part message start size
   from_message h k =

@@ -25,17 +25,11 @@ pub fn value<'a>(
     ensures octets { result.now ≡ value_shown message.now header.now origin start len }
     ensures place { result.ref_ptr ≡ value_at message.entry header.entry origin start len }
 {
-    if 2 < origin {
-        return &message[..0];
+    match origin {
+        0 if start <= header.len() && len <= header.len() - start => {
+            parts::part(header, start, len)
+        }
+        1 | 2 => parts::part(message, start, len),
+        _ => &message[..0],
     }
-    if origin != 0 {
-        return parts::part(message, start, len);
-    }
-    if header.len() < start {
-        return &message[..0];
-    }
-    if header.len() - start < len {
-        return &message[..0];
-    }
-    parts::part(header, start, len)
 }

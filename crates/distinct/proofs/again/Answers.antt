@@ -3,7 +3,7 @@ use borrow.Author.Rules.{rules}
 use borrow.Author.Tests.{tests}
 use Rattle.distinct.specs.Names.{same_name}
 use Rattle.distinct.specs.Inner.Walking.{row_member}
-use Rattle.json_read.proofs.EntriesLeft.{any_left}
+use Rattle.json_read.proofs.RowsLeft.{any_left}
 use Rattle.distinct.proofs.again.Goals as goal
 
 pub returns : goal.returns

@@ -1,7 +1,7 @@
 -- `count` counts the members; they are no more than the turns that are left.
 use mathlib.Core.Logic.{inl}
 use native.Mathlib.Omega.{arith}
-use Rattle.json_read.proofs.EntriesLeft.{no_more}
+use Rattle.json_read.proofs.RowsLeft.{no_more}
 use Rattle.distinct.proofs.count.Goals as goal
 
 pub count-requires-clause-fits : goal.count-requires-clause-fits

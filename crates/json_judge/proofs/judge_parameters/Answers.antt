@@ -1,9 +1,9 @@
 -- The protected header, the shared one, the recipients: each stage hands up its refusal.
-use mathlib.Core.Path.{◌≡◌, ap, sym, ◌∙◌}
+use mathlib.Core.Path.{◌≡◌, ap, sym, ◌∙◌, ap, sym}
 use Prim.Native.Nat.{ℕ}
 use native.Mathlib.Omega.{arith}
 use lib.ListN.{length, replicate}
-use Rattle.prelude.specs.Refusals.{first, stage_of}
+use Rattle.prelude.specs.Refusals.{first, stage_of, as_stage, number_of}
 use Rattle.prelude.proofs.Refusals.{first_skip}
 use Rattle.headers.specs.Headers.{protected_entries, object_order}
 use Rattle.headers.proofs.Stages.{refused_is, object_nonzero, stopped, refuses}
@@ -11,6 +11,7 @@ use Rattle.jwe.proofs.JsonShaped.{Collected}
 use Rattle.json_message.specs.Handed.{text_entries}
 use Rattle.json_judge.specs.Inner.Asked.{parameters_tests}
 use Rattle.json_judge.proofs.Tables.{collected, collected_length, front_is}
+use Rattle.prelude.proofs.Exits.{exit_refused, exit_refused}
 use Rattle.json_judge.proofs.judge_parameters.Goals as goal
 
 pub returns-in_err-p : goal.returns-in_err-p
@@ -19,7 +20,7 @@ returns-in_err-p c =
     let r = refused_is (number_of c.in_err-p.field-0.0) _ _ (sym (ap as_stage c.in_err-p.was) ∙ c.protected_entries.ensures.value) in
     let all = stopped (object_order c.args.header.now (protected_entries c.args.header.now)) _
     (object_nonzero c.args.header.now _) (number_of c.in_err-p.field-0.0) r.0 r.1 in
-    (ap as_stage c.in_err-p.was) ∙ refuses _ r.1 ∙ ap (λ (m : ℕ). stage_of m c.args.n) (sym all)
+    exit_refused _ _ c.from_residual.ensures.1 ∙ refuses _ r.1 ∙ ap (λ (m : ℕ). stage_of m c.args.n) (sym all)
 
 pub text_entries-requires : goal.text_entries-requires
 text_entries-requires c =
@@ -48,7 +49,7 @@ returns-in_err-s c =
     (object_nonzero c.args.shared.now _) (number_of c.in_err-s.field-0.0) r.0 r.1 in
     let whole = first_skip (object_order c.args.header.now (protected_entries c.args.header.now)) _
     (object_nonzero c.args.header.now _) (kept).0 in
-    (ap as_stage c.in_err-s.was) ∙ refuses _ r.1 ∙ ap (λ (m : ℕ). stage_of m c.args.n) (sym (whole ∙ all))
+    exit_refused _ _ c.from_residual-in_err-s.ensures.1 ∙ refuses _ r.1 ∙ ap (λ (m : ℕ). stage_of m c.args.n) (sym (whole ∙ all))
 
 pub overflow_add-p : goal.overflow_add-p
 overflow_add-p c =

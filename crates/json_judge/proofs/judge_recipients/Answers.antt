@@ -1,11 +1,11 @@
 -- One recipient after the other: what is known before each is `Walked`. Behind the last, 21 is asked of all.
-use mathlib.Core.Path.{◌≡◌, refl, ap, ap₂, sym, subst, ◌∙◌}
+use mathlib.Core.Path.{◌≡◌, refl, ap, ap₂, sym, subst, ◌∙◌, ap, sym}
 use mathlib.Core.Bool.{cond}
 use mathlib.Core.List.{List, ◌++◌}
 use mathlib.Core.Option.{Option}
 use Prim.Native.Nat.{ℕ, ◌<◌}
 use native.Mathlib.Omega.{arith}
-use Rattle.prelude.specs.Refusals.{first}
+use Rattle.prelude.specs.Refusals.{first, number_of}
 use Rattle.names.specs.Names.{names}
 use Rattle.rows.specs.Rows.{present}
 use Rattle.jose.specs.Registered.{enc}
@@ -19,6 +19,10 @@ use Rattle.json_judge.specs.Inner.Asked.{Readable, with_key_size, own_tests, rul
 use Rattle.json_judge.proofs.Walk.{header_is_lem, next_start, next_every}
 use Rattle.json_judge.proofs.Recipients.{key_size_lem, object_stops, object_passes, rules_next, named_next, named_by}
 use Rattle.json_judge.proofs.Recipients.{content_of, content_sound, pending_next, all_refuse, all_pass}
+use Rattle.prelude.specs.Refusals.{number_of}
+use Rattle.prelude.proofs.Exits.{exit_refused, some_number, exit_refused}
+use Rattle.json_judge.specs.Inner.Faults.{Judged, fault_number, as_judged}
+use Rattle.json_judge.proofs.Exits.{or_number}
 use Rattle.json_judge.proofs.judge_recipients.Goals as goal
 
 pub present-has_enc-requires : goal.present-has_enc-requires
@@ -63,8 +67,8 @@ recipient-body-requires c =
       start_value = c.loop-i.invariant.at;
     }
 
-pub judge_recipient-faults-requires : goal.judge_recipient-faults-requires
-judge_recipient-faults-requires c =
+pub judge_recipient-requires : goal.judge_recipient-requires
+judge_recipient-requires c =
     let t = c.args.recipients.now in
     let i = c.loop-i.i in
     let inv = c.loop-i.invariant in
@@ -77,15 +81,18 @@ judge_recipient-faults-requires c =
       front = inv.kept;
     }
 
-pub returns-then-faults-ne0 : goal.returns-then-faults-ne0
-returns-then-faults-ne0 c =
+pub returns-in_err-faults : goal.returns-in_err-faults
+returns-in_err-faults c =
     let below : c.loop-i.i < said_count c.args.recipients.now = omega (arith, c.loop-i-test.true, c.requires.n_value) in
     let own_is : c.part-own.result.now ≡ (recipient_at c.args.recipients.now c.loop-i.i).header = c.part-own.ensures.octets
     ∙ header_is_lem c.args.recipients.now c.loop-i.i _ c.recipient-body.ensures in
-    let object-is : c.judge_recipient-faults.result.object ≡ first (own_tests (recipient_at c.args.recipients.now c.loop-i.i).header) = c.judge_recipient-faults.ensures.object_value ∙ ap (λ (w : List ℕ). first (own_tests w)) (own_is) in
+    let object-is : (as_judged c.judge_recipient.result).object ≡ first (own_tests (recipient_at c.args.recipients.now c.loop-i.i).header) = c.judge_recipient.ensures.object_value ∙ ap (λ (w : List ℕ). first (own_tests w)) (own_is) in
     record {
-      value = object_stops _ _ _ _ _ c.loop-i.i _ _ (below) (object-is) c.if-faults-ne0.true c.loop-i.invariant.objects;
-      table_len_unchanged = c.judge_recipient-faults.ensures.table_len_unchanged.0 ∙ c.loop-i.invariant.same;
+      value = exit_refused _ _ c.from_residual.ensures.1
+          ∙ object_stops _ _ _ _ _ c.loop-i.i (number_of c.in_err-faults.field-0.0) _ (below)
+          (sym (ap (λ r. (as_judged r).object) c.in_err-faults.was) ∙ object-is)
+          (λ z. omega (arith, z, some_number c.in_err-faults.field-0.0)) c.loop-i.invariant.objects;
+      table_len_unchanged = c.judge_recipient.ensures.table_len_unchanged.0 ∙ c.loop-i.invariant.same;
     }
 
 pub overflow_add-start-in-loop-i : goal.overflow_add-start-in-loop-i
@@ -104,7 +111,7 @@ loop-i-preserved c =
     let below : c.loop-i.i < said_count c.args.recipients.now = omega (arith, c.loop-i-test.true, c.requires.n_value) in
     let first-own : c.part-first.result.now ≡ (recipient_at c.args.recipients.now 0).header = c.part-first.ensures.octets
     ∙ header_is_lem c.args.recipients.now 0 _ c.recipient-head.ensures in
-    let object-is : c.judge_recipient-faults.result.object ≡ first (own_tests (recipient_at c.args.recipients.now c.loop-i.i).header) = c.judge_recipient-faults.ensures.object_value ∙ ap (λ (w : List ℕ). first (own_tests w)) (own_is) in
+    let object-is : (as_judged c.judge_recipient.result).object ≡ first (own_tests (recipient_at c.args.recipients.now c.loop-i.i).header) = c.judge_recipient.ensures.object_value ∙ ap (λ (w : List ℕ). first (own_tests w)) (own_is) in
     let t = c.args.recipients.now in
     let h = c.args.header.now in
     let sh = c.args.shared.now in
@@ -113,51 +120,53 @@ loop-i-preserved c =
     let i = c.loop-i.i in
     let inv = c.loop-i.invariant in
     let body = c.recipient-body.ensures in
-    let zero = c.if-faults-ne0.false in
-    let rules = c.judge_recipient-faults.ensures.rules_value zero
+    let told = ap as_judged c.in_ok-faults.was in
+    let zero = ap (λ (j : Judged). j.object) told in
+    let rules = sym (ap (λ (j : Judged). j.rules) told) ∙ c.judge_recipient.ensures.rules_value zero
     ∙ ap₂ (λ (w : List ℕ) (k : ℕ). first (rules_tests known h sh w (with_key_size z k))) (own_is)
     (key_size_lem t c.requires.recipients_value i (below) _ body) in
-    let its : c.judge_recipient-faults.result.content ≡ named_by (recipient_at t i) =
-    c.judge_recipient-faults.ensures.content_value zero ∙ ap (λ (w : List ℕ). named_in (text_entries 2 w)) (own_is) in
+    let its : c.in_ok-faults.faults.content ≡ named_by (recipient_at t i) =
+    sym (ap (λ (j : Judged). j.content) told) ∙ c.judge_recipient.ensures.content_value zero ∙ ap (λ (w : List ℕ). named_in (text_entries 2 w)) (own_is) in
     let named = named_next t i c.loop-i.named _ _ c.first_content-named.ensures its inv.first_named in
-    let fault : c.content_fault.result ≡ first (content_of t (recipient_at t i)) =
+    let fault : fault_number c.content_fault.result ≡ first (content_of t (recipient_at t i)) =
     c.content_fault.ensures
     ∙ ap₂ (λ (x y : Option (List ℕ)). cond {A = ℕ} (differ x y) 21 0)
     (ap₂ shown_in (first-own) named) (ap₂ shown_in (own_is) its) in
     record {
       within = omega (arith, below);
       at = next_start t i _ body;
-      same = c.judge_recipient-faults.ensures.table_len_unchanged.0 ∙ inv.same;
-      kept = c.judge_recipient-faults.ensures.table_len_unchanged.1;
+      same = c.judge_recipient.ensures.table_len_unchanged.0 ∙ inv.same;
+      kept = c.judge_recipient.ensures.table_len_unchanged.1;
       readable = (next_every (λ r. Readable r.header) t i (below) inv.readable).1;
       objects = object_passes known h sh z t i _ (below) (object-is) zero inv.objects;
-      rules = rules_next known h sh z t i _ c.loop-i.broken _ (below) rules c.earlier-broken.ensures inv.rules;
+      rules = rules_next known h sh z t i _ (fault_number c.loop-i.broken) _ (below) rules (ap fault_number c.or-broken.ensures ∙ or_number _ _) inv.rules;
       contents =
-          pending_next (content_of t) (content_sound t) t i _ c.loop-i.content _ (below) fault
-          c.earlier-content.ensures inv.contents;
+          pending_next (content_of t) (content_sound t) t i _ (fault_number c.loop-i.content) _ (below) fault
+          (ap fault_number c.or-content.ensures ∙ or_number _ _) inv.contents;
       first_named = λ z. named;
     }
 
-pub returns-then-refusal-ne0 : goal.returns-then-refusal-ne0
-returns-then-refusal-ne0 c =
+pub returns-in-Some : goal.returns-in-Some
+returns-in-Some c =
     let shared_has : c.present-has_enc.result
     ≡ present enc (protected_entries c.args.header.now ++ text_entries 1 c.args.shared.now) = c.present-has_enc.ensures ∙ ap (present enc) c.requires.front.entries in
     let inv = c.loop-i.invariant in
     record {
-      value = all_refuse _ _ _ _ _ c.requires.recipients_value c.loop-i.i c.loop-i.broken c.loop-i.content
+      value = all_refuse _ _ _ _ _ c.requires.recipients_value c.loop-i.i (fault_number c.loop-i.broken) (fault_number c.loop-i.content)
           (omega (arith, c.loop-i-test.false, c.requires.n_value)) inv.objects inv.rules inv.contents
-          (shared_has) _ _ c.fault_of_all-refusal.ensures c.if-refusal-ne0.true;
+          (shared_has) _ (number_of c.in-Some.refusal) (sym (ap fault_number c.in-Some.is) ∙ c.fault_of_all.ensures)
+          (λ z. omega (arith, z, some_number c.in-Some.refusal));
       table_len_unchanged = inv.same;
     }
 
-pub returns : goal.returns
-returns c =
+pub returns-in-None : goal.returns-in-None
+returns-in-None c =
     let shared_has : c.present-has_enc.result
     ≡ present enc (protected_entries c.args.header.now ++ text_entries 1 c.args.shared.now) = c.present-has_enc.ensures ∙ ap (present enc) c.requires.front.entries in
     let inv = c.loop-i.invariant in
     record {
-      value = all_pass _ _ _ _ _ c.requires.recipients_value c.loop-i.i c.loop-i.broken c.loop-i.content
+      value = all_pass _ _ _ _ _ c.requires.recipients_value c.loop-i.i (fault_number c.loop-i.broken) (fault_number c.loop-i.content)
           (omega (arith, c.loop-i-test.false, c.requires.n_value)) inv.objects inv.rules inv.contents
-          (shared_has) _ _ c.fault_of_all-refusal.ensures c.if-refusal-ne0.false;
+          (shared_has) _ _ c.fault_of_all.ensures (ap fault_number c.in-None.is);
       table_len_unchanged = inv.same;
     }

@@ -19,7 +19,7 @@ returns-then-n-gt-MOST_NAMES c =
     let n = c.in-Some.field-0-0.now in
     let rest = c.in-Some.rest.now in
     elim c.then-n-gt-MOST_NAMES.branch [
-      then-n-gt-MOST_NAMES-via-then-n-gt-MOST_NAMES w ↦ sound_many n rest (omega (arith, c.from-n.ensures, w.if-n-gt-MOST_NAMES))
+      | then-n-gt-MOST_NAMES-via-then-n-gt-MOST_NAMES w ↦ sound_many n rest (omega (arith, c.from-n.ensures, w.if-n-gt-MOST_NAMES))
       | then-n-gt-MOST_NAMES-via-else-n-gt-MOST_NAMES+then-rest-n w ↦ sound_short n rest (omega (arith, c.from-n.ensures, w.if-rest-n))
     ]
     ∙ ap spec.sound (sym c.in-Some.ensures.cases.0)
@@ -40,9 +40,9 @@ returns-then-k-lt1 c =
     let lengths = c.split_at.result.0.now in
     let room = length c.split_at.result.1.now in
     elim c.then-k-lt1.branch [
-      then-k-lt1-via-then-k-lt1 w ↦ sound_low lengths c.loop-k.total room c.loop-k.k-index c.loop-k-test.true w.if-k-lt1.true
+      | then-k-lt1-via-then-k-lt1 w ↦ sound_low lengths c.loop-k.total room c.loop-k.k-index c.loop-k-test.true w.if-k-lt1.true
       | then-k-lt1-via-else-k-lt1+then-k-gt-LONGEST_NAME w ↦
-      sound_high lengths c.loop-k.total room c.loop-k.k-index c.loop-k-test.true w.if-k-lt1.false w.if-k-gt-LONGEST_NAME.true
+          sound_high lengths c.loop-k.total room c.loop-k.k-index c.loop-k-test.true w.if-k-lt1.false w.if-k-gt-LONGEST_NAME.true
     ]
     ∙ c.loop-k.invariant.left
 

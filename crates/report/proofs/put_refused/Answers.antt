@@ -1,39 +1,39 @@
 -- `put_refused` writes the word and the number.
-use mathlib.Core.Path.{refl, sym}
-use mathlib.Core.List.{[], ◌++◌, append-nil}
+use mathlib.Core.List.{List, [], ◌∷◌}
+use Prim.Native.Nat.{ℕ, ◌+◌, ◌≤◌, ◌<◌}
 use native.Mathlib.Omega.{arith}
-use lib.ListN.{length-append}
-use Rattle.prelude.proofs.Writing as writing
-use Rattle.prelude.proofs.Writing.{Writing, begin, put_part, room_part}
+use lib.ListN.{length, length-append}
 use Rattle.prelude.specs.Ascii.{ascii}
 use Rattle.report.specs.Text.{decimal, space, line_feed, ended}
 use Rattle.report.specs.Report.{refused_report}
+use Rattle.report.specs.Answers.{report_room}
 use Rattle.report.proofs.Decimal.{decimal_short}
+use Rattle.report.proofs.Parts.{joined, start, fits, step, done}
 use Rattle.report.proofs.put_refused.Goals as goal
 
+abbrev parts : ℕ → List (List ℕ)
+parts n = ended (ascii "refused") space ∷ ended (decimal n) line_feed ∷ []
+
+room : (n : ℕ) (out : List ℕ) → n < 4294967296 → report_room ≤ length out → 0 + length (joined (parts n)) ≤ length out
+unfolding ascii
+room n out small h = simp length-append (omega (arith, h, decimal_short n small))
+
 pub put_word-a-requires : goal.put_word-a-requires
-unfolding ascii refused_report
+unfolding ascii
 put_word-a-requires c =
-    let at-start : (Writing 0 (refused_report c.args.n) c.args.out.now ((ended (ascii "refused") space) ++ ((ended (decimal c.args.n) line_feed))) 0 c.args.out.now) = begin 0 _ c.args.out.now (simp length-append (omega (arith, c.requires, decimal_short c.args.n (omega (arith, c.ranges.n))))) in
-    room_part ((ended (ascii "refused") space)) ((ended (decimal c.args.n) line_feed)) refl (at-start)
+    fits (start 0 (parts c.args.n) c.args.out.now (room c.args.n c.args.out.now (omega (arith, c.ranges.n)) c.requires)) (omega arith)
 
 pub put_number-requires : goal.put_number-requires
-unfolding ascii refused_report
+unfolding ascii
 put_number-requires c =
-    let at-start : (Writing 0 (refused_report c.args.n) c.args.out.now ((ended (ascii "refused") space) ++ ((ended (decimal c.args.n) line_feed))) 0 c.args.out.now) = begin 0 _ c.args.out.now (simp length-append (omega (arith, c.requires, decimal_short c.args.n (omega (arith, c.ranges.n))))) in
-    let behind-word : (Writing 0 (refused_report c.args.n) c.args.out.now ((ended (decimal c.args.n) line_feed)) c.put_word-a.result c.put_word-a.new.out) = put_part ((ended (ascii "refused") space)) ((ended (decimal c.args.n) line_feed)) refl (at-start) c.put_word-a.ensures.value c.put_word-a.ensures.out_after in
-    room_part ((ended (decimal c.args.n) line_feed)) [] (sym (append-nil ((ended (decimal c.args.n) line_feed)))) (behind-word)
+    fits (step (start 0 (parts c.args.n) c.args.out.now (room c.args.n c.args.out.now (omega (arith, c.ranges.n)) c.requires)) (omega arith)
+    c.put_word-a.ensures.value c.put_word-a.ensures.out_after) (omega arith)
 
 pub returns : goal.returns
 unfolding refused_report ascii
 returns c =
-    let at-start : (Writing 0 (refused_report c.args.n) c.args.out.now ((ended (ascii "refused") space) ++ ((ended (decimal c.args.n) line_feed))) 0 c.args.out.now) = begin 0 _ c.args.out.now (simp length-append (omega (arith, c.requires, decimal_short c.args.n (omega (arith, c.ranges.n))))) in
-    let behind-word : (Writing 0 (refused_report c.args.n) c.args.out.now ((ended (decimal c.args.n) line_feed)) c.put_word-a.result c.put_word-a.new.out) = put_part ((ended (ascii "refused") space)) ((ended (decimal c.args.n) line_feed)) refl (at-start) c.put_word-a.ensures.value c.put_word-a.ensures.out_after in
-    let all = put_part ((ended (decimal c.args.n) line_feed)) [] (sym (append-nil ((ended (decimal c.args.n) line_feed)))) (behind-word) c.put_number.ensures.value
-    c.put_number.ensures.out_after in
-    let at_end = writing.ended all in
-    record {
-      value = omega (arith, at_end.0);
-      out_after = at_end.1;
-      upper_bound = omega (arith, all.room);
-    }
+    let there = room c.args.n c.args.out.now (omega (arith, c.ranges.n)) c.requires in
+    let all = done (step (step (start 0 (parts c.args.n) c.args.out.now there) (omega arith)
+    c.put_word-a.ensures.value c.put_word-a.ensures.out_after) (omega arith)
+    c.put_number.ensures.value c.put_number.ensures.out_after) (omega arith) in
+    record { value = omega (arith, all.0); out_after = all.1; upper_bound = omega (arith, all.0, there) }

@@ -6,14 +6,13 @@ use native.Mathlib.Omega.{arith}
 use Rattle.grammar.specs.Grammar.{curly, square}
 use Rattle.grammar.specs.Reader.{members_at}
 use Rattle.grammar.specs.Spellings.{alike}
-use Rattle.json_read.proofs.Knowing.{known_element}
-use Rattle.distinct.specs.Inner.Walking.{row_member, rows_from}
-use Rattle.distinct.proofs.Walks.{known_all, known_more, row_more, none_here, none_spent}
+use Rattle.json_read.specs.Rows.{rows_left, elements_left}
+use Rattle.distinct.specs.Inner.Walking.{row_member}
 use Rattle.pairs.specs.Inner.Walks.{Stepped}
 use Rattle.pairs.proofs.Tables.{going_kept, kept_front}
 use Rattle.same.specs.Same.{depth, all, same_elements, has_pair, same_at, inner_at}
 use Rattle.same.specs.Inner.Walking.{element_of, Reads}
-use Rattle.same.proofs.Rows.{elements_all, reads_in, row_reads, among_reads, all_read, first_reads}
+use Rattle.same.proofs.Rows.{none_is, elements_read, reads_in, among_reads, all_read, first_reads}
 use Rattle.same.proofs.Choices as choices
 use Rattle.same.proofs.Partners.{lone, by_values, all_end, all_lone, all_on}
 use Rattle.same.proofs.+all_paired_arrays_compare_values.Goals as goal
@@ -84,118 +83,77 @@ all_paired-loop-a-preserved t c =
     )
 
 -- arrays: along both
-pub arrays-loop-left-init : goal.arrays-loop-left-init
-arrays-loop-left-init t c =
+pub arrays-loop-a-init : goal.arrays-loop-a-init
+arrays-loop-a-init t c =
     let s = c.args.s.now in
-    let t = c.args.t.now in (
-      ap₂ (same_elements (inner_at c.args.levels s t))
-          (elements_all s c.args.i c.inside-p.result.at c.inside-p.ensures)
-          (elements_all t c.args.j c.inside-q.result.at c.inside-q.ensures),
-      (
-        known_all square s c.args.i c.inside-p.result.at c.inside-p.ensures c.requires.known_in,
-        known_all square t c.args.j c.inside-q.result.at c.inside-q.ensures c.requires.known_in_2,
-      ),
-    )
-
-pub arrays-element-requires : goal.arrays-element-requires
-arrays-element-requires t c =
-    known_element depth c.args.s.now c.loop-left.left c.loop-left.p.at c.loop-left-test.true c.loop-left.invariant.1.0
-
-pub arrays-none_left-requires : goal.arrays-none_left-requires
-arrays-none_left-requires t c = c.loop-left.invariant.1.1
+    let t = c.args.t.now in
+    let it = c.into_iter-a-iterator.ensures.into_iter_gives in
+    record {
+      same =
+          ap₂ (same_elements (inner_at c.args.levels s t)) (ap elements_left it ∙ c.elements-a-items.ensures.elements)
+          c.elements-others.ensures.elements;
+      left = elements_read s c.args.i _ (ap rows_left it ∙ c.elements-a-items.ensures.rows);
+      right = elements_read t c.args.j _ c.elements-others.ensures.rows;
+    }
 
 pub arrays-returns-in_default : goal.arrays-returns-in_default
 arrays-returns-in_default t c =
-    c.none_left.ensures
-    ∙ choices.order_end (inner_at c.args.levels c.args.s.now c.args.t.now) _ (rows_from square c.args.t.now c.loop-left.right c.loop-left.q.at)
-    (none_here square c.args.s.now c.loop-left.left c.loop-left.p.at c.loop-left-test.true c.in_default.ensures)
-    ∙ c.loop-left.invariant.0
-
-pub arrays-returns-then-right-eq0 : goal.arrays-returns-then-right-eq0
-arrays-returns-then-right-eq0 t c =
-    choices.order_short (inner_at c.args.levels c.args.s.now c.args.t.now)
-    (rows_from square c.args.s.now c.loop-left.left c.loop-left.p.at) (rows_from square c.args.t.now c.loop-left.right c.loop-left.q.at)
-    (row_member c.in-Some.found.row) (rows_from square c.args.s.now (c.loop-left.left - 1) c.in-Some.found.next.at)
-    (row_more square c.args.s.now c.loop-left.left c.loop-left.p.at c.loop-left-test.true c.in-Some.found.row c.in-Some.found.next c.in-Some.ensures)
-    (none_spent square c.args.t.now c.loop-left.right c.loop-left.q.at c.if-right-eq0.true) ∙ c.loop-left.invariant.0
-
-pub arrays-element-requires-in-loop-left : goal.arrays-element-requires-in-loop-left
-arrays-element-requires-in-loop-left t c =
-    known_element depth c.args.t.now c.loop-left.right c.loop-left.q.at (omega (arith, c.if-right-eq0.false)) c.loop-left.invariant.1.1
-
-pub arrays-returns-in_default-element : goal.arrays-returns-in_default-element
-arrays-returns-in_default-element t c =
-    choices.order_short (inner_at c.args.levels c.args.s.now c.args.t.now)
-    (rows_from square c.args.s.now c.loop-left.left c.loop-left.p.at) (rows_from square c.args.t.now c.loop-left.right c.loop-left.q.at)
-    (row_member c.in-Some.found.row) (rows_from square c.args.s.now (c.loop-left.left - 1) c.in-Some.found.next.at)
-    (row_more square c.args.s.now c.loop-left.left c.loop-left.p.at c.loop-left-test.true c.in-Some.found.row c.in-Some.found.next c.in-Some.ensures)
-    (none_here square c.args.t.now c.loop-left.right c.loop-left.q.at (omega (arith, c.if-right-eq0.false))
-    c.in_default-element.ensures) ∙ c.loop-left.invariant.0
+    let so = c.loop-a.invariant in
+    choices.order_short (inner_at c.args.levels c.args.s.now c.args.t.now) (rows_left c.loop-a.a-iterator) (rows_left c.loop-a.others)
+    (row_member c.in-Some.a) (rows_left c.next.new.self) c.in-Some.ensures.steps c.in_default.ensures.steps.0 ∙ so.same
 
 pub arrays-returns-then-levels-eq0 : goal.arrays-returns-then-levels-eq0
 arrays-returns-then-levels-eq0 t c =
-    choices.order_differs (inner_at c.args.levels c.args.s.now c.args.t.now)
-    (rows_from square c.args.s.now c.loop-left.left c.loop-left.p.at) (rows_from square c.args.t.now c.loop-left.right c.loop-left.q.at)
-    (row_member c.in-Some.found.row) (rows_from square c.args.s.now (c.loop-left.left - 1) c.in-Some.found.next.at)
-    (row_more square c.args.s.now c.loop-left.left c.loop-left.p.at c.loop-left-test.true c.in-Some.found.row c.in-Some.found.next c.in-Some.ensures)
-    (row_member c.in-Some-element.beside.row) (rows_from square c.args.t.now (c.loop-left.right - 1) c.in-Some-element.beside.next.at)
-    (row_more square c.args.t.now c.loop-left.right c.loop-left.q.at (omega (arith, c.if-right-eq0.false)) c.in-Some-element.beside.row c.in-Some-element.beside.next c.in-Some-element.ensures)
-    (choices.inner_none c.args.levels c.args.s.now c.args.t.now _ _ c.if-levels-eq0.true) ∙ c.loop-left.invariant.0
+    choices.order_differs (inner_at c.args.levels c.args.s.now c.args.t.now) (rows_left c.loop-a.a-iterator) (rows_left c.loop-a.others)
+    (row_member c.in-Some.a) (rows_left c.next.new.self) c.in-Some.ensures.steps (row_member c.in-Some-next.b) (rows_left c.next-in-loop-a.new.self)
+    c.in-Some-next.ensures.steps
+    (choices.inner_none c.args.levels c.args.s.now c.args.t.now _ _ c.if-levels-eq0.true) ∙ c.loop-a.invariant.same
 
 pub arrays-compare-requires : goal.arrays-compare-requires
-arrays-compare-requires t c = (
-  omega (arith, c.decreases, c.if-levels-eq0.false),
-  (
-    subst (λ v. Reads c.args.s.now (element_of v)) (sym c.value_of.ensures)
-        (row_reads square c.args.s.now c.loop-left.left c.loop-left.p.at c.loop-left-test.true c.in-Some.found.row c.in-Some.found.next c.in-Some.ensures),
-    subst (λ v. Reads c.args.t.now (element_of v)) (sym c.value_of-in-loop-left.ensures)
-        (row_reads square c.args.t.now c.loop-left.right c.loop-left.q.at (omega (arith, c.if-right-eq0.false)) c.in-Some-element.beside.row
-        c.in-Some-element.beside.next c.in-Some-element.ensures),
-  ),
-)
+arrays-compare-requires t c =
+    let so = c.loop-a.invariant in (
+      omega (arith, c.decreases, c.if-levels-eq0.false),
+      (
+        subst (λ v. Reads c.args.s.now (element_of v)) (sym c.value_of.ensures)
+            (first_reads c.args.s.now (rows_left c.loop-a.a-iterator) _ _ c.in-Some.ensures.steps so.left).0,
+        subst (λ v. Reads c.args.t.now (element_of v)) (sym c.value_of-in-loop-a.ensures)
+            (first_reads c.args.t.now (rows_left c.loop-a.others) _ _ c.in-Some-next.ensures.steps so.right).0,
+      ),
+    )
 
 pub arrays-returns-then-not-compare : goal.arrays-returns-then-not-compare
 arrays-returns-then-not-compare t c =
-    choices.order_differs (inner_at c.args.levels c.args.s.now c.args.t.now)
-    (rows_from square c.args.s.now c.loop-left.left c.loop-left.p.at) (rows_from square c.args.t.now c.loop-left.right c.loop-left.q.at)
-    (row_member c.in-Some.found.row) (rows_from square c.args.s.now (c.loop-left.left - 1) c.in-Some.found.next.at)
-    (row_more square c.args.s.now c.loop-left.left c.loop-left.p.at c.loop-left-test.true c.in-Some.found.row c.in-Some.found.next c.in-Some.ensures)
-    (row_member c.in-Some-element.beside.row) (rows_from square c.args.t.now (c.loop-left.right - 1) c.in-Some-element.beside.next.at)
-    (row_more square c.args.t.now c.loop-left.right c.loop-left.q.at (omega (arith, c.if-right-eq0.false)) c.in-Some-element.beside.row c.in-Some-element.beside.next c.in-Some-element.ensures)
+    choices.order_differs (inner_at c.args.levels c.args.s.now c.args.t.now) (rows_left c.loop-a.a-iterator) (rows_left c.loop-a.others)
+    (row_member c.in-Some.a) (rows_left c.next.new.self) c.in-Some.ensures.steps (row_member c.in-Some-next.b) (rows_left c.next-in-loop-a.new.self)
+    c.in-Some-next.ensures.steps
     (choices.inner_less c.args.levels c.args.s.now c.args.t.now _ _ c.if-levels-eq0.false
     ∙ sym (ap₂ (λ v w. same_at (c.args.levels - 1) c.args.s.now c.args.t.now (element_of v) (element_of w))
-    c.value_of.ensures c.value_of-in-loop-left.ensures)
-    ∙ sym c.compare.ensures ∙ c.if-not-compare.true) ∙ c.loop-left.invariant.0
+    c.value_of.ensures c.value_of-in-loop-a.ensures)
+    ∙ sym c.compare.ensures ∙ c.if-not-compare.true) ∙ c.loop-a.invariant.same
 
-pub arrays-loop-left-preserved : goal.arrays-loop-left-preserved
-arrays-loop-left-preserved t c = (
-  choices.order_on (inner_at c.args.levels c.args.s.now c.args.t.now)
-      (rows_from square c.args.s.now c.loop-left.left c.loop-left.p.at) (rows_from square c.args.t.now c.loop-left.right c.loop-left.q.at)
-      (row_member c.in-Some.found.row) (rows_from square c.args.s.now (c.loop-left.left - 1) c.in-Some.found.next.at)
-      (row_more square c.args.s.now c.loop-left.left c.loop-left.p.at c.loop-left-test.true c.in-Some.found.row c.in-Some.found.next c.in-Some.ensures)
-      (row_member c.in-Some-element.beside.row) (rows_from square c.args.t.now (c.loop-left.right - 1) c.in-Some-element.beside.next.at)
-      (row_more square c.args.t.now c.loop-left.right c.loop-left.q.at (omega (arith, c.if-right-eq0.false)) c.in-Some-element.beside.row c.in-Some-element.beside.next c.in-Some-element.ensures)
-      (choices.inner_less c.args.levels c.args.s.now c.args.t.now _ _ c.if-levels-eq0.false
-      ∙ sym (ap₂ (λ v w. same_at (c.args.levels - 1) c.args.s.now c.args.t.now (element_of v) (element_of w))
-      c.value_of.ensures c.value_of-in-loop-left.ensures)
-      ∙ sym c.compare.ensures ∙ c.if-not-compare.false) ∙ c.loop-left.invariant.0,
-  (
-    known_more square c.args.s.now c.loop-left.left c.loop-left.p.at c.loop-left-test.true c.in-Some.found.row c.in-Some.found.next c.in-Some.ensures
-        c.loop-left.invariant.1.0,
-    known_more square c.args.t.now c.loop-left.right c.loop-left.q.at (omega (arith, c.if-right-eq0.false)) c.in-Some-element.beside.row
-        c.in-Some-element.beside.next c.in-Some-element.ensures c.loop-left.invariant.1.1,
-  ),
-)
-
-pub arrays-none_left-requires-2 : goal.arrays-none_left-requires-2
-arrays-none_left-requires-2 t c = c.loop-left.invariant.1.1
+pub arrays-loop-a-preserved : goal.arrays-loop-a-preserved
+arrays-loop-a-preserved t c =
+    let so = c.loop-a.invariant in
+    record {
+      same =
+          choices.order_on (inner_at c.args.levels c.args.s.now c.args.t.now) (rows_left c.loop-a.a-iterator) (rows_left c.loop-a.others)
+          (row_member c.in-Some.a) (rows_left c.next.new.self) c.in-Some.ensures.steps (row_member c.in-Some-next.b) (rows_left c.next-in-loop-a.new.self)
+          c.in-Some-next.ensures.steps
+          (choices.inner_less c.args.levels c.args.s.now c.args.t.now _ _ c.if-levels-eq0.false
+          ∙ sym (ap₂ (λ v w. same_at (c.args.levels - 1) c.args.s.now c.args.t.now (element_of v) (element_of w))
+          c.value_of.ensures c.value_of-in-loop-a.ensures)
+          ∙ sym c.compare.ensures ∙ c.if-not-compare.false) ∙ so.same;
+      left = (first_reads c.args.s.now (rows_left c.loop-a.a-iterator) _ _ c.in-Some.ensures.steps so.left).1;
+      right = (first_reads c.args.t.now (rows_left c.loop-a.others) _ _ c.in-Some-next.ensures.steps so.right).1;
+    }
 
 pub arrays-returns : goal.arrays-returns
 arrays-returns t c =
-    c.none_left-2.ensures
-    ∙ choices.order_end (inner_at c.args.levels c.args.s.now c.args.t.now) _ (rows_from square c.args.t.now c.loop-left.right c.loop-left.q.at)
-    (none_spent square c.args.s.now c.loop-left.left c.loop-left.p.at (omega (arith, c.loop-left-test.false)))
-    ∙ c.loop-left.invariant.0
+    let so = c.loop-a.invariant in
+    none_is c.loop-a.others c.next-2.new.self c.next-2.result c.is_none.result c.is_none.ensures c.next-2.ensures.steps
+    ∙ choices.order_end (inner_at c.args.levels c.args.s.now c.args.t.now) (rows_left c.loop-a.a-iterator) (rows_left c.loop-a.others)
+    c.in-None.ensures.steps.0
+    ∙ so.same
 
 -- compare: by the octets, then by the kind
 pub compare-returns-then-same_octets : goal.compare-returns-then-same_octets

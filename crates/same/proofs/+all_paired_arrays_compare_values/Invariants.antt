@@ -2,10 +2,9 @@
 -- object or an array to what stands in it.
 use mathlib.Core.Path.{◌≡◌}
 use Prim.Native.Nat.{◌+◌, ◌*◌}
-use Rattle.grammar.specs.Grammar.{square}
 use Rattle.grammar.specs.Bounds.{Every}
-use Rattle.grammar.specs.Reader.{members_at, elements_at, elements_of}
-use Rattle.json_read.specs.Inner.Known.{KnownFrom}
+use Rattle.grammar.specs.Reader.{members_at, elements_at}
+use Rattle.json_read.specs.Rows.{rows_left, elements_left}
 use Rattle.distinct.specs.Inner.Walking.{rows_from}
 use Rattle.pairs.specs.Inner.Walks.{Going}
 use Rattle.same.specs.Same.{depth, all, same_elements, has_pair, inner_at}
@@ -34,12 +33,11 @@ invariant-all_paired-loop-a l =
 abbrev pub decreases-all_paired-loop-a : goal.decreases-all_paired-loop-a
 decreases-all_paired-loop-a l = l.walk.left
 
-abbrev pub invariant-arrays-loop-left : goal.invariant-arrays-loop-left
-invariant-arrays-loop-left l =
-    (same_elements (inner_at l.levels l.s l.t) (elements_of (rows_from square l.s l.left l.p.at))
-    (elements_of (rows_from square l.t l.right l.q.at))
-    ≡ same_elements (inner_at l.levels l.s l.t) (elements_at depth l.s l.i) (elements_at depth l.t l.j))
-    × (KnownFrom square depth l.s l.left l.p.at × KnownFrom square depth l.t l.right l.q.at)
-
-abbrev pub decreases-arrays-loop-left : goal.decreases-arrays-loop-left
-decreases-arrays-loop-left l = l.left
+abbrev pub invariant-arrays-loop-a : goal.invariant-arrays-loop-a
+invariant-arrays-loop-a l = record {
+  same :
+      same_elements (inner_at l.levels l.s l.t) (elements_left l.a-iterator) (elements_left l.others)
+      ≡ same_elements (inner_at l.levels l.s l.t) (elements_at depth l.s l.i) (elements_at depth l.t l.j);
+  left : Every (RowReads l.s) (rows_left l.a-iterator);
+  right : Every (RowReads l.t) (rows_left l.others);
+}

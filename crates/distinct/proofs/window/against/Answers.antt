@@ -1,59 +1,60 @@
--- What is asked of the members from here on stays the answer; the window stays entered.
-use mathlib.Core.Path.{refl, sym, ◌∙◌}
+-- What is asked of the members that are left stays the answer; the window stays entered.
+use mathlib.Core.Path.{refl, ap, sym, ◌∙◌}
+use mathlib.Core.Bool.{Bool, ◌||◌}
 use native.Mathlib.Omega.{arith}
 use Rattle.grammar.specs.Grammar.{curly}
-use Rattle.distinct.proofs.Walks.{entry_known, known_more}
-use Rattle.distinct.proofs.Walks.{of_any, walk_spent, walk_end, walk_found, walk_on}
+use Rattle.json_read.specs.Rows.{rows_left}
+use Rattle.prelude.specs.Any.{any}
+use Rattle.distinct.specs.Names.{same_name}
+use Rattle.distinct.specs.Inner.Walking.{rows_from}
+use Rattle.distinct.proofs.Windows.{Across}
 use Rattle.distinct.proofs.window.against.Goals as goal
 
-pub loop-rest-init : goal.loop-rest-init
-loop-rest-init c =
-    (refl, (c.requires.known_from_2, (c.requires.every, refl)))
-
-pub member-requires : goal.member-requires
-member-requires c =
-    entry_known curly _ c.loop-rest.rest c.loop-rest.p.at c.loop-rest-test.true c.loop-rest.invariant.1.0
-
-pub shape_of-filter-in_default : goal.shape_of-filter-in_default
-shape_of-filter-in_default c = c.loop-rest.invariant.1.1.1
-
-pub returns-in_default : goal.returns-in_default
-returns-in_default c =
-    walk_end (of_any _) _ curly _ c.loop-rest.rest c.loop-rest.p.at c.loop-rest.invariant.0 c.loop-rest-test.true
-    c.in_default.ensures
+pub loop-row-init : goal.loop-row-init
+loop-row-init c =
+    let s = c.args.s.now in
+    let window = rows_from curly s c.args.done c.args.from.at in
+    let it = c.into_iter-row-iterator.ensures.into_iter_gives in
+    record {
+      same = ap (Across (same_name s s) window) (ap rows_left it ∙ c.members_from-row-items.ensures);
+      marked = c.requires.every;
+      long = refl;
+    }
 
 pub clashes-requires : goal.clashes-requires
 clashes-requires c =
+    let so = c.loop-row.invariant in
     record {
       known_from = c.requires.known_from;
-      every = c.loop-rest.invariant.1.1.0;
-      size_nonzero = (c.requires.size_nonzero.0, omega (arith, c.loop-rest.invariant.1.1.1, c.requires.size_nonzero.1));
+      every = so.marked;
+      size_nonzero = (c.requires.size_nonzero.0, omega (arith, so.long, c.requires.size_nonzero.1));
     }
 
-pub shape_of-filter-then-clashes : goal.shape_of-filter-then-clashes
-shape_of-filter-then-clashes c =
-    c.clashes.auto.filter ∙ c.loop-rest.invariant.1.1.1
-
 pub returns-then-clashes : goal.returns-then-clashes
+unfolding any
 returns-then-clashes c =
-    walk_found (of_any _) _ curly _ c.loop-rest.rest c.loop-rest.p.at c.loop-rest.invariant.0 c.loop-rest-test.true
-    c.in-Some.found.row c.in-Some.found.next c.in-Some.ensures
-    (sym c.clashes.ensures.value ∙ c.if-clashes.true)
+    let f = same_name c.args.s.now c.args.s.now in
+    let window = rows_from curly c.args.s.now c.args.done c.args.from.at in
+    ap (λ (b : Bool). b || Across f window (rows_left c.next.new.self)) (sym c.if-clashes.true ∙ c.clashes.ensures.value)
+    ∙ sym (ap (Across f window) c.in-Some.ensures.steps) ∙ c.loop-row.invariant.same
 
-pub loop-rest-preserved : goal.loop-rest-preserved
-loop-rest-preserved c = (
-  walk_on (of_any _) _ curly _ c.loop-rest.rest c.loop-rest.p.at c.loop-rest.invariant.0 c.loop-rest-test.true
-      c.in-Some.found.row c.in-Some.found.next c.in-Some.ensures
-      (sym c.clashes.ensures.value ∙ c.if-clashes.false),
-  (
-    known_more curly _ c.loop-rest.rest c.loop-rest.p.at c.loop-rest-test.true c.in-Some.found.row c.in-Some.found.next c.in-Some.ensures c.loop-rest.invariant.1.0,
-    (c.clashes.ensures.marked.1, c.clashes.auto.filter ∙ c.loop-rest.invariant.1.1.1),
-  ),
-)
-
-pub shape_of-filter : goal.shape_of-filter
-shape_of-filter c = c.loop-rest.invariant.1.1.1
+pub loop-row-preserved : goal.loop-row-preserved
+unfolding any
+loop-row-preserved c =
+    let so = c.loop-row.invariant in
+    let f = same_name c.args.s.now c.args.s.now in
+    let window = rows_from curly c.args.s.now c.args.done c.args.from.at in
+    record {
+      same =
+          ap (λ (b : Bool). b || Across f window (rows_left c.next.new.self)) (sym c.if-clashes.false ∙ c.clashes.ensures.value)
+          ∙ sym (ap (Across f window) c.in-Some.ensures.steps) ∙ so.same;
+      marked = c.clashes.ensures.marked.1;
+      long = c.clashes.auto.filter ∙ so.long;
+    }
 
 pub returns : goal.returns
+unfolding any
 returns c =
-    walk_spent (of_any _) _ curly _ c.loop-rest.rest c.loop-rest.p.at c.loop-rest.invariant.0 (omega arith)
+    let f = same_name c.args.s.now c.args.s.now in
+    let window = rows_from curly c.args.s.now c.args.done c.args.from.at in
+    sym (ap (Across f window) c.in-None.ensures.steps.0) ∙ c.loop-row.invariant.same

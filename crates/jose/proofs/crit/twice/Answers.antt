@@ -1,37 +1,31 @@
--- `twice` walks along the elements: whether two of those from here on say the same stays the answer.
+-- `twice` walks along the elements: whether two of those that are left say the same stays the answer.
 use mathlib.Core.Path.{ap, sym, ◌∙◌}
-use native.Mathlib.Omega.{arith}
+use mathlib.Core.Bool.{Bool, ◌||◌}
+use Rattle.json_read.specs.Rows.{elements_left}
+use Rattle.json_read.proofs.RowsLeft.{element_more, element_none}
 use Rattle.prelude.specs.Any.{any_pair}
 use Rattle.jose.specs.HeaderRules.{same_element}
-use Rattle.jose.proofs.Elements.{elements_all}
-use Rattle.jose.proofs.Walks.{of_pair, walk_spent, walk_end, walk_found, walk_on}
 use Rattle.jose.proofs.crit.twice.Goals as goal
 
-pub loop-left-init : goal.loop-left-init
-loop-left-init c =
-    let given = c.args in
-    ap (any_pair (same_element given.s.now))
-    (elements_all given.s.now given.at c.inside-p.result.at c.inside-p.ensures)
-
-pub returns-in_default : goal.returns-in_default
-returns-in_default c =
-    walk_end (of_pair _) _ _ c.loop-left.left c.loop-left.p.at c.loop-left.invariant c.loop-left-test.true
-    c.in_default.ensures
+pub loop-row-init : goal.loop-row-init
+loop-row-init c = ap (any_pair (same_element c.args.s.now)) c.elements-elements.ensures.elements
 
 pub returns-then-again : goal.returns-then-again
+unfolding any_pair
 returns-then-again c =
-    walk_found (of_pair _) _ _ c.loop-left.left c.loop-left.p.at c.loop-left.invariant
-    c.loop-left-test.true c.in-Some.found.row c.in-Some.found.next
-    c.in-Some.ensures
-    (sym c.again.ensures ∙ c.if-again.true)
+    let f = same_element c.args.s.now in
+    ap (λ (b : Bool). b || any_pair f (elements_left c.next.new.self)) c.if-again.ensures
+    ∙ sym (ap (any_pair f) (element_more c.loop-row.elements c.next.new.self c.in-Some.ensures.steps)) ∙ c.loop-row.invariant
 
-pub loop-left-preserved : goal.loop-left-preserved
-loop-left-preserved c =
-    walk_on (of_pair _) _ _ c.loop-left.left c.loop-left.p.at c.loop-left.invariant
-    c.loop-left-test.true c.in-Some.found.row c.in-Some.found.next
-    c.in-Some.ensures
-    (sym c.again.ensures ∙ c.if-again.false)
+pub loop-row-preserved : goal.loop-row-preserved
+unfolding any_pair
+loop-row-preserved c =
+    let f = same_element c.args.s.now in
+    ap (λ (b : Bool). b || any_pair f (elements_left c.next.new.self)) c.if-again.ensures
+    ∙ sym (ap (any_pair f) (element_more c.loop-row.elements c.next.new.self c.in-Some.ensures.steps)) ∙ c.loop-row.invariant
 
 pub returns : goal.returns
+unfolding any_pair
 returns c =
-    walk_spent (of_pair _) _ _ c.loop-left.left c.loop-left.p.at c.loop-left.invariant (omega arith)
+    let f = same_element c.args.s.now in
+    sym (ap (any_pair f) (element_none c.loop-row.elements c.in_default.ensures.steps.0)) ∙ c.loop-row.invariant

@@ -6,7 +6,7 @@ use native.Mathlib.Omega.{arith}
 use lib.ListN.{take}
 use Rattle.prelude.specs.Buffer.{written}
 use Rattle.grammar.specs.Places.{Member}
-use Rattle.json_read.specs.Entries.{entries_left}
+use Rattle.json_read.specs.Rows.{rows_left}
 use Rattle.json_read.specs.Members.{row_member, five_of, flat, collected_of}
 use Rattle.json_read.proofs.MemberTable.{written_none, rows_all, table_all, rows_over, inside, drop_more, table_more}
 use Rattle.json_read.proofs.Position.collect.Goals as goal
@@ -23,12 +23,12 @@ loop-row-init c = record {
 pub returns-then-count-eq-MOST_MEMBERS : goal.returns-then-count-eq-MOST_MEMBERS
 returns-then-count-eq-MOST_MEMBERS c =
     let so = c.loop-row.invariant in
-    let rows = entries_left c.into_iter-row-iterator.result in
-    let whole = ap entries_left c.into_iter-row-iterator.ensures.into_iter_gives ∙ c.members-row-items.ensures in
+    let rows = rows_left c.into_iter-row-iterator.result in
+    let whole = ap rows_left c.into_iter-row-iterator.ensures.into_iter_gives ∙ c.members-row-items.ensures in
     let here = so.others ∙ c.in-Some.ensures.steps in
     let full = c.if-count-eq-MOST_MEMBERS.true in
     record {
-      value = rows_over rows (entries_left c.next.new.self) (row_member c.in-Some.row) c.loop-row.count full here ∙ ap collected_of whole;
+      value = rows_over rows (rows_left c.next.new.self) (row_member c.in-Some.row) c.loop-row.count full here ∙ ap collected_of whole;
       table_after =
           so.table
           ∙ ap (λ (r : List Member). written 0 (flat r) c.args.table.now) (ap (λ (n : ℕ). take n rows) full ∙ ap (take 32) whole);
@@ -37,9 +37,9 @@ returns-then-count-eq-MOST_MEMBERS c =
 pub loop-row-preserved : goal.loop-row-preserved
 loop-row-preserved c =
     let so = c.loop-row.invariant in
-    let rows = entries_left c.into_iter-row-iterator.result in
+    let rows = rows_left c.into_iter-row-iterator.result in
     let here = so.others ∙ c.in-Some.ensures.steps in
-    let rest = entries_left c.next.new.self in
+    let rest = rows_left c.next.new.self in
     let row = row_member c.in-Some.row in
     record {
       few = omega arith;
@@ -53,8 +53,8 @@ loop-row-preserved c =
 pub returns : goal.returns
 returns c =
     let so = c.loop-row.invariant in
-    let rows = entries_left c.into_iter-row-iterator.result in
-    let whole = ap entries_left c.into_iter-row-iterator.ensures.into_iter_gives ∙ c.members-row-items.ensures in
+    let rows = rows_left c.into_iter-row-iterator.result in
+    let whole = ap rows_left c.into_iter-row-iterator.ensures.into_iter_gives ∙ c.members-row-items.ensures in
     let left = so.others ∙ c.in-None.ensures.steps.0 in
     record {
       value = rows_all rows c.loop-row.count so.few so.within left ∙ ap collected_of whole;

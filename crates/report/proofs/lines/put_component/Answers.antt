@@ -1,39 +1,36 @@
--- `put_component` writes the name and the two numbers one behind the other; what is still to come is the line from the next
--- one on.
-use mathlib.Core.Path.{refl, sym}
-use mathlib.Core.List.{[], ◌++◌, append-nil}
-use Rattle.prelude.proofs.Writing as writing
-use Rattle.prelude.proofs.Writing.{Writing, begin, put_part, room_part}
-use Rattle.headers.specs.Answers.{place_of}
-use Rattle.report.specs.Text.{decimal, space, line_feed, ended}
-use Rattle.report.specs.Report.{component_line}
+-- `put_component` writes the name and the two numbers one behind the other.
+use mathlib.Core.List.{List, [], ◌∷◌}
+use Prim.Native.Nat.{ℕ}
+use native.Mathlib.Omega.{arith}
+use Rattle.prelude.specs.declared.Place.{Place}
+use Rattle.report.specs.Text as Text
+use Rattle.report.specs.Text.{decimal, space, line_feed}
+use Rattle.report.proofs.Parts.{start, fits, step, done}
 use Rattle.report.proofs.lines.put_component.Goals as goal
+
+abbrev parts : List ℕ → Place → List (List ℕ)
+parts name place =
+    Text.ended name space ∷ Text.ended (decimal place.start) space ∷ Text.ended (decimal place.len) line_feed ∷ []
 
 pub put_word-a-requires : goal.put_word-a-requires
 put_word-a-requires c =
-    let at-start : (Writing c.args.at (component_line c.args.name.now (place_of c.args.place)) c.args.out.now ((ended c.args.name.now space) ++ ((ended (decimal c.args.place.start) space) ++ (ended (decimal c.args.place.len) line_feed))) c.args.at c.args.out.now) = begin c.args.at _ c.args.out.now c.requires in
-    room_part ((ended c.args.name.now space)) ((ended (decimal c.args.place.start) space) ++ (ended (decimal c.args.place.len) line_feed)) refl (at-start)
+    fits (start c.args.at (parts c.args.name.now c.args.place) c.args.out.now c.requires) (omega arith)
 
 pub put_number-b-requires : goal.put_number-b-requires
 put_number-b-requires c =
-    let at-start : (Writing c.args.at (component_line c.args.name.now (place_of c.args.place)) c.args.out.now ((ended c.args.name.now space) ++ ((ended (decimal c.args.place.start) space) ++ (ended (decimal c.args.place.len) line_feed))) c.args.at c.args.out.now) = begin c.args.at _ c.args.out.now c.requires in
-    let behind-name : (Writing c.args.at (component_line c.args.name.now (place_of c.args.place)) c.args.out.now ((ended (decimal c.args.place.start) space) ++ (ended (decimal c.args.place.len) line_feed)) c.put_word-a.result c.put_word-a.new.out) = put_part ((ended c.args.name.now space)) ((ended (decimal c.args.place.start) space) ++ (ended (decimal c.args.place.len) line_feed)) refl (at-start) c.put_word-a.ensures.value c.put_word-a.ensures.out_after in
-    room_part ((ended (decimal c.args.place.start) space)) ((ended (decimal c.args.place.len) line_feed)) refl (behind-name)
+    fits (step (start c.args.at (parts c.args.name.now c.args.place) c.args.out.now c.requires) (omega arith)
+    c.put_word-a.ensures.value c.put_word-a.ensures.out_after) (omega arith)
 
 pub put_number-requires : goal.put_number-requires
 put_number-requires c =
-    let at-start : (Writing c.args.at (component_line c.args.name.now (place_of c.args.place)) c.args.out.now ((ended c.args.name.now space) ++ ((ended (decimal c.args.place.start) space) ++ (ended (decimal c.args.place.len) line_feed))) c.args.at c.args.out.now) = begin c.args.at _ c.args.out.now c.requires in
-    let behind-name : (Writing c.args.at (component_line c.args.name.now (place_of c.args.place)) c.args.out.now ((ended (decimal c.args.place.start) space) ++ (ended (decimal c.args.place.len) line_feed)) c.put_word-a.result c.put_word-a.new.out) = put_part ((ended c.args.name.now space)) ((ended (decimal c.args.place.start) space) ++ (ended (decimal c.args.place.len) line_feed)) refl (at-start) c.put_word-a.ensures.value c.put_word-a.ensures.out_after in
-    let behind-first : (Writing c.args.at (component_line c.args.name.now (place_of c.args.place)) c.args.out.now ((ended (decimal c.args.place.len) line_feed)) c.put_number-b.result c.put_number-b.new.out) = put_part ((ended (decimal c.args.place.start) space)) ((ended (decimal c.args.place.len) line_feed)) refl (behind-name) c.put_number-b.ensures.value
-    c.put_number-b.ensures.out_after in
-    room_part ((ended (decimal c.args.place.len) line_feed)) [] (sym (append-nil ((ended (decimal c.args.place.len) line_feed)))) (behind-first)
+    fits (step (step (start c.args.at (parts c.args.name.now c.args.place) c.args.out.now c.requires) (omega arith)
+    c.put_word-a.ensures.value c.put_word-a.ensures.out_after) (omega arith)
+    c.put_number-b.ensures.value c.put_number-b.ensures.out_after) (omega arith)
 
 pub returns : goal.returns
 returns c =
-    let at-start : (Writing c.args.at (component_line c.args.name.now (place_of c.args.place)) c.args.out.now ((ended c.args.name.now space) ++ ((ended (decimal c.args.place.start) space) ++ (ended (decimal c.args.place.len) line_feed))) c.args.at c.args.out.now) = begin c.args.at _ c.args.out.now c.requires in
-    let behind-name : (Writing c.args.at (component_line c.args.name.now (place_of c.args.place)) c.args.out.now ((ended (decimal c.args.place.start) space) ++ (ended (decimal c.args.place.len) line_feed)) c.put_word-a.result c.put_word-a.new.out) = put_part ((ended c.args.name.now space)) ((ended (decimal c.args.place.start) space) ++ (ended (decimal c.args.place.len) line_feed)) refl (at-start) c.put_word-a.ensures.value c.put_word-a.ensures.out_after in
-    let behind-first : (Writing c.args.at (component_line c.args.name.now (place_of c.args.place)) c.args.out.now ((ended (decimal c.args.place.len) line_feed)) c.put_number-b.result c.put_number-b.new.out) = put_part ((ended (decimal c.args.place.start) space)) ((ended (decimal c.args.place.len) line_feed)) refl (behind-name) c.put_number-b.ensures.value
-    c.put_number-b.ensures.out_after in
-    let both = writing.ended (put_part ((ended (decimal c.args.place.len) line_feed)) [] (sym (append-nil ((ended (decimal c.args.place.len) line_feed)))) (behind-first) c.put_number.ensures.value
-    c.put_number.ensures.out_after) in
-    record { value = both.0; out_after = both.1 }
+    let all = done (step (step (step (start c.args.at (parts c.args.name.now c.args.place) c.args.out.now c.requires) (omega arith)
+    c.put_word-a.ensures.value c.put_word-a.ensures.out_after) (omega arith)
+    c.put_number-b.ensures.value c.put_number-b.ensures.out_after) (omega arith)
+    c.put_number.ensures.value c.put_number.ensures.out_after) (omega arith) in
+    record { value = all.0; out_after = all.1 }

@@ -1,59 +1,60 @@
--- `put_first` writes one word behind the other; what is still to come is the line from the next one on.
-use mathlib.Core.Path.{refl, sym}
-use mathlib.Core.List.{[], ◌++◌, append-nil}
-use Prim.Native.Nat.{◌+◌}
+-- `put_first` writes one word behind the other.
+use mathlib.Core.List.{List, [], ◌∷◌}
+use Prim.Native.Nat.{ℕ, ◌+◌}
 use native.Mathlib.Omega.{arith}
-use Rattle.prelude.proofs.Writing as writing
-use Rattle.prelude.proofs.Writing.{Writing, begin, put_part, room_part}
 use Rattle.prelude.specs.Ascii.{ascii}
 use Rattle.report.specs.Text as Text
-use Rattle.report.specs.Text.{decimal, space, line_feed, ended}
-use Rattle.report.specs.Report.{forms, modes, first_line}
+use Rattle.report.specs.Text.{decimal, space, line_feed}
+use Rattle.report.specs.Report.{forms, modes}
+use Rattle.report.proofs.Parts.{start, fits, step, done}
 use Rattle.report.proofs.lines.put_first.Goals as goal
 
+abbrev parts : ℕ → ℕ → ℕ → List (List ℕ)
+parts form count mode =
+    Text.ended (ascii "accepted") space
+    ∷ Text.ended (Text.word (form + 1) forms) space
+    ∷ Text.ended (decimal count) space
+    ∷ Text.ended (Text.word mode modes) line_feed
+    ∷ []
+
 pub put_word-a-requires : goal.put_word-a-requires
-unfolding ascii
+unfolding ascii forms modes
 put_word-a-requires c =
-    let at-start : (Writing c.args.at (first_line c.args.form c.args.count c.args.mode) c.args.out.now ((ended (ascii "accepted") space) ++ (((ended (Text.word (c.args.form + 1) forms) space) ++ ((ended (decimal c.args.count) space) ++ (ended (Text.word c.args.mode modes) line_feed))))) c.args.at c.args.out.now) = begin c.args.at _ c.args.out.now c.requires in
-    room_part ((ended (ascii "accepted") space)) (((ended (Text.word (c.args.form + 1) forms) space) ++ ((ended (decimal c.args.count) space) ++ (ended (Text.word c.args.mode modes) line_feed)))) refl (at-start)
+    fits (start c.args.at (parts c.args.form c.args.count c.args.mode) c.args.out.now c.requires) (omega arith)
 
 pub put_named-b-requires : goal.put_named-b-requires
-unfolding forms ascii
+unfolding ascii forms modes
 put_named-b-requires c =
-    let at-start : (Writing c.args.at (first_line c.args.form c.args.count c.args.mode) c.args.out.now ((ended (ascii "accepted") space) ++ (((ended (Text.word (c.args.form + 1) forms) space) ++ ((ended (decimal c.args.count) space) ++ (ended (Text.word c.args.mode modes) line_feed))))) c.args.at c.args.out.now) = begin c.args.at _ c.args.out.now c.requires in
-    let behind-accepted : (Writing c.args.at (first_line c.args.form c.args.count c.args.mode) c.args.out.now (((ended (Text.word (c.args.form + 1) forms) space) ++ ((ended (decimal c.args.count) space) ++ (ended (Text.word c.args.mode modes) line_feed)))) c.put_word-a.result c.put_word-a.new.out) = put_part ((ended (ascii "accepted") space)) (((ended (Text.word (c.args.form + 1) forms) space) ++ ((ended (decimal c.args.count) space) ++ (ended (Text.word c.args.mode modes) line_feed)))) refl (at-start) c.put_word-a.ensures.value c.put_word-a.ensures.out_after in
     record {
       bound = omega arith;
-      end_in_bounds = room_part ((ended (Text.word (c.args.form + 1) forms) space)) (((ended (decimal c.args.count) space) ++ (ended (Text.word c.args.mode modes) line_feed))) refl (behind-accepted);
+      end_in_bounds = fits (step (start c.args.at (parts c.args.form c.args.count c.args.mode) c.args.out.now c.requires) (omega arith)
+          c.put_word-a.ensures.value c.put_word-a.ensures.out_after) (omega arith);
     }
 
 pub put_number-c-requires : goal.put_number-c-requires
-unfolding ascii forms
+unfolding ascii forms modes
 put_number-c-requires c =
-    let at-start : (Writing c.args.at (first_line c.args.form c.args.count c.args.mode) c.args.out.now ((ended (ascii "accepted") space) ++ (((ended (Text.word (c.args.form + 1) forms) space) ++ ((ended (decimal c.args.count) space) ++ (ended (Text.word c.args.mode modes) line_feed))))) c.args.at c.args.out.now) = begin c.args.at _ c.args.out.now c.requires in
-    let behind-accepted : (Writing c.args.at (first_line c.args.form c.args.count c.args.mode) c.args.out.now (((ended (Text.word (c.args.form + 1) forms) space) ++ ((ended (decimal c.args.count) space) ++ (ended (Text.word c.args.mode modes) line_feed)))) c.put_word-a.result c.put_word-a.new.out) = put_part ((ended (ascii "accepted") space)) (((ended (Text.word (c.args.form + 1) forms) space) ++ ((ended (decimal c.args.count) space) ++ (ended (Text.word c.args.mode modes) line_feed)))) refl (at-start) c.put_word-a.ensures.value c.put_word-a.ensures.out_after in
-    let behind-form : (Writing c.args.at (first_line c.args.form c.args.count c.args.mode) c.args.out.now (((ended (decimal c.args.count) space) ++ (ended (Text.word c.args.mode modes) line_feed))) c.put_named-b.result c.put_named-b.new.out) = put_part ((ended (Text.word (c.args.form + 1) forms) space)) (((ended (decimal c.args.count) space) ++ (ended (Text.word c.args.mode modes) line_feed))) refl (behind-accepted) c.put_named-b.ensures.value c.put_named-b.ensures.out_after in
-    room_part ((ended (decimal c.args.count) space)) ((ended (Text.word c.args.mode modes) line_feed)) refl (behind-form)
+    fits (step (step (start c.args.at (parts c.args.form c.args.count c.args.mode) c.args.out.now c.requires) (omega arith)
+    c.put_word-a.ensures.value c.put_word-a.ensures.out_after) (omega arith)
+    c.put_named-b.ensures.value c.put_named-b.ensures.out_after) (omega arith)
 
 pub put_named-requires : goal.put_named-requires
-unfolding modes ascii forms
+unfolding ascii forms modes
 put_named-requires c =
-    let at-start : (Writing c.args.at (first_line c.args.form c.args.count c.args.mode) c.args.out.now ((ended (ascii "accepted") space) ++ (((ended (Text.word (c.args.form + 1) forms) space) ++ ((ended (decimal c.args.count) space) ++ (ended (Text.word c.args.mode modes) line_feed))))) c.args.at c.args.out.now) = begin c.args.at _ c.args.out.now c.requires in
-    let behind-accepted : (Writing c.args.at (first_line c.args.form c.args.count c.args.mode) c.args.out.now (((ended (Text.word (c.args.form + 1) forms) space) ++ ((ended (decimal c.args.count) space) ++ (ended (Text.word c.args.mode modes) line_feed)))) c.put_word-a.result c.put_word-a.new.out) = put_part ((ended (ascii "accepted") space)) (((ended (Text.word (c.args.form + 1) forms) space) ++ ((ended (decimal c.args.count) space) ++ (ended (Text.word c.args.mode modes) line_feed)))) refl (at-start) c.put_word-a.ensures.value c.put_word-a.ensures.out_after in
-    let behind-form : (Writing c.args.at (first_line c.args.form c.args.count c.args.mode) c.args.out.now (((ended (decimal c.args.count) space) ++ (ended (Text.word c.args.mode modes) line_feed))) c.put_named-b.result c.put_named-b.new.out) = put_part ((ended (Text.word (c.args.form + 1) forms) space)) (((ended (decimal c.args.count) space) ++ (ended (Text.word c.args.mode modes) line_feed))) refl (behind-accepted) c.put_named-b.ensures.value c.put_named-b.ensures.out_after in
-    let behind-count : (Writing c.args.at (first_line c.args.form c.args.count c.args.mode) c.args.out.now ((ended (Text.word c.args.mode modes) line_feed)) c.put_number-c.result c.put_number-c.new.out) = put_part ((ended (decimal c.args.count) space)) ((ended (Text.word c.args.mode modes) line_feed)) refl (behind-form) c.put_number-c.ensures.value c.put_number-c.ensures.out_after in
     record {
       bound = omega arith;
-      end_in_bounds = room_part ((ended (Text.word c.args.mode modes) line_feed)) [] (sym (append-nil ((ended (Text.word c.args.mode modes) line_feed)))) (behind-count);
+      end_in_bounds = fits (step (step (step (start c.args.at (parts c.args.form c.args.count c.args.mode) c.args.out.now c.requires) (omega arith)
+          c.put_word-a.ensures.value c.put_word-a.ensures.out_after) (omega arith)
+          c.put_named-b.ensures.value c.put_named-b.ensures.out_after) (omega arith)
+          c.put_number-c.ensures.value c.put_number-c.ensures.out_after) (omega arith);
     }
 
 pub returns : goal.returns
-unfolding modes ascii forms
+unfolding ascii forms modes
 returns c =
-    let at-start : (Writing c.args.at (first_line c.args.form c.args.count c.args.mode) c.args.out.now ((ended (ascii "accepted") space) ++ (((ended (Text.word (c.args.form + 1) forms) space) ++ ((ended (decimal c.args.count) space) ++ (ended (Text.word c.args.mode modes) line_feed))))) c.args.at c.args.out.now) = begin c.args.at _ c.args.out.now c.requires in
-    let behind-accepted : (Writing c.args.at (first_line c.args.form c.args.count c.args.mode) c.args.out.now (((ended (Text.word (c.args.form + 1) forms) space) ++ ((ended (decimal c.args.count) space) ++ (ended (Text.word c.args.mode modes) line_feed)))) c.put_word-a.result c.put_word-a.new.out) = put_part ((ended (ascii "accepted") space)) (((ended (Text.word (c.args.form + 1) forms) space) ++ ((ended (decimal c.args.count) space) ++ (ended (Text.word c.args.mode modes) line_feed)))) refl (at-start) c.put_word-a.ensures.value c.put_word-a.ensures.out_after in
-    let behind-form : (Writing c.args.at (first_line c.args.form c.args.count c.args.mode) c.args.out.now (((ended (decimal c.args.count) space) ++ (ended (Text.word c.args.mode modes) line_feed))) c.put_named-b.result c.put_named-b.new.out) = put_part ((ended (Text.word (c.args.form + 1) forms) space)) (((ended (decimal c.args.count) space) ++ (ended (Text.word c.args.mode modes) line_feed))) refl (behind-accepted) c.put_named-b.ensures.value c.put_named-b.ensures.out_after in
-    let behind-count : (Writing c.args.at (first_line c.args.form c.args.count c.args.mode) c.args.out.now ((ended (Text.word c.args.mode modes) line_feed)) c.put_number-c.result c.put_number-c.new.out) = put_part ((ended (decimal c.args.count) space)) ((ended (Text.word c.args.mode modes) line_feed)) refl (behind-form) c.put_number-c.ensures.value c.put_number-c.ensures.out_after in
-    let both = writing.ended (put_part ((ended (Text.word c.args.mode modes) line_feed)) [] (sym (append-nil ((ended (Text.word c.args.mode modes) line_feed)))) (behind-count)
-    c.put_named.ensures.value c.put_named.ensures.out_after) in
-    record { value = both.0; out_after = both.1 }
+    let all = done (step (step (step (step (start c.args.at (parts c.args.form c.args.count c.args.mode) c.args.out.now c.requires) (omega arith)
+    c.put_word-a.ensures.value c.put_word-a.ensures.out_after) (omega arith)
+    c.put_named-b.ensures.value c.put_named-b.ensures.out_after) (omega arith)
+    c.put_number-c.ensures.value c.put_number-c.ensures.out_after) (omega arith)
+    c.put_named.ensures.value c.put_named.ensures.out_after) (omega arith) in
+    record { value = all.0; out_after = all.1 }

@@ -1,107 +1,84 @@
--- `put_parameter` writes one word behind the other; what is still to come is the line from the next one on.
-use mathlib.Core.Path.{refl, sym}
-use mathlib.Core.List.{[], ◌++◌, append-nil}
-use Prim.Native.Nat.{◌+◌}
+-- `put_parameter` writes one word behind the other.
+use mathlib.Core.List.{List, [], ◌∷◌}
+use Prim.Native.Nat.{ℕ, ◌+◌}
 use native.Mathlib.Omega.{arith}
 use lib.ListN.{get_or}
-use Rattle.prelude.proofs.Writing as writing
-use Rattle.prelude.proofs.Writing.{Writing, begin, put_part, room_part}
 use Rattle.prelude.specs.Ascii.{ascii}
-use Rattle.rows.specs.Tables.{first_of}
-use Rattle.report.specs.Text.{decimal, word, space, line_feed, ended}
-use Rattle.report.specs.Report.{origins, kinds, parameter_line}
+use Rattle.report.specs.Text as Text
+use Rattle.report.specs.Text.{decimal, space, line_feed}
+use Rattle.report.specs.Report.{origins, kinds}
+use Rattle.report.proofs.Parts.{start, fits, step, done}
 use Rattle.report.proofs.lines.put_parameter.Goals as goal
 
-pub overflow_cast-row : goal.overflow_cast-row
-overflow_cast-row c = omega (arith, c.shared_slice_known-2-1.given 0)
-
-pub overflow_add-row : goal.overflow_add-row
-overflow_add-row c = omega (arith, c.shared_slice_known-2-1.given 0)
+abbrev parts : List ℕ → List (List ℕ)
+parts row =
+    Text.ended (Text.word (get_or row 0 0 + 1) origins) space
+    ∷ Text.ended (decimal (get_or row 1 0)) space
+    ∷ Text.ended (decimal (get_or row 2 0)) space
+    ∷ Text.ended (decimal (get_or row 3 0)) space
+    ∷ Text.ended (decimal (get_or row 4 0)) space
+    ∷ Text.ended (Text.word (get_or row 5 0 + 1) kinds) line_feed
+    ∷ []
 
 pub put_named-a-requires : goal.put_named-a-requires
-unfolding origins ascii
+unfolding ascii origins kinds
 put_named-a-requires c =
-    let at-start : (Writing c.args.at (parameter_line (first_of c.args.row.now)) c.args.out.now ((ended (word (get_or c.args.row.now 0 0 + 1) origins) space) ++ (((ended (decimal (get_or c.args.row.now 1 0)) space) ++ ((ended (decimal (get_or c.args.row.now 2 0)) space) ++ ((ended (decimal (get_or c.args.row.now 3 0)) space) ++ ((ended (decimal (get_or c.args.row.now 4 0)) space) ++ (ended (word (get_or c.args.row.now 5 0 + 1) kinds) line_feed))))))) c.args.at c.args.out.now) = begin c.args.at _ c.args.out.now c.requires.row_in_bounds in
     record {
       bound = omega arith;
-      end_in_bounds = room_part ((ended (word (get_or c.args.row.now 0 0 + 1) origins) space)) (((ended (decimal (get_or c.args.row.now 1 0)) space) ++ ((ended (decimal (get_or c.args.row.now 2 0)) space) ++ ((ended (decimal (get_or c.args.row.now 3 0)) space) ++ ((ended (decimal (get_or c.args.row.now 4 0)) space) ++ (ended (word (get_or c.args.row.now 5 0 + 1) kinds) line_feed)))))) refl (at-start);
+      end_in_bounds = fits (start c.args.at (parts c.args.row.now) c.args.out.now c.requires.row_in_bounds) (omega arith);
     }
 
-pub overflow_cast-row-2 : goal.overflow_cast-row-2
-overflow_cast-row-2 c = omega (arith, c.shared_slice_known-3-1.given 1)
-
 pub put_number-b-requires : goal.put_number-b-requires
-unfolding origins ascii
+unfolding ascii origins kinds
 put_number-b-requires c =
-    let at-start : (Writing c.args.at (parameter_line (first_of c.args.row.now)) c.args.out.now ((ended (word (get_or c.args.row.now 0 0 + 1) origins) space) ++ (((ended (decimal (get_or c.args.row.now 1 0)) space) ++ ((ended (decimal (get_or c.args.row.now 2 0)) space) ++ ((ended (decimal (get_or c.args.row.now 3 0)) space) ++ ((ended (decimal (get_or c.args.row.now 4 0)) space) ++ (ended (word (get_or c.args.row.now 5 0 + 1) kinds) line_feed))))))) c.args.at c.args.out.now) = begin c.args.at _ c.args.out.now c.requires.row_in_bounds in
-    let behind-origin : (Writing c.args.at (parameter_line (first_of c.args.row.now)) c.args.out.now (((ended (decimal (get_or c.args.row.now 1 0)) space) ++ ((ended (decimal (get_or c.args.row.now 2 0)) space) ++ ((ended (decimal (get_or c.args.row.now 3 0)) space) ++ ((ended (decimal (get_or c.args.row.now 4 0)) space) ++ (ended (word (get_or c.args.row.now 5 0 + 1) kinds) line_feed)))))) c.put_named-a.result c.put_named-a.new.out) = put_part ((ended (word (get_or c.args.row.now 0 0 + 1) origins) space)) (((ended (decimal (get_or c.args.row.now 1 0)) space) ++ ((ended (decimal (get_or c.args.row.now 2 0)) space) ++ ((ended (decimal (get_or c.args.row.now 3 0)) space) ++ ((ended (decimal (get_or c.args.row.now 4 0)) space) ++ (ended (word (get_or c.args.row.now 5 0 + 1) kinds) line_feed)))))) refl (at-start) c.put_named-a.ensures.value c.put_named-a.ensures.out_after in
-    room_part ((ended (decimal (get_or c.args.row.now 1 0)) space)) (((ended (decimal (get_or c.args.row.now 2 0)) space) ++ ((ended (decimal (get_or c.args.row.now 3 0)) space) ++ ((ended (decimal (get_or c.args.row.now 4 0)) space) ++ (ended (word (get_or c.args.row.now 5 0 + 1) kinds) line_feed))))) refl (behind-origin)
-
-pub overflow_cast-row-3 : goal.overflow_cast-row-3
-overflow_cast-row-3 c = omega (arith, c.shared_slice_known-4-1.given 2)
+    fits (step (start c.args.at (parts c.args.row.now) c.args.out.now c.requires.row_in_bounds) (omega arith)
+    c.put_named-a.ensures.value c.put_named-a.ensures.out_after) (omega arith)
 
 pub put_number-c-requires : goal.put_number-c-requires
-unfolding origins ascii
+unfolding ascii origins kinds
 put_number-c-requires c =
-    let at-start : (Writing c.args.at (parameter_line (first_of c.args.row.now)) c.args.out.now ((ended (word (get_or c.args.row.now 0 0 + 1) origins) space) ++ (((ended (decimal (get_or c.args.row.now 1 0)) space) ++ ((ended (decimal (get_or c.args.row.now 2 0)) space) ++ ((ended (decimal (get_or c.args.row.now 3 0)) space) ++ ((ended (decimal (get_or c.args.row.now 4 0)) space) ++ (ended (word (get_or c.args.row.now 5 0 + 1) kinds) line_feed))))))) c.args.at c.args.out.now) = begin c.args.at _ c.args.out.now c.requires.row_in_bounds in
-    let behind-origin : (Writing c.args.at (parameter_line (first_of c.args.row.now)) c.args.out.now (((ended (decimal (get_or c.args.row.now 1 0)) space) ++ ((ended (decimal (get_or c.args.row.now 2 0)) space) ++ ((ended (decimal (get_or c.args.row.now 3 0)) space) ++ ((ended (decimal (get_or c.args.row.now 4 0)) space) ++ (ended (word (get_or c.args.row.now 5 0 + 1) kinds) line_feed)))))) c.put_named-a.result c.put_named-a.new.out) = put_part ((ended (word (get_or c.args.row.now 0 0 + 1) origins) space)) (((ended (decimal (get_or c.args.row.now 1 0)) space) ++ ((ended (decimal (get_or c.args.row.now 2 0)) space) ++ ((ended (decimal (get_or c.args.row.now 3 0)) space) ++ ((ended (decimal (get_or c.args.row.now 4 0)) space) ++ (ended (word (get_or c.args.row.now 5 0 + 1) kinds) line_feed)))))) refl (at-start) c.put_named-a.ensures.value c.put_named-a.ensures.out_after in
-    let behind-name-start : (Writing c.args.at (parameter_line (first_of c.args.row.now)) c.args.out.now (((ended (decimal (get_or c.args.row.now 2 0)) space) ++ ((ended (decimal (get_or c.args.row.now 3 0)) space) ++ ((ended (decimal (get_or c.args.row.now 4 0)) space) ++ (ended (word (get_or c.args.row.now 5 0 + 1) kinds) line_feed))))) c.put_number-b.result c.put_number-b.new.out) = put_part ((ended (decimal (get_or c.args.row.now 1 0)) space)) (((ended (decimal (get_or c.args.row.now 2 0)) space) ++ ((ended (decimal (get_or c.args.row.now 3 0)) space) ++ ((ended (decimal (get_or c.args.row.now 4 0)) space) ++ (ended (word (get_or c.args.row.now 5 0 + 1) kinds) line_feed))))) refl (behind-origin) c.put_number-b.ensures.value c.put_number-b.ensures.out_after in
-    room_part ((ended (decimal (get_or c.args.row.now 2 0)) space)) (((ended (decimal (get_or c.args.row.now 3 0)) space) ++ ((ended (decimal (get_or c.args.row.now 4 0)) space) ++ (ended (word (get_or c.args.row.now 5 0 + 1) kinds) line_feed)))) refl (behind-name-start)
-
-pub overflow_cast-row-4 : goal.overflow_cast-row-4
-overflow_cast-row-4 c = omega (arith, c.shared_slice_known-5-1.given 3)
+    fits (step (step (start c.args.at (parts c.args.row.now) c.args.out.now c.requires.row_in_bounds) (omega arith)
+    c.put_named-a.ensures.value c.put_named-a.ensures.out_after) (omega arith)
+    c.put_number-b.ensures.value c.put_number-b.ensures.out_after) (omega arith)
 
 pub put_number-d-requires : goal.put_number-d-requires
-unfolding origins ascii
+unfolding ascii origins kinds
 put_number-d-requires c =
-    let at-start : (Writing c.args.at (parameter_line (first_of c.args.row.now)) c.args.out.now ((ended (word (get_or c.args.row.now 0 0 + 1) origins) space) ++ (((ended (decimal (get_or c.args.row.now 1 0)) space) ++ ((ended (decimal (get_or c.args.row.now 2 0)) space) ++ ((ended (decimal (get_or c.args.row.now 3 0)) space) ++ ((ended (decimal (get_or c.args.row.now 4 0)) space) ++ (ended (word (get_or c.args.row.now 5 0 + 1) kinds) line_feed))))))) c.args.at c.args.out.now) = begin c.args.at _ c.args.out.now c.requires.row_in_bounds in
-    let behind-origin : (Writing c.args.at (parameter_line (first_of c.args.row.now)) c.args.out.now (((ended (decimal (get_or c.args.row.now 1 0)) space) ++ ((ended (decimal (get_or c.args.row.now 2 0)) space) ++ ((ended (decimal (get_or c.args.row.now 3 0)) space) ++ ((ended (decimal (get_or c.args.row.now 4 0)) space) ++ (ended (word (get_or c.args.row.now 5 0 + 1) kinds) line_feed)))))) c.put_named-a.result c.put_named-a.new.out) = put_part ((ended (word (get_or c.args.row.now 0 0 + 1) origins) space)) (((ended (decimal (get_or c.args.row.now 1 0)) space) ++ ((ended (decimal (get_or c.args.row.now 2 0)) space) ++ ((ended (decimal (get_or c.args.row.now 3 0)) space) ++ ((ended (decimal (get_or c.args.row.now 4 0)) space) ++ (ended (word (get_or c.args.row.now 5 0 + 1) kinds) line_feed)))))) refl (at-start) c.put_named-a.ensures.value c.put_named-a.ensures.out_after in
-    let behind-name-start : (Writing c.args.at (parameter_line (first_of c.args.row.now)) c.args.out.now (((ended (decimal (get_or c.args.row.now 2 0)) space) ++ ((ended (decimal (get_or c.args.row.now 3 0)) space) ++ ((ended (decimal (get_or c.args.row.now 4 0)) space) ++ (ended (word (get_or c.args.row.now 5 0 + 1) kinds) line_feed))))) c.put_number-b.result c.put_number-b.new.out) = put_part ((ended (decimal (get_or c.args.row.now 1 0)) space)) (((ended (decimal (get_or c.args.row.now 2 0)) space) ++ ((ended (decimal (get_or c.args.row.now 3 0)) space) ++ ((ended (decimal (get_or c.args.row.now 4 0)) space) ++ (ended (word (get_or c.args.row.now 5 0 + 1) kinds) line_feed))))) refl (behind-origin) c.put_number-b.ensures.value c.put_number-b.ensures.out_after in
-    let behind-name-size : (Writing c.args.at (parameter_line (first_of c.args.row.now)) c.args.out.now (((ended (decimal (get_or c.args.row.now 3 0)) space) ++ ((ended (decimal (get_or c.args.row.now 4 0)) space) ++ (ended (word (get_or c.args.row.now 5 0 + 1) kinds) line_feed)))) c.put_number-c.result c.put_number-c.new.out) = put_part ((ended (decimal (get_or c.args.row.now 2 0)) space)) (((ended (decimal (get_or c.args.row.now 3 0)) space) ++ ((ended (decimal (get_or c.args.row.now 4 0)) space) ++ (ended (word (get_or c.args.row.now 5 0 + 1) kinds) line_feed)))) refl (behind-name-start) c.put_number-c.ensures.value c.put_number-c.ensures.out_after in
-    room_part ((ended (decimal (get_or c.args.row.now 3 0)) space)) (((ended (decimal (get_or c.args.row.now 4 0)) space) ++ (ended (word (get_or c.args.row.now 5 0 + 1) kinds) line_feed))) refl (behind-name-size)
-
-pub overflow_cast-row-5 : goal.overflow_cast-row-5
-overflow_cast-row-5 c = omega (arith, c.shared_slice_known-6-1.given 4)
+    fits (step (step (step (start c.args.at (parts c.args.row.now) c.args.out.now c.requires.row_in_bounds) (omega arith)
+    c.put_named-a.ensures.value c.put_named-a.ensures.out_after) (omega arith)
+    c.put_number-b.ensures.value c.put_number-b.ensures.out_after) (omega arith)
+    c.put_number-c.ensures.value c.put_number-c.ensures.out_after) (omega arith)
 
 pub put_number-e-requires : goal.put_number-e-requires
-unfolding origins ascii
+unfolding ascii origins kinds
 put_number-e-requires c =
-    let at-start : (Writing c.args.at (parameter_line (first_of c.args.row.now)) c.args.out.now ((ended (word (get_or c.args.row.now 0 0 + 1) origins) space) ++ (((ended (decimal (get_or c.args.row.now 1 0)) space) ++ ((ended (decimal (get_or c.args.row.now 2 0)) space) ++ ((ended (decimal (get_or c.args.row.now 3 0)) space) ++ ((ended (decimal (get_or c.args.row.now 4 0)) space) ++ (ended (word (get_or c.args.row.now 5 0 + 1) kinds) line_feed))))))) c.args.at c.args.out.now) = begin c.args.at _ c.args.out.now c.requires.row_in_bounds in
-    let behind-origin : (Writing c.args.at (parameter_line (first_of c.args.row.now)) c.args.out.now (((ended (decimal (get_or c.args.row.now 1 0)) space) ++ ((ended (decimal (get_or c.args.row.now 2 0)) space) ++ ((ended (decimal (get_or c.args.row.now 3 0)) space) ++ ((ended (decimal (get_or c.args.row.now 4 0)) space) ++ (ended (word (get_or c.args.row.now 5 0 + 1) kinds) line_feed)))))) c.put_named-a.result c.put_named-a.new.out) = put_part ((ended (word (get_or c.args.row.now 0 0 + 1) origins) space)) (((ended (decimal (get_or c.args.row.now 1 0)) space) ++ ((ended (decimal (get_or c.args.row.now 2 0)) space) ++ ((ended (decimal (get_or c.args.row.now 3 0)) space) ++ ((ended (decimal (get_or c.args.row.now 4 0)) space) ++ (ended (word (get_or c.args.row.now 5 0 + 1) kinds) line_feed)))))) refl (at-start) c.put_named-a.ensures.value c.put_named-a.ensures.out_after in
-    let behind-name-start : (Writing c.args.at (parameter_line (first_of c.args.row.now)) c.args.out.now (((ended (decimal (get_or c.args.row.now 2 0)) space) ++ ((ended (decimal (get_or c.args.row.now 3 0)) space) ++ ((ended (decimal (get_or c.args.row.now 4 0)) space) ++ (ended (word (get_or c.args.row.now 5 0 + 1) kinds) line_feed))))) c.put_number-b.result c.put_number-b.new.out) = put_part ((ended (decimal (get_or c.args.row.now 1 0)) space)) (((ended (decimal (get_or c.args.row.now 2 0)) space) ++ ((ended (decimal (get_or c.args.row.now 3 0)) space) ++ ((ended (decimal (get_or c.args.row.now 4 0)) space) ++ (ended (word (get_or c.args.row.now 5 0 + 1) kinds) line_feed))))) refl (behind-origin) c.put_number-b.ensures.value c.put_number-b.ensures.out_after in
-    let behind-name-size : (Writing c.args.at (parameter_line (first_of c.args.row.now)) c.args.out.now (((ended (decimal (get_or c.args.row.now 3 0)) space) ++ ((ended (decimal (get_or c.args.row.now 4 0)) space) ++ (ended (word (get_or c.args.row.now 5 0 + 1) kinds) line_feed)))) c.put_number-c.result c.put_number-c.new.out) = put_part ((ended (decimal (get_or c.args.row.now 2 0)) space)) (((ended (decimal (get_or c.args.row.now 3 0)) space) ++ ((ended (decimal (get_or c.args.row.now 4 0)) space) ++ (ended (word (get_or c.args.row.now 5 0 + 1) kinds) line_feed)))) refl (behind-name-start) c.put_number-c.ensures.value c.put_number-c.ensures.out_after in
-    let behind-value-start : (Writing c.args.at (parameter_line (first_of c.args.row.now)) c.args.out.now (((ended (decimal (get_or c.args.row.now 4 0)) space) ++ (ended (word (get_or c.args.row.now 5 0 + 1) kinds) line_feed))) c.put_number-d.result c.put_number-d.new.out) = put_part ((ended (decimal (get_or c.args.row.now 3 0)) space)) (((ended (decimal (get_or c.args.row.now 4 0)) space) ++ (ended (word (get_or c.args.row.now 5 0 + 1) kinds) line_feed))) refl (behind-name-size) c.put_number-d.ensures.value c.put_number-d.ensures.out_after in
-    room_part ((ended (decimal (get_or c.args.row.now 4 0)) space)) ((ended (word (get_or c.args.row.now 5 0 + 1) kinds) line_feed)) refl (behind-value-start)
-
-pub overflow_cast-row-6 : goal.overflow_cast-row-6
-overflow_cast-row-6 c = omega (arith, c.shared_slice_known-7-1.given 5)
-
-pub overflow_add-row-2 : goal.overflow_add-row-2
-overflow_add-row-2 c = omega (arith, c.shared_slice_known-7-1.given 5)
+    fits (step (step (step (step (start c.args.at (parts c.args.row.now) c.args.out.now c.requires.row_in_bounds) (omega arith)
+    c.put_named-a.ensures.value c.put_named-a.ensures.out_after) (omega arith)
+    c.put_number-b.ensures.value c.put_number-b.ensures.out_after) (omega arith)
+    c.put_number-c.ensures.value c.put_number-c.ensures.out_after) (omega arith)
+    c.put_number-d.ensures.value c.put_number-d.ensures.out_after) (omega arith)
 
 pub put_named-requires : goal.put_named-requires
-unfolding kinds ascii origins
+unfolding ascii origins kinds
 put_named-requires c =
-    let at-start : (Writing c.args.at (parameter_line (first_of c.args.row.now)) c.args.out.now ((ended (word (get_or c.args.row.now 0 0 + 1) origins) space) ++ (((ended (decimal (get_or c.args.row.now 1 0)) space) ++ ((ended (decimal (get_or c.args.row.now 2 0)) space) ++ ((ended (decimal (get_or c.args.row.now 3 0)) space) ++ ((ended (decimal (get_or c.args.row.now 4 0)) space) ++ (ended (word (get_or c.args.row.now 5 0 + 1) kinds) line_feed))))))) c.args.at c.args.out.now) = begin c.args.at _ c.args.out.now c.requires.row_in_bounds in
-    let behind-origin : (Writing c.args.at (parameter_line (first_of c.args.row.now)) c.args.out.now (((ended (decimal (get_or c.args.row.now 1 0)) space) ++ ((ended (decimal (get_or c.args.row.now 2 0)) space) ++ ((ended (decimal (get_or c.args.row.now 3 0)) space) ++ ((ended (decimal (get_or c.args.row.now 4 0)) space) ++ (ended (word (get_or c.args.row.now 5 0 + 1) kinds) line_feed)))))) c.put_named-a.result c.put_named-a.new.out) = put_part ((ended (word (get_or c.args.row.now 0 0 + 1) origins) space)) (((ended (decimal (get_or c.args.row.now 1 0)) space) ++ ((ended (decimal (get_or c.args.row.now 2 0)) space) ++ ((ended (decimal (get_or c.args.row.now 3 0)) space) ++ ((ended (decimal (get_or c.args.row.now 4 0)) space) ++ (ended (word (get_or c.args.row.now 5 0 + 1) kinds) line_feed)))))) refl (at-start) c.put_named-a.ensures.value c.put_named-a.ensures.out_after in
-    let behind-name-start : (Writing c.args.at (parameter_line (first_of c.args.row.now)) c.args.out.now (((ended (decimal (get_or c.args.row.now 2 0)) space) ++ ((ended (decimal (get_or c.args.row.now 3 0)) space) ++ ((ended (decimal (get_or c.args.row.now 4 0)) space) ++ (ended (word (get_or c.args.row.now 5 0 + 1) kinds) line_feed))))) c.put_number-b.result c.put_number-b.new.out) = put_part ((ended (decimal (get_or c.args.row.now 1 0)) space)) (((ended (decimal (get_or c.args.row.now 2 0)) space) ++ ((ended (decimal (get_or c.args.row.now 3 0)) space) ++ ((ended (decimal (get_or c.args.row.now 4 0)) space) ++ (ended (word (get_or c.args.row.now 5 0 + 1) kinds) line_feed))))) refl (behind-origin) c.put_number-b.ensures.value c.put_number-b.ensures.out_after in
-    let behind-name-size : (Writing c.args.at (parameter_line (first_of c.args.row.now)) c.args.out.now (((ended (decimal (get_or c.args.row.now 3 0)) space) ++ ((ended (decimal (get_or c.args.row.now 4 0)) space) ++ (ended (word (get_or c.args.row.now 5 0 + 1) kinds) line_feed)))) c.put_number-c.result c.put_number-c.new.out) = put_part ((ended (decimal (get_or c.args.row.now 2 0)) space)) (((ended (decimal (get_or c.args.row.now 3 0)) space) ++ ((ended (decimal (get_or c.args.row.now 4 0)) space) ++ (ended (word (get_or c.args.row.now 5 0 + 1) kinds) line_feed)))) refl (behind-name-start) c.put_number-c.ensures.value c.put_number-c.ensures.out_after in
-    let behind-value-start : (Writing c.args.at (parameter_line (first_of c.args.row.now)) c.args.out.now (((ended (decimal (get_or c.args.row.now 4 0)) space) ++ (ended (word (get_or c.args.row.now 5 0 + 1) kinds) line_feed))) c.put_number-d.result c.put_number-d.new.out) = put_part ((ended (decimal (get_or c.args.row.now 3 0)) space)) (((ended (decimal (get_or c.args.row.now 4 0)) space) ++ (ended (word (get_or c.args.row.now 5 0 + 1) kinds) line_feed))) refl (behind-name-size) c.put_number-d.ensures.value c.put_number-d.ensures.out_after in
-    let behind-value-size : (Writing c.args.at (parameter_line (first_of c.args.row.now)) c.args.out.now ((ended (word (get_or c.args.row.now 5 0 + 1) kinds) line_feed)) c.put_number-e.result c.put_number-e.new.out) = put_part ((ended (decimal (get_or c.args.row.now 4 0)) space)) ((ended (word (get_or c.args.row.now 5 0 + 1) kinds) line_feed)) refl (behind-value-start) c.put_number-e.ensures.value c.put_number-e.ensures.out_after in
     record {
       bound = omega arith;
-      end_in_bounds = room_part ((ended (word (get_or c.args.row.now 5 0 + 1) kinds) line_feed)) [] (sym (append-nil ((ended (word (get_or c.args.row.now 5 0 + 1) kinds) line_feed)))) (behind-value-size);
+      end_in_bounds = fits (step (step (step (step (step (start c.args.at (parts c.args.row.now) c.args.out.now c.requires.row_in_bounds) (omega arith)
+          c.put_named-a.ensures.value c.put_named-a.ensures.out_after) (omega arith)
+          c.put_number-b.ensures.value c.put_number-b.ensures.out_after) (omega arith)
+          c.put_number-c.ensures.value c.put_number-c.ensures.out_after) (omega arith)
+          c.put_number-d.ensures.value c.put_number-d.ensures.out_after) (omega arith)
+          c.put_number-e.ensures.value c.put_number-e.ensures.out_after) (omega arith);
     }
 
 pub returns : goal.returns
-unfolding kinds ascii origins
+unfolding ascii origins kinds
 returns c =
-    let at-start : (Writing c.args.at (parameter_line (first_of c.args.row.now)) c.args.out.now ((ended (word (get_or c.args.row.now 0 0 + 1) origins) space) ++ (((ended (decimal (get_or c.args.row.now 1 0)) space) ++ ((ended (decimal (get_or c.args.row.now 2 0)) space) ++ ((ended (decimal (get_or c.args.row.now 3 0)) space) ++ ((ended (decimal (get_or c.args.row.now 4 0)) space) ++ (ended (word (get_or c.args.row.now 5 0 + 1) kinds) line_feed))))))) c.args.at c.args.out.now) = begin c.args.at _ c.args.out.now c.requires.row_in_bounds in
-    let behind-origin : (Writing c.args.at (parameter_line (first_of c.args.row.now)) c.args.out.now (((ended (decimal (get_or c.args.row.now 1 0)) space) ++ ((ended (decimal (get_or c.args.row.now 2 0)) space) ++ ((ended (decimal (get_or c.args.row.now 3 0)) space) ++ ((ended (decimal (get_or c.args.row.now 4 0)) space) ++ (ended (word (get_or c.args.row.now 5 0 + 1) kinds) line_feed)))))) c.put_named-a.result c.put_named-a.new.out) = put_part ((ended (word (get_or c.args.row.now 0 0 + 1) origins) space)) (((ended (decimal (get_or c.args.row.now 1 0)) space) ++ ((ended (decimal (get_or c.args.row.now 2 0)) space) ++ ((ended (decimal (get_or c.args.row.now 3 0)) space) ++ ((ended (decimal (get_or c.args.row.now 4 0)) space) ++ (ended (word (get_or c.args.row.now 5 0 + 1) kinds) line_feed)))))) refl (at-start) c.put_named-a.ensures.value c.put_named-a.ensures.out_after in
-    let behind-name-start : (Writing c.args.at (parameter_line (first_of c.args.row.now)) c.args.out.now (((ended (decimal (get_or c.args.row.now 2 0)) space) ++ ((ended (decimal (get_or c.args.row.now 3 0)) space) ++ ((ended (decimal (get_or c.args.row.now 4 0)) space) ++ (ended (word (get_or c.args.row.now 5 0 + 1) kinds) line_feed))))) c.put_number-b.result c.put_number-b.new.out) = put_part ((ended (decimal (get_or c.args.row.now 1 0)) space)) (((ended (decimal (get_or c.args.row.now 2 0)) space) ++ ((ended (decimal (get_or c.args.row.now 3 0)) space) ++ ((ended (decimal (get_or c.args.row.now 4 0)) space) ++ (ended (word (get_or c.args.row.now 5 0 + 1) kinds) line_feed))))) refl (behind-origin) c.put_number-b.ensures.value c.put_number-b.ensures.out_after in
-    let behind-name-size : (Writing c.args.at (parameter_line (first_of c.args.row.now)) c.args.out.now (((ended (decimal (get_or c.args.row.now 3 0)) space) ++ ((ended (decimal (get_or c.args.row.now 4 0)) space) ++ (ended (word (get_or c.args.row.now 5 0 + 1) kinds) line_feed)))) c.put_number-c.result c.put_number-c.new.out) = put_part ((ended (decimal (get_or c.args.row.now 2 0)) space)) (((ended (decimal (get_or c.args.row.now 3 0)) space) ++ ((ended (decimal (get_or c.args.row.now 4 0)) space) ++ (ended (word (get_or c.args.row.now 5 0 + 1) kinds) line_feed)))) refl (behind-name-start) c.put_number-c.ensures.value c.put_number-c.ensures.out_after in
-    let behind-value-start : (Writing c.args.at (parameter_line (first_of c.args.row.now)) c.args.out.now (((ended (decimal (get_or c.args.row.now 4 0)) space) ++ (ended (word (get_or c.args.row.now 5 0 + 1) kinds) line_feed))) c.put_number-d.result c.put_number-d.new.out) = put_part ((ended (decimal (get_or c.args.row.now 3 0)) space)) (((ended (decimal (get_or c.args.row.now 4 0)) space) ++ (ended (word (get_or c.args.row.now 5 0 + 1) kinds) line_feed))) refl (behind-name-size) c.put_number-d.ensures.value c.put_number-d.ensures.out_after in
-    let behind-value-size : (Writing c.args.at (parameter_line (first_of c.args.row.now)) c.args.out.now ((ended (word (get_or c.args.row.now 5 0 + 1) kinds) line_feed)) c.put_number-e.result c.put_number-e.new.out) = put_part ((ended (decimal (get_or c.args.row.now 4 0)) space)) ((ended (word (get_or c.args.row.now 5 0 + 1) kinds) line_feed)) refl (behind-value-start) c.put_number-e.ensures.value c.put_number-e.ensures.out_after in
-    let both = writing.ended (put_part ((ended (word (get_or c.args.row.now 5 0 + 1) kinds) line_feed)) [] (sym (append-nil ((ended (word (get_or c.args.row.now 5 0 + 1) kinds) line_feed)))) (behind-value-size)
-    c.put_named.ensures.value c.put_named.ensures.out_after) in
-    record { value = both.0; out_after = both.1 }
+    let all = done (step (step (step (step (step (step (start c.args.at (parts c.args.row.now) c.args.out.now c.requires.row_in_bounds) (omega arith)
+    c.put_named-a.ensures.value c.put_named-a.ensures.out_after) (omega arith)
+    c.put_number-b.ensures.value c.put_number-b.ensures.out_after) (omega arith)
+    c.put_number-c.ensures.value c.put_number-c.ensures.out_after) (omega arith)
+    c.put_number-d.ensures.value c.put_number-d.ensures.out_after) (omega arith)
+    c.put_number-e.ensures.value c.put_number-e.ensures.out_after) (omega arith)
+    c.put_named.ensures.value c.put_named.ensures.out_after) (omega arith) in
+    record { value = all.0; out_after = all.1 }

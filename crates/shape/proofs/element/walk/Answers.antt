@@ -1,140 +1,83 @@
 -- `walk` goes along the elements: so many are objects, and their starts are written; after the eighth, the rest is
 -- asked for one that is no object.
-use Prim.Native.Nat.{◌-◌}
-use mathlib.Core.Path.{refl, ap, sym, ◌∙◌}
-use mathlib.Core.Bool.{not}
+use mathlib.Core.Path.{◌≡◌, ap, sym, ◌∙◌}
+use mathlib.Core.Bool.{Bool, not, ◌||◌}
+use mathlib.Core.List.{List, ◌∷◌}
 use native.Mathlib.Omega.{arith}
 use borrow.Author.Tests.{eq-eqb, ne_eqb}
-use Rattle.grammar.specs.Reader.{elements_at}
-use Rattle.grammar.specs.Grammar.{square}
-use Rattle.json_read.proofs.MemberRows.{the_read}
-use Rattle.json_read.proofs.Knowing.{known_first, known_element, known_next}
-use Rattle.jose.specs.Inner.Elements.{element_of, elements_from}
-use Rattle.jose.proofs.Elements.{elements_all, elements_spent, elements_none, elements_more}
-use Rattle.jose.proofs.Walks.{of_any, walk_spent, walk_end, walk_found, walk_on}
+use Rattle.grammar.specs.Places.{Element}
+use Rattle.grammar.specs.Reader.{as_element, elements_at}
+use Rattle.json_read.specs.Rows.{elements_left}
+use Rattle.json_read.specs.Members.{row_member}
+use Rattle.json_read.proofs.RowsLeft.{element_more, element_none}
+use Rattle.prelude.specs.Any.{any}
+use Rattle.prelude.specs.Refusals.{as_stage}
 use Rattle.shape.specs.Shape.{no_object}
 use Rattle.shape.proofs.Walking.{walking, refused_10, refused_11, walked_on, over, walked_out}
-use Rattle.prelude.specs.Refusals.{as_stage}
 use Rattle.shape.proofs.element.walk.Goals as goal
 
-pub loop-left-init : goal.loop-left-init
-loop-left-init c =
-    let s = c.args.message.now in (
-      walking _ _ c.args.starts.now
-          (elements_all s c.args.at c.inside-p.result.at c.inside-p.ensures) c.requires.most_recipients_in_bounds,
-      known_first square 12 s c.args.at _ c.inside-p.result.at refl c.inside-p.ensures c.requires.known_in,
-    )
+-- What is asked of one and of those behind it.
+one : {x : Element} {b : Bool} {answer : Bool} (all others : List Element) → any no_object all ≡ answer → all ≡ x ∷ others →
+    no_object x ≡ b → (b || any no_object others) ≡ answer
+unfolding any
+one all others so more t = sym (ap (λ (c : Bool). c || any no_object others) t) ∙ sym (ap (any no_object) more) ∙ so
 
-pub element-requires : goal.element-requires
-element-requires c =
-    let s = c.args.message.now in
-    known_element 12 s c.loop-left.left c.loop-left.p.at c.loop-left-test.true c.loop-left.invariant.1
+pub loop-row-init : goal.loop-row-init
+loop-row-init c = walking _ _ c.args.starts.now c.elements-elements.ensures.elements c.requires.most_recipients_in_bounds
 
-pub shape_of-starts-in_default : goal.shape_of-starts-in_default
-shape_of-starts-in_default c = c.loop-left.invariant.0.same
-
-pub returns-in_default : goal.returns-in_default
-returns-in_default c =
-    let s = c.args.message.now in
-    let left = c.loop-left-test.true in
-    let told = c.in_default.ensures in
-    let both = walked_out c.loop-left.invariant.0 (elements_none s c.loop-left.left c.loop-left.p.at left told) (as_stage c.counted.result)
-    c.counted.ensures
-    (walk_end (of_any no_object) _ s c.loop-left.left c.loop-left.p.at c.loop-left.invariant.0.some left told) in
-    record { value = both.0; leaves = both.1 }
-
-pub shape_of-starts-then-found-ne0 : goal.shape_of-starts-then-found-ne0
-shape_of-starts-then-found-ne0 c = c.loop-left.invariant.0.same
-
-pub returns-then-found-ne0 : goal.returns-then-found-ne0
-returns-then-found-ne0 c =
-    let args = c.args in
-    let s = args.message.now in
-    let left = c.loop-left-test.true in
-    let told = c.in-Some.ensures in
-    let one = walk_found (of_any no_object) _ s c.loop-left.left c.loop-left.p.at c.loop-left.invariant.0.some left c.in-Some.found.row
-    c.in-Some.found.next told
-    (ap not (ne_eqb _ _ c.if-found-ne0.true)) in
+pub returns-then-row-ne0 : goal.returns-then-row-ne0
+returns-then-row-ne0 c =
+    let so = c.loop-row.invariant in
+    let more = element_more c.loop-row.elements c.next.new.self c.in-Some.ensures.steps in
     record {
-      value = refused_10 (elements_at 12 s args.at) one;
-      leaves = c.loop-left.invariant.0.same;
+      value = refused_10 (elements_at 12 c.args.message.now c.args.at) (one _ _ so.some more (ap not (ne_eqb _ _ c.if-row-ne0.true)));
+      leaves = so.same;
     }
-
-pub some_no_object-requires : goal.some_no_object-requires
-some_no_object-requires c =
-    let s = c.args.message.now in
-    let left = c.loop-left-test.true in
-    let told = c.in-Some.ensures in
-    let read = the_read square s 12 c.loop-left.left c.loop-left.p.at left c.in-Some.found.row c.in-Some.found.next told in
-    known_next square 12 s c.loop-left.left c.loop-left.p.at left read c.loop-left.invariant.1
-
-pub shape_of-starts-then-some_no_object : goal.shape_of-starts-then-some_no_object
-shape_of-starts-then-some_no_object c = c.loop-left.invariant.0.same
 
 pub returns-then-some_no_object : goal.returns-then-some_no_object
 returns-then-some_no_object c =
-    let args = c.args in
-    let s = args.message.now in
-    let left = c.loop-left-test.true in
-    let told = c.in-Some.ensures in
-    let rest = walk_on (of_any no_object) _ s c.loop-left.left c.loop-left.p.at c.loop-left.invariant.0.some left c.in-Some.found.row
-    c.in-Some.found.next told
-    (ap not (eq-eqb _ _ c.if-found-ne0.false)) in
+    let so = c.loop-row.invariant in
+    let more = element_more c.loop-row.elements c.next.new.self c.in-Some.ensures.steps in
+    let rest = one _ _ so.some more (ap not (eq-eqb _ _ c.if-row-ne0.false)) in
     record {
-      value = refused_10 (elements_at 12 s args.at) (sym c.if-some_no_object.true ∙ c.some_no_object.ensures ∙ rest);
-      leaves = c.loop-left.invariant.0.same;
+      value =
+          refused_10 (elements_at 12 c.args.message.now c.args.at)
+          (sym c.if-some_no_object.true ∙ c.some_no_object.ensures ∙ rest);
+      leaves = so.same;
     }
-
-pub shape_of-starts-then-count-eq-MOST_RECIPIENTS : goal.shape_of-starts-then-count-eq-MOST_RECIPIENTS
-shape_of-starts-then-count-eq-MOST_RECIPIENTS c = c.loop-left.invariant.0.same
 
 pub returns-then-count-eq-MOST_RECIPIENTS : goal.returns-then-count-eq-MOST_RECIPIENTS
 returns-then-count-eq-MOST_RECIPIENTS c =
-    let args = c.args in
-    let s = args.message.now in
-    let left = c.loop-left-test.true in
-    let told = c.in-Some.ensures in
-    let rest = walk_on (of_any no_object) _ s c.loop-left.left c.loop-left.p.at c.loop-left.invariant.0.some left c.in-Some.found.row
-    c.in-Some.found.next told
-    (ap not (eq-eqb _ _ c.if-found-ne0.false)) in
-    let more = elements_more s c.loop-left.left c.loop-left.p.at left c.in-Some.found.row c.in-Some.found.next told in
+    let so = c.loop-row.invariant in
+    let more = element_more c.loop-row.elements c.next.new.self c.in-Some.ensures.steps in
+    let rest = one _ _ so.some more (ap not (eq-eqb _ _ c.if-row-ne0.false)) in
     record {
-      value = refused_11 (elements_at 12 s args.at) (sym c.if-some_no_object.false ∙ c.some_no_object.ensures ∙ rest)
-          (over c.loop-left.invariant.0 _ _ more c.if-count-eq-MOST_RECIPIENTS.true);
-      leaves = c.loop-left.invariant.0.same;
+      value =
+          refused_11 (elements_at 12 c.args.message.now c.args.at)
+          (sym c.if-some_no_object.false ∙ c.some_no_object.ensures ∙ rest)
+          (over so _ _ more c.if-count-eq-MOST_RECIPIENTS.true);
+      leaves = so.same;
     }
 
 pub bounds-starts-count : goal.bounds-starts-count
 bounds-starts-count c =
-    let inv = c.loop-left.invariant.0 in
-    omega (arith, inv.few, inv.same, inv.room, c.if-count-eq-MOST_RECIPIENTS.false)
+    let so = c.loop-row.invariant in
+    omega (arith, so.few, so.same, so.room, c.if-count-eq-MOST_RECIPIENTS.false)
 
 pub overflow_add-count : goal.overflow_add-count
-overflow_add-count c =
-    omega (arith, c.loop-left.invariant.0.few)
+overflow_add-count c = omega (arith, c.loop-row.invariant.few)
 
-pub loop-left-preserved : goal.loop-left-preserved
-loop-left-preserved c =
-    let args = c.args in
-    let s = args.message.now in
-    let left = c.loop-left-test.true in
-    let told = c.in-Some.ensures in
-    let more = elements_more s c.loop-left.left c.loop-left.p.at left c.in-Some.found.row c.in-Some.found.next told in
-    let read = the_read square s 12 c.loop-left.left c.loop-left.p.at left c.in-Some.found.row c.in-Some.found.next told in (
-      walked_on c.loop-left.invariant.0 (element_of c.in-Some.found.row) (elements_from s (c.loop-left.left - 1) c.in-Some.found.next.at) more
-          c.if-count-eq-MOST_RECIPIENTS.false
-          (walk_on (of_any no_object) _ s c.loop-left.left c.loop-left.p.at c.loop-left.invariant.0.some left c.in-Some.found.row
-          c.in-Some.found.next told (ap not (eq-eqb _ _ c.if-found-ne0.false))),
-      known_next square 12 s c.loop-left.left c.loop-left.p.at left read c.loop-left.invariant.1,
-    )
-
-pub shape_of-starts : goal.shape_of-starts
-shape_of-starts c = c.loop-left.invariant.0.same
+pub loop-row-preserved : goal.loop-row-preserved
+loop-row-preserved c =
+    let so = c.loop-row.invariant in
+    let more = element_more c.loop-row.elements c.next.new.self c.in-Some.ensures.steps in
+    walked_on so (as_element (row_member c.in-Some.row)) (elements_left c.next.new.self) more c.if-count-eq-MOST_RECIPIENTS.false
+    (one _ _ so.some more (ap not (eq-eqb _ _ c.if-row-ne0.false)))
 
 pub returns : goal.returns
+unfolding any
 returns c =
-    let s = c.args.message.now in
-    let both = walked_out c.loop-left.invariant.0 (elements_spent s c.loop-left.left c.loop-left.p.at (omega arith)) (as_stage c.counted-2.result)
-    c.counted-2.ensures
-    (walk_spent (of_any no_object) _ s c.loop-left.left c.loop-left.p.at c.loop-left.invariant.0.some (omega arith)) in
+    let so = c.loop-row.invariant in
+    let none = element_none c.loop-row.elements c.in_default.ensures.steps.0 in
+    let both = walked_out so none (as_stage c.counted.result) c.counted.ensures (sym (ap (any no_object) none) ∙ so.some) in
     record { value = both.0; leaves = both.1 }

@@ -14,11 +14,11 @@ use Rattle.std.proofs.lemmas.Iterator.{YieldsList}
 use Rattle.std.proofs.lemmas.Iterator.Consumers.{YieldsList-from_first}
 use Rattle.std.proofs.lemmas.Iterator.Search.{any_from_yields_List}
 use Rattle.prelude.specs.Any.{any}
-use Rattle.json_read.specs.Entries.{entries_left}
-use Rattle.json_read.specs.declared.member.Entries.{Entries}
-use Rattle.grammar.specs.Grammar.{Bracket, curly, square}
-use Rattle.grammar.specs.Places.{Member}
-use Rattle.grammar.specs.Reader.{entry_at, value_at, rows_at}
+use Rattle.json_read.specs.Rows.{rows_left, elements_left}
+use Rattle.json_read.specs.declared.member.Rows.{Rows}
+use Rattle.grammar.specs.Grammar.{Bracket, curly}
+use Rattle.grammar.specs.Places.{Member, Element}
+use Rattle.grammar.specs.Reader.{entry_at, value_at, rows_at, as_element, elements_of}
 use Rattle.json_read.specs.Members.{row_here, member_of, bracket_of, row_member, five_of, numbers}
 use Rattle.json_read.specs.Inner.Known.{Given, Known, KnownEntry, KnownFrom}
 use Rattle.json_read.specs.declared.Position.{Position}
@@ -74,19 +74,45 @@ unfolding any
 any_is f [] = refl
 any_is f (x ∷ xs) = ap (λ b. f x || b) (any_is f xs)
 
-pub entries_given : (e : Entries) → YieldsList (YieldsFirstBy row_member entries_left) row_member e (entries_left e)
-entries_given e = YieldsList-from_first row_member entries_left (entries_left e) refl
+pub rows_given : (e : Rows) → YieldsList (YieldsFirstBy row_member rows_left) row_member e (rows_left e)
+rows_given e = YieldsList-from_first row_member rows_left (rows_left e) refl
 
 -- `any`, whose closure computes a test of each.
-pub any_left : {F : Type 0} {g : Mut F (Row × Unit {0}) Bool} (e u : Entries) (f : F) (test : Member → Bool) (r : Bool) →
-    ((xs : List Row) × (o : std.Option Row) × (j : F) × YieldsThen (YieldsFirstBy row_member entries_left) e xs o u
+pub any_left : {F : Type 0} {g : Mut F (Row × Unit {0}) Bool} (e u : Rows) (f : F) (test : Member → Bool) (r : Bool) →
+    ((xs : List Row) × (o : std.Option Row) × (j : F) × YieldsThen (YieldsFirstBy row_member rows_left) e xs o u
     × FoldsTo (λ p x q. Called g p (x, tt) false q) f xs j
     × MatchOption o (r ≡ false) (λ x. (r ≡ true) × ((h : F) × Called g j (x, tt) true h))) →
     ((x : Row) (b : Bool) (q : F) → Called g f (x, tt) b q → (q ≡ f) × (b ≡ test (row_member x))) →
-    r ≡ any test (entries_left e)
+    r ≡ any test (rows_left e)
 any_left e u f test r ran tests =
-    any_from_yields_List test u f r ran (entries_given e) tests ∙ any_is test (entries_left e)
+    any_from_yields_List test u f r ran (rows_given e) tests ∙ any_is test (rows_left e)
+
+any_elements : (f : Element → Bool) (ms : List Member) → any (λ m. f (as_element m)) ms ≡ any f (elements_of ms)
+unfolding any elements_of
+any_elements f [] = refl
+any_elements f (m ∷ ms) = ap (λ b. f (as_element m) || b) (any_elements f ms)
+
+-- The same of elements.
+pub any_element_left : {F : Type 0} {g : Mut F (Row × Unit {0}) Bool} (e u : Rows) (f : F) (test : Element → Bool) (r : Bool) →
+    ((xs : List Row) × (o : std.Option Row) × (j : F) × YieldsThen (YieldsFirstBy row_member rows_left) e xs o u
+    × FoldsTo (λ p x q. Called g p (x, tt) false q) f xs j
+    × MatchOption o (r ≡ false) (λ x. (r ≡ true) × ((h : F) × Called g j (x, tt) true h))) →
+    ((x : Row) (b : Bool) (q : F) → Called g f (x, tt) b q → (q ≡ f) × (b ≡ test (as_element (row_member x)))) →
+    r ≡ any test (elements_left e)
+any_element_left e u f test r ran tests =
+    any_left e u f (λ m. test (as_element m)) r ran tests ∙ any_elements test (rows_left e)
+
+-- What a step of the iterator says of the elements.
+
+pub element_more : (e u : Rows) {m : Member} → rows_left e ≡ m ∷ rows_left u →
+    elements_left e ≡ as_element m ∷ elements_left u
+unfolding elements_of
+element_more e u h = ap elements_of h
+
+pub element_none : (e : Rows) → rows_left e ≡ [] → elements_left e ≡ []
+unfolding elements_of
+element_none e h = ap elements_of h
 
 -- They are no more than the turns that are left.
-pub no_more : (e : Entries) → length (entries_left e) ≤ e.left
+pub no_more : (e : Rows) → length (rows_left e) ≤ e.left
 no_more e = rows_at_most (bracket_of e.array) e.text.now e.levels e.left e.at.at

@@ -6,8 +6,8 @@ use lib.ListN.{length}
 use borrow.Author.Rules.{rules}
 use Rattle.json_read.specs.Members.{bracket_of}
 use Rattle.json_read.proofs.MemberRows.{rows_none, rows_spent}
-use Rattle.json_read.proofs.EntriesLeft.{given_entry, given_more, row_more}
-use Rattle.json_read.proofs.entries.EntriesIterator.next.Goals as goal
+use Rattle.json_read.proofs.RowsLeft.{given_entry, given_more, row_more}
+use Rattle.json_read.proofs.rows.RowsIterator.next.Goals as goal
 
 pub returns-then-self-eq0-clause-steps : goal.returns-then-self-eq0-clause-steps
 returns-then-self-eq0-clause-steps c =

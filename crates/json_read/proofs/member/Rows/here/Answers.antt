@@ -1,7 +1,6 @@
 -- `here` reads a member or an element, as the bracket tells.
-use mathlib.Core.Path.{ap, sym, ◌∙◌}
-use Rattle.json_read.proofs.EntriesLeft.{given_member, given_element}
-use Rattle.json_read.proofs.member.Entries.here.Goals as goal
+use Rattle.json_read.proofs.RowsLeft.{given_member, given_element}
+use Rattle.json_read.proofs.member.Rows.here.Goals as goal
 
 pub element-requires : goal.element-requires
 element-requires c =
