@@ -220,6 +220,7 @@ fn judge_recipients<'a>(
     let mut start = 1 + 8 * n;
     let head = recipients::recipient(recipients, 0, start);
     let first = parts::part(recipients, head.header.start, head.header.len);
+    // By number, and not by `Bodies`: `first_content` asks which one it is.
     for i in 0..n {
         let body = recipients::recipient(recipients, i, start);
         let own = parts::part(recipients, body.header.start, body.header.len);

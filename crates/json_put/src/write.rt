@@ -1,5 +1,6 @@
 // Members, or elements, written to a sink one behind the other: a comma stands before each but the first. Each function takes
-// whether one stands before, and says whether one stands before what follows.
+// whether one stands before, and says whether one stands before what follows: a struct of both would hold the buffer's `&mut` two
+// structs deep, from where the proof does not follow it back.
 ghost use Rattle.std.specs.Prelude.{true, [], ◌∷◌, map};
 ghost use Rattle.recipients.specs.Parsed.{recipients_in};
 ghost use Rattle.recipients.specs.Inner.Answers.{shown};
