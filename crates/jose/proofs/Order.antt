@@ -53,7 +53,7 @@ module _ (known : List (List ℕ)) (ts : Texts) (es : List Entry) (badKey : Bool
     unfolding stage_of first
     rules_kept over mode =
         let none : ordered (map rule_number rules) ≡ 0 =
-            sym before ∙ ap ordered (drop_of_length-le (map rule_number rules) (rw length-map over)) in
+        sym before ∙ ap ordered (drop_of_length-le (map rule_number rules) (rw length-map over)) in
         sym (ap (λ (k : ℕ). stage_of k mode) none)
 
 -- The rules are asked with the mode, and with the key's fault by it.
