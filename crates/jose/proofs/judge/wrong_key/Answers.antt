@@ -20,7 +20,7 @@ returns c =
     let m = c.args.mode in
     let is : c.if-mode-eq3.result ≡ keyless m =
     elim c.if-mode-eq3.branch [
-      then-mode-eq3 w ↦ w.result-is ∙ ap (λ (k : ℕ). eqb k 3) w.if-mode-eq3.true ∙ sym (ap keyless w.if-mode-eq3.true)
-    | else-mode-eq3 w ↦ w.result-is ∙ sym (ap (λ (b : Bool). b || eqb m 5) (ne_eqb m 3 w.if-mode-eq3.false))
+      | then-mode-eq3 w ↦ w.result-is ∙ ap (λ (k : ℕ). eqb k 3) w.if-mode-eq3.true ∙ sym (ap keyless w.if-mode-eq3.true)
+      | else-mode-eq3 w ↦ w.result-is ∙ sym (ap (λ (b : Bool). b || eqb m 5) (ne_eqb m 3 w.if-mode-eq3.false))
     ] in
     differing c.if-mode-eq3.result (eqb c.args.sizes.key 0) ∙ ap (λ (b : Bool). xor b (eqb c.args.sizes.key 0)) is
