@@ -6,7 +6,7 @@ ghost use Rattle.std.specs.Prelude.{◌≡◌, not, ◌*◌, ◌≤◌, length};
 ghost use Rattle.grammar.specs.Grammar.{curly};
 ghost use Rattle.grammar.specs.Reader.{members_at};
 ghost use Rattle.grammar.specs.Spellings.{alike};
-ghost use Rattle.json_read.specs.Rows.{rows_left};
+ghost use Rattle.json_read.specs.Inner.Rows.{rows_left};
 ghost use Rattle.json_read.specs.Inner.Known.{KnownIn};
 ghost use Rattle.prelude.specs.Any.{any};
 ghost use Rattle.distinct.specs.Names.{depth, name_at, same_name, repeats};

@@ -8,7 +8,7 @@ ghost use Rattle.prelude.specs.Any.{any, any_pair};
 ghost use Rattle.rows.specs.Inner.Views.{the_entry, the_entries, the_texts};
 ghost use Rattle.jose.specs.HeaderRules.{spelled_element, unknown, same_element, misplaced};
 ghost use Rattle.jose.specs.HeaderRules.{is_empty, wrong_crit, critical};
-ghost use Rattle.json_read.specs.Rows.{elements_left};
+ghost use Rattle.json_read.specs.Inner.Rows.{elements_left};
 ghost use Rattle.jose.specs.Inner.Elements.{element_of};
 
 use crate::lists::CRIT;

@@ -14,7 +14,7 @@ use Rattle.std.proofs.lemmas.Iterator.{YieldsList}
 use Rattle.std.proofs.lemmas.Iterator.Consumers.{YieldsList-from_first}
 use Rattle.std.proofs.lemmas.Iterator.Search.{any_from_yields_List}
 use Rattle.prelude.specs.Any.{any}
-use Rattle.json_read.specs.Rows.{rows_left, elements_left}
+use Rattle.json_read.specs.Inner.Rows.{rows_left, elements_left}
 use Rattle.json_read.specs.declared.member.Rows.{Rows}
 use Rattle.grammar.specs.Grammar.{Bracket, curly}
 use Rattle.grammar.specs.Places.{Member, Element}

@@ -1,4 +1,3 @@
 -- The code's answers for those of the reader's definition (crate grammar).
 pub mod Members
-pub mod Rows
 pub mod Inner

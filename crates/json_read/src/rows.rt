@@ -4,7 +4,7 @@ ghost use Rattle.std.specs.Iterator.{YieldsFirstBy, item_count};
 ghost use Rattle.grammar.specs.Grammar.{curly, square};
 ghost use Rattle.grammar.specs.Reader.{entry_at, value_at, members_at, elements_at, rows_at, rows_in, step};
 ghost use Rattle.json_read.specs.Members.{member_of, bracket_of, row_member};
-ghost use Rattle.json_read.specs.Rows.{rows_left, elements_left};
+ghost use Rattle.json_read.specs.Inner.Rows.{rows_left, elements_left};
 ghost use Rattle.json_read.specs.Inner.Known.{Given, KnownEntry, KnownFrom, KnownIn};
 
 use crate::Position;

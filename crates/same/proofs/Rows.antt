@@ -5,7 +5,7 @@ use mathlib.Core.Bool.{Bool, true, false, not}
 use Rattle.std.specs.Prelude as std
 use Rattle.std.specs.Prelude.{Some, None}
 use Rattle.std.specs.Iterator.{YieldsFirstBy}
-use Rattle.json_read.specs.Rows.{rows_left}
+use Rattle.json_read.specs.Inner.Rows.{rows_left}
 use Rattle.json_read.specs.declared.member.Rows.{Rows}
 use mathlib.Core.List.{List, [], ◌∷◌, ◌++◌}
 use Prim.Native.Nat.{ℕ}

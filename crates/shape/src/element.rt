@@ -9,7 +9,7 @@ ghost use Rattle.json_read.specs.Inner.Known.{KnownIn};
 ghost use Rattle.prelude.specs.Any.{any};
 ghost use Rattle.rows.specs.Inner.Views.{the_entries};
 ghost use Rattle.prelude.specs.Refusals.{first, stage_of, as_stage};
-ghost use Rattle.json_read.specs.Rows.{elements_left};
+ghost use Rattle.json_read.specs.Inner.Rows.{elements_left};
 ghost use Rattle.shape.specs.Shape.{no_object, recipient_of};
 ghost use Rattle.shape.specs.Recipients.{element_entries, element_order};
 ghost use Rattle.shape.specs.Inner.Answers.{three, flat_recipients, starts_of, array_order, counted};

@@ -1,7 +1,7 @@
 -- `by_pairs` walks along the members: whether two of those that are left have one name stays the answer.
 use mathlib.Core.Path.{ap, sym, ◌∙◌}
 use mathlib.Core.Bool.{Bool, ◌||◌}
-use Rattle.json_read.specs.Rows.{rows_left}
+use Rattle.json_read.specs.Inner.Rows.{rows_left}
 use Rattle.prelude.specs.Any.{any_pair}
 use Rattle.distinct.specs.Names.{same_name, repeats}
 use Rattle.distinct.proofs.by_pairs.Goals as goal

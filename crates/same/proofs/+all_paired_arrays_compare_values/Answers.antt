@@ -6,7 +6,7 @@ use native.Mathlib.Omega.{arith}
 use Rattle.grammar.specs.Grammar.{curly, square}
 use Rattle.grammar.specs.Reader.{members_at}
 use Rattle.grammar.specs.Spellings.{alike}
-use Rattle.json_read.specs.Rows.{rows_left, elements_left}
+use Rattle.json_read.specs.Inner.Rows.{rows_left, elements_left}
 use Rattle.distinct.specs.Inner.Walking.{row_member}
 use Rattle.pairs.specs.Inner.Walks.{Stepped}
 use Rattle.pairs.proofs.Tables.{going_kept, kept_front}

@@ -4,7 +4,7 @@ use mathlib.Core.Path.{◌≡◌}
 use Prim.Native.Nat.{◌+◌, ◌*◌}
 use Rattle.grammar.specs.Bounds.{Every}
 use Rattle.grammar.specs.Reader.{members_at, elements_at}
-use Rattle.json_read.specs.Rows.{rows_left, elements_left}
+use Rattle.json_read.specs.Inner.Rows.{rows_left, elements_left}
 use Rattle.distinct.specs.Inner.Walking.{rows_from}
 use Rattle.pairs.specs.Inner.Walks.{Going}
 use Rattle.same.specs.Same.{depth, all, same_elements, has_pair, inner_at}

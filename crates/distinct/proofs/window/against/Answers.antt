@@ -3,7 +3,7 @@ use mathlib.Core.Path.{refl, ap, sym, ◌∙◌}
 use mathlib.Core.Bool.{Bool, ◌||◌}
 use native.Mathlib.Omega.{arith}
 use Rattle.grammar.specs.Grammar.{curly}
-use Rattle.json_read.specs.Rows.{rows_left}
+use Rattle.json_read.specs.Inner.Rows.{rows_left}
 use Rattle.prelude.specs.Any.{any}
 use Rattle.distinct.specs.Names.{same_name}
 use Rattle.distinct.specs.Inner.Walking.{rows_from}

@@ -3,7 +3,7 @@ use mathlib.Core.Path.{◌≡◌}
 use lib.ListN.{length}
 use Rattle.grammar.specs.Grammar.{curly}
 use Rattle.grammar.specs.Bounds.{Every}
-use Rattle.json_read.specs.Rows.{rows_left}
+use Rattle.json_read.specs.Inner.Rows.{rows_left}
 use Rattle.distinct.specs.Names.{same_name}
 use Rattle.distinct.specs.Inner.Walking.{rows_from}
 use Rattle.distinct.specs.Inner.Filter.{tag_of, Marked}

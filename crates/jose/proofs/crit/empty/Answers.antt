@@ -5,7 +5,7 @@ use Rattle.std.specs.Prelude as std
 use Rattle.std.specs.Prelude.{Some, None}
 use Rattle.std.specs.Iterator.{YieldsFirstBy}
 use Rattle.json_read.specs.Members.{row_member}
-use Rattle.json_read.specs.Rows.{rows_left, elements_left}
+use Rattle.json_read.specs.Inner.Rows.{rows_left, elements_left}
 use Rattle.json_read.specs.declared.member.Rows.{Rows}
 use Rattle.json_read.specs.declared.member.Row.{Row}
 use Rattle.json_read.proofs.RowsLeft.{element_more, element_none}

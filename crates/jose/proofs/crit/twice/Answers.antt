@@ -1,7 +1,7 @@
 -- `twice` walks along the elements: whether two of those that are left say the same stays the answer.
 use mathlib.Core.Path.{ap, sym, ◌∙◌}
 use mathlib.Core.Bool.{Bool, ◌||◌}
-use Rattle.json_read.specs.Rows.{elements_left}
+use Rattle.json_read.specs.Inner.Rows.{elements_left}
 use Rattle.json_read.proofs.RowsLeft.{element_more, element_none}
 use Rattle.prelude.specs.Any.{any_pair}
 use Rattle.jose.specs.HeaderRules.{same_element}

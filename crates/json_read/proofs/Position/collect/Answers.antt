@@ -6,7 +6,7 @@ use native.Mathlib.Omega.{arith}
 use lib.ListN.{take}
 use Rattle.prelude.specs.Buffer.{written}
 use Rattle.grammar.specs.Places.{Member}
-use Rattle.json_read.specs.Rows.{rows_left}
+use Rattle.json_read.specs.Inner.Rows.{rows_left}
 use Rattle.json_read.specs.Members.{row_member, five_of, flat, collected_of}
 use Rattle.json_read.proofs.MemberTable.{written_none, rows_all, table_all, rows_over, inside, drop_more, table_more}
 use Rattle.json_read.proofs.Position.collect.Goals as goal

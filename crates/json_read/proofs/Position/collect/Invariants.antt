@@ -3,7 +3,7 @@ use Prim.Native.Nat.{◌≤◌}
 use mathlib.Core.Path.{◌≡◌}
 use lib.ListN.{length, take, drop}
 use Rattle.prelude.specs.Buffer.{written}
-use Rattle.json_read.specs.Rows.{rows_left}
+use Rattle.json_read.specs.Inner.Rows.{rows_left}
 use Rattle.json_read.specs.Members.{flat}
 use Rattle.json_read.proofs.Position.collect.Given as goal
 

@@ -7,7 +7,7 @@ use native.Mathlib.Omega.{arith}
 use borrow.Author.Tests.{eq-eqb, ne_eqb}
 use Rattle.grammar.specs.Places.{Element}
 use Rattle.grammar.specs.Reader.{as_element, elements_at}
-use Rattle.json_read.specs.Rows.{elements_left}
+use Rattle.json_read.specs.Inner.Rows.{elements_left}
 use Rattle.json_read.specs.Members.{row_member}
 use Rattle.json_read.proofs.RowsLeft.{element_more, element_none}
 use Rattle.prelude.specs.Any.{any}

@@ -1,7 +1,7 @@
 -- `walk` goes along the elements: so many are objects, and their starts are written; after the eighth, the rest is
 -- asked for one that is no object.
 use Rattle.grammar.specs.Reader.{elements_at}
-use Rattle.json_read.specs.Rows.{elements_left}
+use Rattle.json_read.specs.Inner.Rows.{elements_left}
 use Rattle.shape.proofs.Walking.{Walking}
 use Rattle.shape.proofs.element.walk.Given as goal
 
