@@ -24,8 +24,7 @@ use prelude::refusal::Refusal;
 // The header walk (document 01, 'Further requests'): `open_walk` opens it on a text, and each `next_member` hands out one
 // member, then the end. For callers that want no struct, `walk_start` and `walk_step` take the text and an offset.
 pub use walk::{
-    HeaderWalk, next as next_member, open as open_walk, open_at as walk_start,
-    step as walk_step,
+    HeaderWalk, next as next_member, open as open_walk, open_at as walk_start, step as walk_step,
 };
 
 // Reads a message for a recipient. `known` lists the extension names that the caller knows. Accepted, the header buffer begins

@@ -17,8 +17,8 @@ ghost use Rattle.headers.specs.Answers.{place_of, components_of, header_buffer};
 
 use jose::Sizes;
 use json_read::Position;
-use prelude::limits::LEVELS;
 use prelude::Place;
+use prelude::limits::LEVELS;
 use prelude::refusal::Refusal;
 use rows::table::{Entries, Headers, Texts};
 

@@ -39,10 +39,7 @@ pub fn jwe_differences(
             0
         }
         Err(Unanswered::ShortOutput) => 1,
-        Err(Unanswered::Refused {
-            left: l,
-            right: r,
-        }) => {
+        Err(Unanswered::Refused { left: l, right: r }) => {
             *left_refusal = number_or_0(l);
             *right_refusal = number_or_0(r);
             0

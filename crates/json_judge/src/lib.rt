@@ -27,10 +27,10 @@ use jose::Sizes;
 use jose::lists::ENC;
 use json_read::Position;
 use prelude::Place;
-use prelude::refusal::Refusal;
-use rows::table::{Entries, Headers, Texts};
 use prelude::limits::{HEADER_ROOM, LEVELS};
+use prelude::refusal::Refusal;
 use recipients::bodies::Bodies;
+use rows::table::{Entries, Headers, Texts};
 
 // 7 on a text within so many levels; an absent one is not judged.
 fn unread_within(levels: u32, text: &[u8]) -> bool
@@ -315,7 +315,12 @@ fn own_levels(general: bool) -> u32
 }
 
 // The pieces of a message that would be too long.
-pub fn judge_over(header: &[u8], shared: &[u8], recipients: &[u8], n: usize) -> Result<usize, Refusal>
+pub fn judge_over(
+    header: &[u8],
+    shared: &[u8],
+    recipients: &[u8],
+    n: usize,
+) -> Result<usize, Refusal>
     requires recipients_value { sound_table recipients.now ≡ true }
     requires n_value { n ≡ said_count recipients.now }
     ensures { as_stage result ≡ stage_of (first (over_tests header.now shared.now

@@ -3,7 +3,6 @@
 // the octet 1D between them and 1E behind: one literal for many cases, since each literal has its price in the proof.
 #![tactic(auto)]
 
-
 // RFC 8259 section 2: space, and a text is one value; document 01: that value is an object.
 const SPACE: [u8; 339] = *b"\
     empty object\x1d{}\x1e\

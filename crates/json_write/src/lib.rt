@@ -10,8 +10,8 @@ ghost use Rattle.json_write.specs.Answers.{WritesJson};
 
 use jose::Sizes;
 use json_put::message::Message;
-use prelude::refusal::Refusal;
 use prelude::limits::{LONGEST, MOST_RECIPIENTS};
+use prelude::refusal::Refusal;
 
 // How many recipients a message may have, general or flattened.
 fn most_for(general: bool) -> usize

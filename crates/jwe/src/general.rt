@@ -28,8 +28,8 @@ use crate::{Holding, Reading, held};
 use headers::Components;
 use jose::lists::ENC;
 use json_read::Position;
-use prelude::limits::{MOST_MEMBERS, MOST_RECIPIENTS};
 use prelude::Place;
+use prelude::limits::{MOST_MEMBERS, MOST_RECIPIENTS};
 use prelude::refusal::Refusal;
 use rows::layout;
 use rows::table::{Entries, Headers, Texts};
@@ -108,7 +108,13 @@ fn protected(header: &[u8], there: bool, table: &mut [u32]) -> Result<usize, Ref
 
 // 8 and 9 on a header that stands in the message, if its start is not 0: its parameters as entries of the
 // table from the entry `from` on.
-fn unprotected(message: &[u8], start: usize, origin: u32, table: &mut [u32], from: usize) -> Result<usize, Refusal>
+fn unprotected(
+    message: &[u8],
+    start: usize,
+    origin: u32,
+    table: &mut [u32],
+    from: usize,
+) -> Result<usize, Refusal>
     requires message_len_bound { length message.now ≤ longest }
     requires header_table_in_bounds { from * width + header_table ≤ length table.old }
     requires header_known { HeaderKnown message.now start }

@@ -16,8 +16,8 @@ ghost use Rattle.jwe_write.specs.Write.{raw, compact_text, parameters_order};
 ghost use Rattle.jwe_write.specs.Answers.{WritesCompact};
 
 use jose::Sizes;
-use prelude::refusal::Refusal;
 use prelude::limits::{HEADER_ROOM, LEVELS, LONGEST};
+use prelude::refusal::Refusal;
 use rows::table::{Entries, Headers, Texts};
 
 // The header

@@ -64,8 +64,10 @@ pub fn report(message: &[u8], out: &mut [u8]) -> Option<usize>
     let known = [0u8; 1];
     let mut header = [0u8; HEADER_ROOM];
     let mut list = [0u32; LIST_ROOM];
-    Some(match gateway::read(message, &known, 0, &mut header, &mut list) {
-        Ok(reading) => put_accepted(reading, &list, out),
-        Err(refusal) => put_refused(refusal.number(), out),
-    })
+    Some(
+        match gateway::read(message, &known, 0, &mut header, &mut list) {
+            Ok(reading) => put_accepted(reading, &list, out),
+            Err(refusal) => put_refused(refusal.number(), out),
+        },
+    )
 }

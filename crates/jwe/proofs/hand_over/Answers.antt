@@ -57,7 +57,7 @@ slice_bounds-text-end c =
     number_is given.message.now (outcome given.message.now given.recipient) _ (reading_of c.in_ok-reading.reading)
     (judges_reading c.in_ok-reading.was c.judge.ensures).answers) in
     let passes : (let given = c.args in
-    first (judging given.message.now (names given.known.now) given.recipient) ≡ 0) = sym (number-first)  in
+    first (judging given.message.now (names given.known.now) given.recipient) ≡ 0) = sym (number-first) in
     let accepts : (let given = c.args in
     numbers (reading_of c.in_ok-reading.reading)
     ≡ accepted given.message.now (outcome given.message.now given.recipient)) = (let given = c.args in
@@ -77,7 +77,7 @@ slice_bounds-copy_octets-end c =
     number_is given.message.now (outcome given.message.now given.recipient) _ (reading_of c.in_ok-reading.reading)
     (judges_reading c.in_ok-reading.was c.judge.ensures).answers) in
     let passes : (let given = c.args in
-    first (judging given.message.now (names given.known.now) given.recipient) ≡ 0) = sym (number-first)  in
+    first (judging given.message.now (names given.known.now) given.recipient) ≡ 0) = sym (number-first) in
     let accepts : (let given = c.args in
     numbers (reading_of c.in_ok-reading.reading)
     ≡ accepted given.message.now (outcome given.message.now given.recipient)) = (let given = c.args in
@@ -97,7 +97,7 @@ copy_octets-requires c =
     number_is given.message.now (outcome given.message.now given.recipient) _ (reading_of c.in_ok-reading.reading)
     (judges_reading c.in_ok-reading.was c.judge.ensures).answers) in
     let passes : (let given = c.args in
-    first (judging given.message.now (names given.known.now) given.recipient) ≡ 0) = sym (number-first)  in
+    first (judging given.message.now (names given.known.now) given.recipient) ≡ 0) = sym (number-first) in
     let accepts : (let given = c.args in
     numbers (reading_of c.in_ok-reading.reading)
     ≡ accepted given.message.now (outcome given.message.now given.recipient)) = (let given = c.args in
@@ -118,7 +118,7 @@ invariant_of-entries c =
     number_is given.message.now (outcome given.message.now given.recipient) _ (reading_of c.in_ok-reading.reading)
     (judges_reading c.in_ok-reading.was c.judge.ensures).answers) in
     let passes : (let given = c.args in
-    first (judging given.message.now (names given.known.now) given.recipient) ≡ 0) = sym (number-first)  in
+    first (judging given.message.now (names given.known.now) given.recipient) ≡ 0) = sym (number-first) in
     let accepts : (let given = c.args in
     numbers (reading_of c.in_ok-reading.reading)
     ≡ accepted given.message.now (outcome given.message.now given.recipient)) = (let given = c.args in
@@ -139,7 +139,7 @@ lay-requires c =
     number_is given.message.now (outcome given.message.now given.recipient) _ (reading_of c.in_ok-reading.reading)
     (judges_reading c.in_ok-reading.was c.judge.ensures).answers) in
     let passes : (let given = c.args in
-    first (judging given.message.now (names given.known.now) given.recipient) ≡ 0) = sym (number-first)  in
+    first (judging given.message.now (names given.known.now) given.recipient) ≡ 0) = sym (number-first) in
     let accepts : (let given = c.args in
     numbers (reading_of c.in_ok-reading.reading)
     ≡ accepted given.message.now (outcome given.message.now given.recipient)) = (let given = c.args in
@@ -162,7 +162,7 @@ returns c =
     number_is given.message.now (outcome given.message.now given.recipient) _ (reading_of c.in_ok-reading.reading)
     (judges_reading c.in_ok-reading.was c.judge.ensures).answers) in
     let passes : (let given = c.args in
-    first (judging given.message.now (names given.known.now) given.recipient) ≡ 0) = sym (number-first)  in
+    first (judging given.message.now (names given.known.now) given.recipient) ≡ 0) = sym (number-first) in
     let accepts : (let given = c.args in
     numbers (reading_of c.in_ok-reading.reading)
     ≡ accepted given.message.now (outcome given.message.now given.recipient)) = (let given = c.args in

@@ -54,7 +54,7 @@ returns c =
     let m = args.message.now in
     let known = names args.known.now in
     let r = (reading_of c.in_ok-reading.reading) in
-    let none = sym (numbered)  in
+    let none = sym (numbered) in
     let judges = (judges_reading c.in_ok-reading.was c.judge.ensures) in
     let answers : numbers r ≡ accepted m (compact_outcome m) =
     judges.answers ∙ sym (answered_accepted m (compact_outcome m) none) in
