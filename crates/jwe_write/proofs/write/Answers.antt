@@ -1,5 +1,5 @@
 -- `write` asks one stage after the other, and writes the message where none refuses.
-use mathlib.Core.Path.{◌≡◌, sym, subst, ◌∙◌}
+use mathlib.Core.Path.{◌≡◌, ap, sym, subst, ◌∙◌}
 use mathlib.Core.Bool.{true}
 use Prim.Native.Nat.{◌≤◌}
 use native.Mathlib.Omega.{arith}
@@ -7,8 +7,8 @@ use lib.ListN.{length}
 use borrow.Author.Tests.{ltb-false}
 use Rattle.names.specs.Names.{names, sound}
 use Rattle.names.proofs.Laws.{sound_filled}
-use Rattle.prelude.specs.Refusals.{first}
-use Rattle.prelude.specs.Refusals.{Stage}
+use Rattle.prelude.specs.Refusals.{Stage, number_of, as_stage, first}
+use Rattle.prelude.proofs.Exits.{exit_refused}
 use Rattle.headers.specs.Headers.{text_order}
 use Rattle.headers.proofs.Stages.{not_long, passed_is, refused_is}
 use Rattle.jwe_write.specs.Write.{raw, raw_sizes, compact_text, parameters_order}
@@ -27,7 +27,7 @@ pub returns-in_err-text : goal.returns-in_err-text
 returns-in_err-text c =
     let sounds : sound (c.args.known.now) ≡ true = sym c.sound.ensures ∙ c.if-not-sound.false in
     let r = refused_is (number_of c.in_err-text.field-0.0) _ _ (sym (ap as_stage c.in_err-text.was) ∙ c.text.ensures) in
-    subst (λ (x : Stage). WritesCompact ((raw c.args.header.now c.args.key.now c.args.iv.now c.args.ciphertext.now c.args.tag.now)) (c.args.known.now) (c.args.out.now) x (c.args.out.now)) (sym (ap as_stage c.in_err-text.was))
+    subst (λ (x : Stage). WritesCompact ((raw c.args.header.now c.args.key.now c.args.iv.now c.args.ciphertext.now c.args.tag.now)) (c.args.known.now) (c.args.out.now) x (c.args.out.now)) (sym (exit_refused _ _ c.from_residual.ensures.1))
     (refuses ((raw c.args.header.now c.args.key.now c.args.iv.now c.args.ciphertext.now c.args.tag.now)) (c.args.known.now) (c.args.out.now) (number_of c.in_err-text.field-0.0)
     (refusal_text ((raw c.args.header.now c.args.key.now c.args.iv.now c.args.ciphertext.now c.args.tag.now)) (c.args.known.now) (length (c.args.out.now)) (sounds) (number_of c.in_err-text.field-0.0) r.0 r.1) r.1)
 
@@ -46,7 +46,7 @@ returns-in_err-parameters c =
     let sounds : sound (c.args.known.now) ≡ true = sym c.sound.ensures ∙ c.if-not-sound.false in
     let reads : first (text_order ((raw c.args.header.now c.args.key.now c.args.iv.now c.args.ciphertext.now c.args.tag.now)).header) ≡ 0 = (passed_is _ _ _ (sym (ap as_stage c.in_ok-text.was) ∙ c.text.ensures)).0 in
     let r = refused_is (number_of c.in_err-parameters.field-0.0) _ _ (sym (ap as_stage c.in_err-parameters.was) ∙ c.parameters.ensures) in
-    subst (λ (x : Stage). WritesCompact ((raw c.args.header.now c.args.key.now c.args.iv.now c.args.ciphertext.now c.args.tag.now)) (c.args.known.now) (c.args.out.now) x (c.args.out.now)) (sym (ap as_stage c.in_err-parameters.was))
+    subst (λ (x : Stage). WritesCompact ((raw c.args.header.now c.args.key.now c.args.iv.now c.args.ciphertext.now c.args.tag.now)) (c.args.known.now) (c.args.out.now) x (c.args.out.now)) (sym (exit_refused _ _ c.from_residual-in_err-parameters.ensures.1))
     (refuses ((raw c.args.header.now c.args.key.now c.args.iv.now c.args.ciphertext.now c.args.tag.now)) (c.args.known.now) (c.args.out.now) (number_of c.in_err-parameters.field-0.0)
     (refusal_rules ((raw c.args.header.now c.args.key.now c.args.iv.now c.args.ciphertext.now c.args.tag.now)) (c.args.known.now) (length (c.args.out.now)) (sounds) (reads) (number_of c.in_err-parameters.field-0.0) r.0 r.1)
     r.1)
