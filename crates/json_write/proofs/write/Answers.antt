@@ -1,11 +1,11 @@
 -- `write` asks one stage after the other, and writes the message where none refuses.
-use mathlib.Core.Path.{◌≡◌, sym, subst, ◌∙◌}
+use mathlib.Core.Path.{◌≡◌, ap, sym, subst, ◌∙◌}
 use mathlib.Core.Bool.{true}
 use Prim.Native.Nat.{◌≤◌, ◌<◌}
 use native.Mathlib.Omega.{arith}
 use lib.ListN.{length}
-use Rattle.prelude.specs.Refusals.{first}
-use Rattle.prelude.specs.Refusals.{Stage}
+use Rattle.prelude.specs.Refusals.{Stage, number_of, as_stage, first}
+use Rattle.prelude.proofs.Exits.{exit_refused}
 use Rattle.prelude.proofs.Lists.{all_below}
 use Rattle.names.specs.Names.{names, sound}
 use Rattle.names.proofs.Laws.{sound_filled}
@@ -167,7 +167,7 @@ returns-in_err-judge_within c =
     c.args.tag.now c.args.recipients.now)))) ≤ 16777216 = omega (arith, c.text_length-size.ensures, c.if-size-gt-LONGEST.false) in
     let r = refused_is (number_of c.in_err-judge_within.field-0.0) _ _ (sym (ap as_stage c.in_err-judge_within.was) ∙ c.judge_within.ensures) in
     subst (λ (x : Stage). WritesJson (c.args.general) ((raw_json c.args.protected.now c.args.shared.now c.args.aad.now c.args.iv.now c.args.ciphertext.now
-    c.args.tag.now c.args.recipients.now)) (c.args.known.now) (c.args.out.now) x (c.args.out.now)) (sym (ap as_stage c.in_err-judge_within.was))
+    c.args.tag.now c.args.recipients.now)) (c.args.known.now) (c.args.out.now) x (c.args.out.now)) (sym (exit_refused _ _ c.from_residual.ensures.1))
     (refuses (c.args.general) ((raw_json c.args.protected.now c.args.shared.now c.args.aad.now c.args.iv.now c.args.ciphertext.now
     c.args.tag.now c.args.recipients.now)) (c.args.known.now) (c.args.out.now) (number_of c.in_err-judge_within.field-0.0)
     (refusal_judged (c.args.general) ((raw_json c.args.protected.now c.args.shared.now c.args.aad.now c.args.iv.now c.args.ciphertext.now
@@ -199,7 +199,7 @@ returns-then-out-size c =
       tag = all_below 256 g.tag (λ k h. (c.shared_slice_known-6-1.given k).fits);
     }) in
     let passed : first (within (c.args.general) ((raw_json c.args.protected.now c.args.shared.now c.args.aad.now c.args.iv.now c.args.ciphertext.now
-    c.args.tag.now c.args.recipients.now)) (names (c.args.known.now))) ≡ 0 = (passed_is _ _ _ (sym c.in-Passed.is ∙ c.judge_within.ensures)).0 in
+    c.args.tag.now c.args.recipients.now)) (names (c.args.known.now))) ≡ 0 = (passed_is _ _ _ (sym (ap as_stage c.in_ok-judge_within.was) ∙ c.judge_within.ensures)).0 in
     let less : length (c.args.out.now) < length ((written_text (c.args.general) ((raw_json c.args.protected.now c.args.shared.now c.args.aad.now c.args.iv.now c.args.ciphertext.now
     c.args.tag.now c.args.recipients.now)))) = omega (arith, c.if-out-size.true, c.text_length-size.ensures, short) in
     refuses (c.args.general) ((raw_json c.args.protected.now c.args.shared.now c.args.aad.now c.args.iv.now c.args.ciphertext.now
@@ -239,7 +239,7 @@ returns c =
       tag = all_below 256 g.tag (λ k h. (c.shared_slice_known-6-1.given k).fits);
     }) in
     let passed : first (within (c.args.general) ((raw_json c.args.protected.now c.args.shared.now c.args.aad.now c.args.iv.now c.args.ciphertext.now
-    c.args.tag.now c.args.recipients.now)) (names (c.args.known.now))) ≡ 0 = (passed_is _ _ _ (sym c.in-Passed.is ∙ c.judge_within.ensures)).0 in
+    c.args.tag.now c.args.recipients.now)) (names (c.args.known.now))) ≡ 0 = (passed_is _ _ _ (sym (ap as_stage c.in_ok-judge_within.was) ∙ c.judge_within.ensures)).0 in
     let enough : length ((written_text (c.args.general) ((raw_json c.args.protected.now c.args.shared.now c.args.aad.now c.args.iv.now c.args.ciphertext.now
     c.args.tag.now c.args.recipients.now)))) ≤ length (c.args.out.now) = omega (arith, c.if-out-size.false, c.text_length-size.ensures, short) in
     accepts (c.args.general) ((raw_json c.args.protected.now c.args.shared.now c.args.aad.now c.args.iv.now c.args.ciphertext.now
