@@ -28,16 +28,16 @@ pub use walk::{
 };
 
 // Reads a message for a recipient. `known` lists the extension names that the caller knows. Accepted, the header buffer begins
-// with the decoded protected header and the list with six numbers a parameter; the rest of both is unchanged. Refused, the
-// result is the refusal's number with zeros, and both are unchanged.
+// with the decoded protected header and the list with six numbers a parameter; the rest of both is unchanged. Refused, both
+// are unchanged.
 pub fn read(
     message: &[u8],
     known: &[u8],
     recipient: u32,
     header: &mut [u8],
     list: &mut [u32],
-) -> jwe::Result
-    ensures answered { numbers result
+) -> Result<Reading, Refusal>
+    ensures answered { numbers (as_result result)
         ≡ result_of (call message.now known.now recipient
         (length header.old) (length list.old)) }
     ensures decoded { header.new

@@ -103,8 +103,8 @@ fn hand_over(
 }
 
 // Reads a message for a recipient. `known` lists the extension names that the caller knows. Accepted, the header buffer
-// begins with the decoded protected header and the list with six numbers a parameter; the rest of both is unchanged. Refused, the
-// result is the refusal's number with zeros, and both are unchanged.
+// begins with the decoded protected header and the list with six numbers a parameter; the rest of both is unchanged. Refused, both
+// are unchanged.
 pub fn read(
     message: &[u8],
     known: &[u8],
