@@ -1,9 +1,6 @@
 -- `jwe_write_flattened` tells C what `write_json` promises.
-use mathlib.Core.Path.{sym, subst₂}
-use Prim.Native.Nat.{ℕ}
-use Rattle.prelude.specs.Outputs.{Writes}
+use Rattle.host.proofs.Told.{told}
 use Rattle.host.proofs.jwe_write_flattened.Goals as goal
 
 pub returns : goal.returns
-returns c =
-    subst₂ (λ (n k : ℕ). Writes _ _ c.args.out.now n k c.write_json.new.out) (sym c.tell.ensures.number) (sym c.tell.ensures.count) c.write_json.ensures
+returns c = told c.tell.ensures.number c.tell.ensures.count c.write_json.ensures

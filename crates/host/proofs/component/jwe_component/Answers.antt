@@ -1,5 +1,5 @@
 -- `jwe_component` hands on the reader's refusal, or what decoding the component's text answers.
-use mathlib.Core.Path.{◌≡◌, ap, sym, ◌∙◌}
+use mathlib.Core.Path.{ap, sym, ◌∙◌}
 use Rattle.parts.specs.Parts.{part}
 use Rattle.prelude.specs.declared.Place.{Place}
 use Rattle.headers.specs.Components as headers

@@ -38,18 +38,11 @@ unfolding place_at component_place
 returns-in-5 c =
     sym (ap (λ (n : ℕ). code_place (component_place (components_of c.args.q) n)) c.in-5.is)
 
-pub returns : goal.returns
+pub returns-in_default : goal.returns-in_default
 unfolding component_place
-returns c =
+returns-in_default c =
     let given = c.args in
     let n = given.n in
+    let none = c.in_default.in_default-own.rest in
     sym (ap code_place (place_absent (places (components_of given.q)) n
-    (omega (
-      arith,
-      c.if-n-eq5.false,
-      c.if-n-eq4.false,
-      c.if-n-eq3.false,
-      c.if-n-eq2.false,
-      c.if-n-eq1.false,
-      c.if-n-eq0.false,
-    ))))
+    (omega (arith, none.1, none.0.1, none.0.0.1, none.0.0.0.1, none.0.0.0.0.1, none.0.0.0.0.0.1))))

@@ -12,7 +12,7 @@ pub returns-then-res-lt-ROOM : goal.returns-then-res-lt-ROOM
 returns-then-res-lt-ROOM c =
     let both = too_little ((let given = c.args in
     call given.message.now given.known.now given.recipient (length given.header.now) (length given.list.now))) c.args.header.now c.args.list.now c.args.res.now c.if-res-lt-ROOM.true in
-    record { answered = both.0; decoded = both.1.0; listed = both.1.1.0; numbered = both.1.1.1 }
+    record { answered = c.number.ensures ∙ both.0; decoded = both.1.0; listed = both.1.1.0; numbered = both.1.1.1 }
 
 pub put_result-requires : goal.put_result-requires
 put_result-requires c =

@@ -21,7 +21,7 @@ pub bounds-into-1 : goal.bounds-into-1
 bounds-into-1 c = simp length-set (omega arith)
 
 pub overflow_cast-into : goal.overflow_cast-into
-overflow_cast-into c = record { fits = recipients_small c.args.r c.requires.all_below }
+overflow_cast-into c = record { fits = recipients_small (reading_of c.args.r) c.requires.all_below }
 
 pub bounds-into-2 : goal.bounds-into-2
 bounds-into-2 c = simp length-set (omega arith)
@@ -35,7 +35,7 @@ put_place-requires c =
     let into = c.args.into.now in
     (let all = numbers (reading_of c.args.r) in Writing 0 all c.args.into.now (drop 4 all) 4 (set (set (set (set into 0 0) 1 r.form) 2 r.recipients) 3 r.mode))) = (let opened = begin 0 (numbers (reading_of c.args.r)) c.args.into.now c.requires.result_room_in_bounds in
     put _ 4 refl (put _ 3 refl (put _ 2 refl (put _ 1 refl opened)))) in
-    let small = protected_small c.args.r c.requires.all_below in
+    let small = protected_small (reading_of c.args.r) c.requires.all_below in
     record {
       start_lt_number_limit = small.0;
       len_lt_number_limit = small.1;
@@ -50,7 +50,7 @@ put_place-requires-2 c =
     put _ 4 refl (put _ 3 refl (put _ 2 refl (put _ 1 refl opened)))) in
     let wrote-2 : (let all = numbers (reading_of c.args.r) in Writing 0 all c.args.into.now (drop 6 all) 6 c.put_place.new.into) = put_part (place_numbers (reading_of c.args.r).components.protected []) _ refl (wrote-1) refl
     c.put_place.ensures in
-    let small = key_small c.args.r c.requires.all_below in
+    let small = key_small (reading_of c.args.r) c.requires.all_below in
     record {
       start_lt_number_limit = small.0;
       len_lt_number_limit = small.1;
@@ -67,7 +67,7 @@ put_place-requires-3 c =
     c.put_place.ensures in
     let wrote-3 : (let all = numbers (reading_of c.args.r) in Writing 0 all c.args.into.now (drop 8 all) 8 c.put_place-2.new.into) = put_part (place_numbers (reading_of c.args.r).components.key []) _ refl (wrote-2) refl
     c.put_place-2.ensures in
-    let small = iv_small c.args.r c.requires.all_below in
+    let small = iv_small (reading_of c.args.r) c.requires.all_below in
     record {
       start_lt_number_limit = small.0;
       len_lt_number_limit = small.1;
@@ -86,7 +86,7 @@ put_place-requires-4 c =
     c.put_place-2.ensures in
     let wrote-4 : (let all = numbers (reading_of c.args.r) in Writing 0 all c.args.into.now (drop 10 all) 10 c.put_place-3.new.into) = put_part (place_numbers (reading_of c.args.r).components.iv []) _ refl (wrote-3) refl
     c.put_place-3.ensures in
-    let small = aad_small c.args.r c.requires.all_below in
+    let small = aad_small (reading_of c.args.r) c.requires.all_below in
     record {
       start_lt_number_limit = small.0;
       len_lt_number_limit = small.1;
@@ -107,7 +107,7 @@ put_place-requires-5 c =
     c.put_place-3.ensures in
     let wrote-5 : (let all = numbers (reading_of c.args.r) in Writing 0 all c.args.into.now (drop 12 all) 12 c.put_place-4.new.into) = put_part (place_numbers (reading_of c.args.r).components.aad []) _ refl (wrote-4) refl
     c.put_place-4.ensures in
-    let small = ciphertext_small c.args.r c.requires.all_below in
+    let small = ciphertext_small (reading_of c.args.r) c.requires.all_below in
     record {
       start_lt_number_limit = small.0;
       len_lt_number_limit = small.1;
@@ -130,7 +130,7 @@ put_place-requires-6 c =
     c.put_place-4.ensures in
     let wrote-6 : (let all = numbers (reading_of c.args.r) in Writing 0 all c.args.into.now (drop 14 all) 14 c.put_place-5.new.into) = put_part (place_numbers (reading_of c.args.r).components.ciphertext []) _ refl (wrote-5) refl
     c.put_place-5.ensures in
-    let small = tag_small c.args.r c.requires.all_below in
+    let small = tag_small (reading_of c.args.r) c.requires.all_below in
     record {
       start_lt_number_limit = small.0;
       len_lt_number_limit = small.1;
@@ -139,7 +139,7 @@ put_place-requires-6 c =
 
 pub overflow_cast-into-2 : goal.overflow_cast-into-2
 overflow_cast-into-2 c =
-    record { fits = header_small c.args.r c.requires.all_below }
+    record { fits = header_small (reading_of c.args.r) c.requires.all_below }
 
 pub bounds-into-16 : goal.bounds-into-16
 bounds-into-16 c =
@@ -163,7 +163,7 @@ bounds-into-16 c =
 
 pub overflow_cast-into-3 : goal.overflow_cast-into-3
 overflow_cast-into-3 c =
-    record { fits = parameters_small c.args.r c.requires.all_below }
+    record { fits = parameters_small (reading_of c.args.r) c.requires.all_below }
 
 pub bounds-into-17 : goal.bounds-into-17
 bounds-into-17 c =
