@@ -99,8 +99,11 @@ fn nth<T: Copy>(all: &[T], n: usize) -> Option<T>
 }
 
 impl Alg {
+    // How many there are.
+    pub const COUNT: u32 = 17;
+
     // All of them, in document 01's order.
-    const ALL: [Alg; 17] = [
+    const ALL: [Alg; Alg::COUNT as usize] = [
         Alg::Rsa15,
         Alg::RsaOaep,
         Alg::RsaOaep256,
@@ -193,8 +196,11 @@ impl Alg {
 }
 
 impl Enc {
+    // How many there are.
+    pub const COUNT: u32 = 6;
+
     // All of them, in document 01's order.
-    const ALL: [Enc; 6] = [
+    const ALL: [Enc; Enc::COUNT as usize] = [
         Enc::A128CbcHs256,
         Enc::A192CbcHs384,
         Enc::A256CbcHs512,

@@ -1,7 +1,7 @@
 -- Fingerprints as the code makes them, octet by octet; and what they say: strings that say the same have equal ones.
 use mathlib.Core.Path.{◌≡◌, refl, ap, sym, subst}
 use mathlib.Core.Bool.{Bool, true, false}
-use mathlib.Core.List.{List, [], ◌∷◌}
+use mathlib.Core.List.{List, [], ◌∷◌, ◌++◌}
 use Prim.Native.Nat.{ℕ}
 use lib.Dec.{T}
 use Rattle.grammar.specs.Spellings.{undo, alike, has}
@@ -19,6 +19,12 @@ mixed_next h c t w e = ap (fingerprint_from h) e
 pub mixed_end : (h : ℕ) (w : List ℕ) → [] ≡ w → h ≡ fingerprint_from h w
 unfolding fingerprint_from
 mixed_end h w e = ap (fingerprint_from h) e
+
+-- Several octets that are to come.
+pub mixed_more : (h : ℕ) (v w : List ℕ) → fingerprint_from (fingerprint_from h v) w ≡ fingerprint_from h (v ++ w)
+unfolding fingerprint_from
+mixed_more h [] w = refl
+mixed_more h (c ∷ v) w = mixed_more (mixed h c) v w
 
 -- From the beginning.
 pub mixed_start : (w : List ℕ) → fingerprint_from 2166136261 (undo_at w None 0) ≡ fingerprint (undo w)
