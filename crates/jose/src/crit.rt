@@ -15,7 +15,7 @@ use crate::lists::CRIT;
 use json_read::member::{Row, Rows};
 use prelude::limits::LEVELS;
 use rows::layout::STRING;
-use rows::table::{Entry, Headers};
+use rows::table::{Entries, Entry, Texts};
 
 // A string element as it is spelled, without quotation marks; the empty part where it lies outside the text.
 fn spelled(s: &[u8], row: Row) -> &[u8]
@@ -81,49 +81,57 @@ fn twice(s: &[u8], at: usize) -> bool
 }
 
 // Whether an element is a registered name, or no name of the recipient's headers.
-fn misplaced(h: Headers, s: &[u8], row: Row) -> bool
-    ensures { result ≡ misplaced (the_texts h.entry.texts) (the_entries h.entry.entries) s.now (element_of row) }
+fn misplaced(texts: Texts, entries: Entries, s: &[u8], row: Row) -> bool
+    ensures { result ≡ misplaced (the_texts texts.entry) (the_entries entries.entry) s.now (element_of row) }
 {
     let w = spelled(s, row);
     let list = crate::lists::REGISTERED;
     if names::find(&list, w) != 0 {
         return true;
     }
-    let Headers { texts, entries } = h;
     !entries.any(|e| texts.says(e, w))
 }
 
 // Whether one of an array is.
-fn some_misplaced(h: Headers, s: &[u8], at: usize) -> bool
-    ensures { result ≡ any (misplaced (the_texts h.entry.texts) (the_entries h.entry.entries) s.now) (elements_at levels s.now at) }
+fn some_misplaced(texts: Texts, entries: Entries, s: &[u8], at: usize) -> bool
+    ensures { result ≡ any (misplaced (the_texts texts.entry) (the_entries entries.entry) s.now) (elements_at levels s.now at) }
 {
-    Rows::elements(s, at, LEVELS, false).any(|row| misplaced(h, s, row))
+    Rows::elements(s, at, LEVELS, false).any(|row| misplaced(texts, entries, s, row))
 }
 
 // Whether the elements of an array in the text s are wrong as those of `crit`.
 #[tactic(auto, unfolding(crate::specs::HeaderRules::wrong_crit))]
-fn wrong(h: Headers, known: &[u8], s: &[u8], at: usize) -> bool
+fn wrong(texts: Texts, entries: Entries, known: &[u8], s: &[u8], at: usize) -> bool
     requires { filled known.now ≡ true }
-    ensures { result ≡ wrong_crit (names known.now) (the_texts h.entry.texts) (the_entries h.entry.entries) s.now (elements_at levels s.now at) }
+    ensures { result ≡ wrong_crit (names known.now) (the_texts texts.entry) (the_entries entries.entry) s.now (elements_at levels s.now at) }
 {
-    empty(s, at) || some_unknown(s, known, at) || twice(s, at) || some_misplaced(h, s, at)
+    empty(s, at)
+        || some_unknown(s, known, at)
+        || twice(s, at)
+        || some_misplaced(texts, entries, s, at)
 }
 
 // Whether an entry is a `crit` with wrong contents.
-fn critical(h: Headers, known: &[u8], e: Entry) -> bool
+fn critical(texts: Texts, entries: Entries, known: &[u8], e: Entry) -> bool
     requires { filled known.now ≡ true }
-    ensures { result ≡ critical (names known.now) (the_texts h.entry.texts) (the_entries h.entry.entries) (the_entry e.entry) }
+    ensures { result ≡ critical (names known.now) (the_texts texts.entry) (the_entries entries.entry) (the_entry e.entry) }
 {
     if e.number() != CRIT {
         return false;
     }
-    wrong(h, known, h.texts.of(e.origin()), e.value_place().start)
+    wrong(
+        texts,
+        entries,
+        known,
+        texts.of(e.origin()),
+        e.value_place().start,
+    )
 }
 
 // 17: whether one of a recipient's parameters is.
-pub fn wrong_crit(h: Headers, known: &[u8]) -> bool
+pub fn wrong_crit(texts: Texts, entries: Entries, known: &[u8]) -> bool
     requires { filled known.now ≡ true }
-    ensures { result ≡ any (critical (names known.now) (the_texts h.entry.texts) (the_entries h.entry.entries)) (the_entries h.entry.entries) }
+    ensures { result ≡ any (critical (names known.now) (the_texts texts.entry) (the_entries entries.entry)) (the_entries entries.entry) }
 {
-    h.entries.any(|e| critical(h, known, e))
+    entries.any(|e| critical(texts, entries, known, e))
 }

@@ -77,7 +77,7 @@ fn breaks(rule: Rule, h: Headers, known: &[u8], bad_key: bool) -> bool
         Rule::WrongKind => crate::rules::wrong_kind(h.entries),
         Rule::Unlisted => crate::rules::unlisted(h.texts, h.entries),
         Rule::Unprotected => crate::rules::unprotected(h.entries),
-        Rule::Critical => crate::crit::wrong_crit(h, known),
+        Rule::Critical => crate::crit::wrong_crit(h.texts, h.entries, known),
         Rule::WrongKey => bad_key,
     }
 }

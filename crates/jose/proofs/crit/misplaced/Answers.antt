@@ -31,8 +31,8 @@ returns-then-find-ne0 c =
 pub returns : goal.returns
 unfolding list_of registered ascii flatten
 returns c =
-    let ts = the_texts c.args.h.texts in
-    let es = the_entries c.args.h.entries in
+    let ts = the_texts c.args.texts in
+    let es = the_entries c.args.entries in
     let number =
     c.find.ensures ∙ ap (λ ns. number_in ns c.spelled-w.result.now) (names_of_lem registered)
     ∙ ap (number_in registered) c.spelled-w.ensures in

@@ -10,6 +10,6 @@ use Rattle.jose.proofs.crit.some_misplaced.Goals as goal
 
 pub returns : goal.returns
 returns c =
-    let test = misplaced (the_texts c.args.h.texts) (the_entries c.args.h.entries) c.args.s.now in
+    let test = misplaced (the_texts c.args.texts) (the_entries c.args.entries) c.args.s.now in
     any_element_left c.elements.result c.any.new.self _ test c.any.result c.any.ensures.ran (λ x b q k. search (rules, tests))
     ∙ ap (any test) c.elements.ensures.elements
