@@ -90,27 +90,33 @@ module _ (left right known before : List ℕ) where
   err_number (Ok h) = refl
   err_number (Err e) = refl
 
+  -- Whether both are accepted, by the two refusals.
+
+  pub not_accepted : (m n : ℕ) → m ≡ refusal_of left known → n ≡ refusal_of right known → ((0 < m) ⊎ (0 < n)) →
+      both_accepted left right known ≡ false
+  not_accepted m n e f h = sym (ap₂ (λ (x y : ℕ). eqb x 0 && eqb y 0) e f) ∙ not_both m n (above h)
+    where
+      above : ((0 < m) ⊎ (0 < n)) → ((m ≡ 0 → ⊥) ⊎ (n ≡ 0 → ⊥))
+      above (inl k) = inl (λ z. omega arith)
+      above (inr k) = inr (λ z. omega arith)
+
+  pub are_accepted : (m n : ℕ) → m ≡ refusal_of left known → n ≡ refusal_of right known → m ≡ 0 → n ≡ 0 → both_accepted left right known ≡ true
+  are_accepted m n e f z w = ap₂ (λ (x y : ℕ). eqb x 0 && eqb y 0) (sym e ∙ z) (sym f ∙ w)
+
   pub compares_refused : (l r : Result Holding Refusal) {a b : Option Refusal} → (as_holding l).number ≡ refusal_of left known →
       (as_holding r).number ≡ refusal_of right known → a ≡ result_err l → b ≡ result_err r →
       ((0 < (as_holding l).number) ⊎ (0 < (as_holding r).number)) → Compares left right known before (as_answer (Err (Refused a b))) before
   compares_refused l r {a} {b} e f p q h =
       let m : refusal_number a ≡ refusal_of left known = ap refusal_number p ∙ err_number l ∙ e in
       let n : refusal_number b ≡ refusal_of right known = ap refusal_number q ∙ err_number r ∙ f in
-      let gone : both_accepted left right known ≡ false =
-      sym (ap₂ (λ (x y : ℕ). eqb x 0 && eqb y 0) e f) ∙ not_both (as_holding l).number (as_holding r).number (above h) in
+      let gone : both_accepted left right known ≡ false = not_accepted (as_holding l).number (as_holding r).number e f h in
       subst (λ (x : Answer). Compares left right known before x before) (sym (ap₂ (λ (x y : ℕ). answer_of 0 x y 0) m n)) (refused_both gone)
-    where
-      above : ((0 < (as_holding l).number) ⊎ (0 < (as_holding r).number)) →
-          (((as_holding l).number ≡ 0 → ⊥) ⊎ ((as_holding r).number ≡ 0 → ⊥))
-      above (inl k) = inl (λ z. omega arith)
-      above (inr k) = inr (λ z. omega arith)
 
   pub compares_accepted : (m n : ℕ) (r : Answer) (after : List ℕ) → m ≡ refusal_of left known → n ≡ refusal_of right known → m ≡ 0 →
       n ≡ 0 → Answers ls before r after → Compares left right known before r after
   unfolding compare_number shown_lines
   compares_accepted m n r after e f z w a =
-      let yes : both_accepted left right known ≡ true =
-      ap₂ (λ (x y : ℕ). eqb x 0 && eqb y 0) (sym e ∙ z) (sym f ∙ w) in
+      let yes : both_accepted left right known ≡ true = are_accepted m n e f z w in
       record {
         number = a.number ∙ sym (ap number_by yes);
         left_refused = a.accepted.0 ∙ sym z ∙ e;

@@ -1,6 +1,6 @@
 -- What comparing two messages answers and leaves (document 02, 4/12): 'its own number (0, or 1 if the lent list cannot hold all), both
 -- refusals as for recipient 0 given room, and the line count; where any refuses, 0 lines and the list unchanged, else its rest unchanged.'
-use Rattle.std.specs.Prelude.{◌≡◌, Bool, ◌&&◌, cond, List, [], Option, None, Some, Result, Ok, Err, ℕ, ◌*◌, length, eqb, leb}
+use Rattle.std.specs.Prelude.{◌≡◌, Bool, true, false, ◌&&◌, cond, List, [], Option, None, Some, Result, Ok, Err, ℕ, ◌*◌, length, eqb, leb}
 use Rattle.prelude.specs.Buffer.{written}
 use Rattle.prelude.specs.Limits.{header_room, list_room}
 use Rattle.prelude.specs.Refusals.{number_of}
@@ -56,6 +56,12 @@ unanswered ShortOutput = answer_of 1 0 0 0
 abbrev pub as_answer : Result ℕ Unanswered → Answer
 as_answer (Ok lines) = answer_of 0 0 0 lines
 as_answer (Err e) = unanswered e
+
+-- Whether the answer is that a message is refused. Its numbers don't tell: they are 0 where nothing differs, too.
+abbrev pub is_refused : Result ℕ Unanswered → Bool
+is_refused (Ok lines) = false
+is_refused (Err ShortOutput) = false
+is_refused (Err (Refused left right)) = true
 
 -- The answer, and the list afterwards, by what it was before.
 pub record Compares (left right known before : List ℕ) (r : Answer) (after : List ℕ) : Type 0 where

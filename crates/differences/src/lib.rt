@@ -2,7 +2,7 @@
 // changed only where it holds them all.
 #![tactic(auto)]
 
-ghost use Rattle.std.specs.Prelude.{◌≡◌, ◌++◌, ◌+◌, ◌*◌, ◌≤◌, not, min, length};
+ghost use Rattle.std.specs.Prelude.{◌≡◌, ◌++◌, ◌+◌, ◌*◌, ◌≤◌, false, not, min, length};
 ghost use Rattle.grammar.specs.Spellings.{equal};
 ghost use Rattle.headers.specs.Answers.{place_of};
 ghost use Rattle.headers.specs.Components.{octets_at};
@@ -14,7 +14,7 @@ ghost use Rattle.parameters.specs.Inner.Kept.{Keeps};
 ghost use Rattle.differences.specs.Differences.{compared, texts_of, whole, up_to, message_lines, key_lines, recipient_lines, differences};
 ghost use Rattle.differences.specs.Inner.Holding.{Fronted};
 ghost use Rattle.differences.specs.Inner.Handing.{Answers};
-ghost use Rattle.differences.specs.Answers.{as_answer, Compares};
+ghost use Rattle.differences.specs.Answers.{both_accepted, as_answer, is_refused, Compares};
 
 use jwe::held;
 use message::Judged;
@@ -176,7 +176,8 @@ fn hand_out(
 ) -> Result<usize, Unanswered>
     requires fronted { Fronted left.now.message.now left.now.holds.common left_table.old }
     requires fronted_2 { Fronted right.now.message.now right.now.holds.common right_table.old }
-    ensures { Answers (differences (compared left.now.message.now) (compared right.now.message.now)) list.old (as_answer result) list.new }
+    ensures answers { Answers (differences (compared left.now.message.now) (compared right.now.message.now)) list.old (as_answer result) list.new }
+    ensures accepted { is_refused result ≡ false }
 {
     let mut lines = Lines::new();
     let mut work = [0u32; same::WORK_ROOM];
@@ -198,7 +199,8 @@ pub fn compare(
     known: &[u8],
     list: &mut [u32],
 ) -> Result<usize, Unanswered>
-    ensures { Compares left.now right.now known.now list.old (as_answer result) list.new }
+    ensures compares { Compares left.now right.now known.now list.old (as_answer result) list.new }
+    ensures refused { is_refused result ≡ not (both_accepted left.now right.now known.now) }
 {
     let mut left_text = [0u8; HEADER_ROOM];
     let mut left_table = [0u32; layout::RECIPIENT_TABLE];

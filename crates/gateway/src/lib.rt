@@ -2,7 +2,7 @@
 // samples of the papers stand in proofs/.
 #![tactic(auto)]
 
-ghost use Rattle.std.specs.Prelude.{◌≡◌, length};
+ghost use Rattle.std.specs.Prelude.{◌≡◌, not, length};
 ghost use Rattle.jwe.specs.Judge.{call, result_of, header_after, list_after};
 ghost use Rattle.jwe.specs.Answers.{numbers, as_result};
 ghost use Rattle.prelude.specs.Refusals.{as_stage};
@@ -13,7 +13,7 @@ ghost use Rattle.jwe_write.specs.Write.{raw};
 ghost use Rattle.jwe_write.specs.Answers.{WritesCompact};
 ghost use Rattle.json_message.specs.JsonWrite.{raw_json};
 ghost use Rattle.json_write.specs.Answers.{WritesJson};
-ghost use Rattle.differences.specs.Answers.{as_answer, Compares};
+ghost use Rattle.differences.specs.Answers.{both_accepted, as_answer, is_refused, Compares};
 
 use base64url::DecodeError;
 use differences::Unanswered;
@@ -142,7 +142,8 @@ pub fn differences(
     known: &[u8],
     list: &mut [u32],
 ) -> Result<usize, Unanswered>
-    ensures { Compares left.now right.now known.now list.old (as_answer result) list.new }
+    ensures compares { Compares left.now right.now known.now list.old (as_answer result) list.new }
+    ensures refused { is_refused result ≡ not (both_accepted left.now right.now known.now) }
 {
     differences::compare(left, right, known, list)
 }

@@ -30,19 +30,13 @@ pub fn jwe_differences(
     ensures { Compares left.now right.now known.now list.old
         (answer_of result left_refusal.new right_refusal.new lines.new) list.new }
 {
-    *left_refusal = 0;
-    *right_refusal = 0;
-    *lines = 0;
-    match gateway::differences(left, right, known, list) {
-        Ok(count) => {
-            *lines = count;
-            0
-        }
-        Err(Unanswered::ShortOutput) => 1,
-        Err(Unanswered::Refused { left: l, right: r }) => {
-            *left_refusal = number_or_0(l);
-            *right_refusal = number_or_0(r);
-            0
-        }
-    }
+    let (number, l, r, count) = match gateway::differences(left, right, known, list) {
+        Ok(count) => (0, None, None, count),
+        Err(Unanswered::ShortOutput) => (1, None, None, 0),
+        Err(Unanswered::Refused { left: l, right: r }) => (0, l, r, 0),
+    };
+    *left_refusal = number_or_0(l);
+    *right_refusal = number_or_0(r);
+    *lines = count;
+    number
 }
