@@ -29,6 +29,9 @@ nth_drop (e ∷ es) (suc k) = nth_drop es k
 pub nth_at : (k count : ℕ) (t : List ℕ) → k < count → nth (entries_of count t) k ≡ some (first_of (drop (k * width) t))
 nth_at k count t h = nth_drop (entries_of count t) k ∙ ap head_of (entry_at k count t h)
 
+pub nth_none : (k count : ℕ) (t : List ℕ) → count ≤ k → nth (entries_of count t) k ≡ none
+nth_none k count t h = nth_drop (entries_of count t) k ∙ ap head_of (entries_done k count t h)
+
 pub some_is : {e f : Entry} → ◌≡◌ {A = Option Entry} (some e) (some f) → e ≡ f
 some_is p = cc
 
@@ -38,6 +41,13 @@ unfolding nth
 nth_below [] k e p = let z : ◌≡◌ {A = ℕ} 0 1 = cc in omega arith
 nth_below (x ∷ es) zero e p = omega arith
 nth_below (x ∷ es) (suc k) e p = omega (arith, nth_below es k e p)
+
+-- In the first of two lists.
+pub nth_append : (es fs : List Entry) (k : ℕ) → k < length es → nth (es ++ fs) k ≡ nth es k
+unfolding nth
+nth_append [] fs k h = absurd (omega arith)
+nth_append (e ∷ es) fs zero h = refl
+nth_append (e ∷ es) fs (suc k) h = nth_append es fs k (omega arith)
 
 -- What is found in one list, and else in the other.
 abbrev pub or_else : Option Entry → Option Entry → Option Entry

@@ -2,16 +2,34 @@
 // a table of entries of both.
 #![tactic(auto)]
 
-ghost use Rattle.std.specs.Prelude.{◌*◌, ◌≤◌, length};
-ghost use Rattle.rows.specs.Rows.{read_texts};
-ghost use Rattle.rows.specs.Tables.{width};
+ghost use Rattle.std.specs.Prelude.{◌≡◌, ◌+◌, ◌*◌, ◌≤◌, length, drop};
+ghost use Rattle.rows.specs.Rows.{read_texts, text_of, name_in};
+ghost use Rattle.rows.specs.Tables.{first_of, entries_of, width};
 ghost use Rattle.rows.specs.Inner.Prints.{Printed};
-ghost use Rattle.rows.specs.Tables.{entries_of};
 ghost use Rattle.matching.specs.Inner.Places.{printed_prop, EachReads, each_reads_prop};
 
 use rows::table::Texts;
 use rows::{ask, layout};
 use same::Value;
+
+// The text in which an entry of a table stands: the decoded protected header, or the message.
+pub fn text<'a>(header: &'a [u8], message: &'a [u8], table: &[u32], i: usize) -> &'a [u8]
+    requires { i * width + width ≤ length table.now }
+    ensures { result.now ≡ text_of (read_texts header.now message.now) (first_of (drop (i * width) table.now)).origin }
+{
+    if ask::field(table, i, layout::ORIGIN) == 0 {
+        return header;
+    }
+    message
+}
+
+// The name of an entry of a table as it is spelled.
+pub fn name<'a>(header: &'a [u8], message: &'a [u8], table: &[u32], i: usize) -> &'a [u8]
+    requires { i * width + width ≤ length table.now }
+    ensures { result.now ≡ name_in (read_texts header.now message.now) (first_of (drop (i * width) table.now)) }
+{
+    ask::name(text(header, message, table, i), table, i)
+}
 
 // Of the table's first `count` entries, the first `common` are all recipients'. Each keeps the fingerprint of its name.
 #[derive(Clone, Copy)]
@@ -28,7 +46,7 @@ pub struct Side<'a, 't> {
 }
 
 impl<'a, 't> Side<'a, 't> {
-    ghost use Rattle.std.specs.Prelude.{◌≡◌, ◌<◌, drop, IfSome};
+    ghost use Rattle.std.specs.Prelude.{◌≡◌, ◌≤◌, ◌<◌, drop, IfSome};
     ghost use Rattle.grammar.specs.Spellings.{undo};
     ghost use Rattle.spelling.specs.Inner.Fingerprints.{fingerprint};
     ghost use Rattle.rows.specs.Rows.{text_of, name_in, name_says};
@@ -42,10 +60,7 @@ impl<'a, 't> Side<'a, 't> {
         requires { i < self.now.count }
         ensures { result.now ≡ text_of (texts self.now) (entry_at self.now i).origin }
     {
-        if ask::field(self.table, i, layout::ORIGIN) == 0 {
-            return self.header;
-        }
-        self.message
+        text(self.header, self.message, self.table, i)
     }
 
     // The name of an entry as it is spelled.
@@ -53,7 +68,7 @@ impl<'a, 't> Side<'a, 't> {
         requires { i < self.now.count }
         ensures { result.now ≡ name_in (texts self.now) (entry_at self.now i) }
     {
-        ask::name(self.text(i), self.table, i)
+        name(self.header, self.message, self.table, i)
     }
 
     // The value of an entry, by its place and kind.
@@ -89,6 +104,7 @@ impl<'a, 't> Side<'a, 't> {
     pub fn seek(&self, from: usize, other: &Side<'_, '_>, i: usize) -> Option<usize>
         requires from_le_count { from ≤ self.now.count }
         requires i_lt_count { i < other.now.count }
+        ensures lower_bound { IfSome result (λ j. from ≤ j) }
         ensures bounds { IfSome result (λ j. j < self.now.count) }
         ensures partner { partner (texts self.now) (name_in (texts other.now) (entry_at other.now i)) (drop from (entries self.now)) ≡ found (entries self.now) result }
     {
