@@ -98,10 +98,8 @@ pub fn jwe_write_compact(
         (raw header.now key.now iv.now ciphertext.now tag.now))
         out.old result octets.new out.new }
 {
-    tell(
-        gateway::write(header, key, iv, ciphertext, tag, known, out),
-        octets,
-    )
+    let compact = gateway::write(header, key, iv, ciphertext, tag, known, out);
+    tell(compact, octets)
 }
 
 // Writes the flattened message of the headers' texts, the raw other components and one recipient, contents first.
@@ -127,12 +125,10 @@ pub fn jwe_write_flattened(
         ciphertext.now tag.now recipients.now))
         out.old result octets.new out.new }
 {
-    tell(
-        gateway::write_json(
-            false, protected, shared, aad, iv, ciphertext, tag, known, recipients, out,
-        ),
-        octets,
-    )
+    let flattened = gateway::write_json(
+        false, protected, shared, aad, iv, ciphertext, tag, known, recipients, out,
+    );
+    tell(flattened, octets)
 }
 
 // Writes the general message of the headers' texts, the raw other components and the recipients, contents first.
@@ -158,10 +154,8 @@ pub fn jwe_write_general(
         ciphertext.now tag.now recipients.now))
         out.old result octets.new out.new }
 {
-    tell(
-        gateway::write_json(
-            true, protected, shared, aad, iv, ciphertext, tag, known, recipients, out,
-        ),
-        octets,
-    )
+    let general = gateway::write_json(
+        true, protected, shared, aad, iv, ciphertext, tag, known, recipients, out,
+    );
+    tell(general, octets)
 }

@@ -3,4 +3,4 @@ use Rattle.host.proofs.Told.{told}
 use Rattle.host.proofs.jwe_write_flattened.Goals as goal
 
 pub returns : goal.returns
-returns c = told c.tell.ensures.number c.tell.ensures.count c.write_json.ensures
+returns c = told c.tell.ensures.number c.tell.ensures.count c.write_json-flattened.ensures
