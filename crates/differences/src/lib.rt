@@ -19,13 +19,16 @@ ghost use Rattle.differences.specs.Answers.{both_accepted, as_answer, is_refused
 use jwe::held;
 use message::Judged;
 use parameters::Kept;
-use parameters::lines::{self, Kind, Lines, missing};
+use parameters::lines::{self, Kind, Lines, MOST, missing};
 use prelude::Place;
-use prelude::limits::{HEADER_ROOM, MOST_RECIPIENTS};
+use prelude::limits::{HEADER_ROOM, MOST_MEMBERS, MOST_RECIPIENTS};
 use prelude::refusal::Refusal;
 use rows::layout;
 
 mod message;
+
+// So many parameters of a message are all recipients' at most: those of its protected header and those of its unprotected one.
+const COMMON: usize = 2 * MOST_MEMBERS;
 
 // Why no lines are given: a message is refused, or both, or the list is too short.
 #[derive(Clone, Copy, Debug, PartialEq, Eq)]
@@ -48,7 +51,7 @@ fn other(left: &[u8], q: Place, right: &[u8], p: Place) -> bool
 }
 
 // A line of the whole message, where something holds.
-fn put_whole(test: bool, kind: Kind, lines: &mut Lines)
+fn put_whole(test: bool, kind: Kind, lines: &mut Lines<MOST>)
     requires { length lines.old + 1 ≤ most_lines }
     ensures lines { lines.new ≡ lines.old ++ line_if test (whole (kind_number kind)) }
     ensures upper_bound { length lines.new ≤ length lines.old + 1 }
@@ -57,7 +60,7 @@ fn put_whole(test: bool, kind: Kind, lines: &mut Lines)
 }
 
 // The lines of the whole message.
-fn put_message(left: &Judged<'_>, right: &Judged<'_>, lines: &mut Lines)
+fn put_message(left: &Judged<'_>, right: &Judged<'_>, lines: &mut Lines<MOST>)
     requires { length lines.old + 7 ≤ most_lines }
     ensures lines { lines.new ≡ lines.old ++ message_lines (compared left.now.message.now) (compared right.now.message.now) }
     ensures upper_bound { length lines.new ≤ length lines.old + 7 }
@@ -86,7 +89,7 @@ fn put_message(left: &Judged<'_>, right: &Judged<'_>, lines: &mut Lines)
 }
 
 // The lines of the keys of the first recipients.
-fn put_keys(left: &Judged<'_>, right: &Judged<'_>, both: usize, lines: &mut Lines)
+fn put_keys(left: &Judged<'_>, right: &Judged<'_>, both: usize, lines: &mut Lines<MOST>)
     requires both_le_left { both ≤ left.now.holds.recipients }
     requires both_le_right { both ≤ right.now.holds.recipients }
     requires room { length lines.old + both ≤ most_lines }
@@ -106,15 +109,15 @@ fn put_parameters(
     right: &Judged<'_>,
     right_table: &mut [u32],
     both: usize,
-    kept: &Kept,
-    lines: &mut Lines,
+    kept: &Kept<COMMON>,
+    lines: &mut Lines<MOST>,
     work: &mut [u32],
 )
     requires fronted { Fronted left.now.message.now left.now.holds.common left_table.old }
     requires fronted_2 { Fronted right.now.message.now right.now.holds.common right_table.old }
     requires both_le_left { both ≤ left.now.holds.recipients }
     requires both_le_right { both ≤ right.now.holds.recipients }
-    requires keeps { Keeps (texts_of (compared left.now.message.now)) (texts_of (compared right.now.message.now)) (held left.now.message.now).common (held right.now.message.now).common kept.now }
+    requires keeps { Keeps COMMON (texts_of (compared left.now.message.now)) (texts_of (compared right.now.message.now)) (held left.now.message.now).common (held right.now.message.now).common kept.now }
     requires room { length lines.old + both * recipient_most ≤ most_lines }
     requires work_room_in_bounds { work_room ≤ length work.old }
     ensures lines { lines.new ≡ lines.old ++ up_to (recipient_lines (compared left.now.message.now) (compared right.now.message.now)) both }
@@ -140,7 +143,7 @@ fn put_all(
     left_table: &mut [u32],
     right: &Judged<'_>,
     right_table: &mut [u32],
-    lines: &mut Lines,
+    lines: &mut Lines<MOST>,
     work: &mut [u32],
 )
     requires fronted { Fronted left.now.message.now left.now.holds.common left_table.old }
@@ -150,7 +153,11 @@ fn put_all(
     ensures lines { lines.new ≡ lines.old ++ differences (compared left.now.message.now) (compared right.now.message.now) }
     ensures upper_bound { length lines.new ≤ most_lines }
 {
-    let kept = parameters::keep(&left.front(left_table), &right.front(right_table), work);
+    let kept: Kept<COMMON> = parameters::keep(
+        &left.front(left_table),
+        &right.front(right_table),
+        work,
+    );
     let both = left.holds.recipients.min(right.holds.recipients);
     put_message(left, right, lines);
     put_keys(left, right, both, lines);
@@ -179,7 +186,7 @@ fn hand_out(
     ensures answers { Answers (differences (compared left.now.message.now) (compared right.now.message.now)) list.old (as_answer result) list.new }
     ensures accepted { is_refused result ≡ false }
 {
-    let mut lines = Lines::new();
+    let mut lines = Lines::<MOST>::new();
     let mut work = [0u32; same::WORK_ROOM];
     put_all(left, left_table, right, right_table, &mut lines, &mut work);
     let count = lines.len();

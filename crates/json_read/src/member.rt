@@ -79,7 +79,8 @@ impl Position {
         }
     }
 
-    // The member that begins here.
+    // The member that begins here: compiled into its callers, as values are (src/value.rt).
+    #[inline(always)]
     pub fn member(self, s: &[u8], levels: u32, judged: bool) -> Option<Member>
         requires { Given judged (KnownEntry curly levels s.now self.at) }
         ensures { result ≡ member_of s.now (entry_at (value_at levels s.now) curly s.now self.at) }
@@ -109,7 +110,8 @@ impl Position {
         Some(Member { row, next })
     }
 
-    // The element that begins here.
+    // The element that begins here: compiled into its callers, as values are (src/value.rt).
+    #[inline(always)]
     pub fn element(self, s: &[u8], levels: u32, judged: bool) -> Option<Member>
         requires { Given judged (Known levels s.now self.at) }
         ensures { result ≡ member_of s.now (entry_at (value_at levels s.now) square s.now self.at) }

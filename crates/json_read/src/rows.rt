@@ -64,7 +64,8 @@ impl<'a> Rows<'a> {
         }
     }
 
-    // The one that begins here.
+    // The one that begins here. This and `next` are compiled into the loop that asks, as values are (src/value.rt).
+    #[inline(always)]
     fn here(&self) -> Option<Member>
         requires { Given self.now.judged (KnownEntry (bracket_of self.now.array) self.now.levels self.now.text.now self.now.at.at) }
         ensures { result ≡ member_of self.now.text.now (entry_at (value_at self.now.levels self.now.text.now) (bracket_of self.now.array) self.now.text.now self.now.at.at) }
@@ -84,6 +85,7 @@ impl<'a> Iterator for Rows<'a> {
 
     ghost remaining = { item_count rows_left };
 
+    #[inline(always)]
     fn next(&mut self) -> Option<Row> {
         if self.left == 0 {
             return None;

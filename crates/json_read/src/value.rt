@@ -39,7 +39,10 @@ impl Position {
         Some(p)
     }
 
-    // A value that is neither an object nor an array: one of no levels.
+    // A value that is neither an object nor an array: one of no levels. This and `value` are compiled into their callers: an
+    // `Option<Found>` that is handed on in memory is copied with its padding, in parts that overlap, and the processor waits for these
+    // longer than a short value takes to read.
+    #[inline(always)]
     fn scalar(self, s: &[u8]) -> Option<Found>
         ensures { result ≡ found_of (value_at 0 s.now self.at) }
     {
@@ -76,6 +79,7 @@ impl Position {
 
     // A value that begins here.
     #[cycle(array_object_value)]
+    #[inline(always)]
     pub fn value(self, s: &[u8], levels: u32) -> Option<Found>
         ensures { result ≡ found_of (value_at levels s.now self.at) }
     {
@@ -155,7 +159,6 @@ impl Position {
     }
 
     // A value that begins here, in a text that reads where a bracket opens: of an object or an array the end is sought.
-    // Any other is read by `value`: `scalar` then has one caller and is compiled into it, which makes `judge` quicker.
     fn known(self, s: &[u8], levels: u32) -> Option<Found>
         requires { Known levels s.now self.at }
         ensures { result ≡ found_of (value_at levels s.now self.at) }

@@ -1,6 +1,6 @@
 -- Searching one entry after the other finds the partner: what is found from an entry on stays what the whole search finds, until
 -- one has the name or none is left.
-use mathlib.Core.Path.{◌≡◌, refl, ap, sym, ◌∙◌}
+use mathlib.Core.Path.{◌≡◌, refl, ap, sym, subst, ◌∙◌}
 use mathlib.Core.Bool.{Bool, true, false, cond}
 use mathlib.Core.List.{List, [], ◌∷◌, ◌++◌}
 use mathlib.Core.Option.{Option, none, some}
@@ -9,9 +9,11 @@ use native.Mathlib.Omega.{arith}
 use lib.ListN.{length, drop}
 use Rattle.rows.specs.Rows.{Entry, Texts, name_says}
 use Rattle.rows.specs.Tables.{first_of, entries_of, width}
-use Rattle.rows.proofs.Entries.{entry_at, entries_done}
+use Rattle.rows.proofs.Entries.{entry_at, entries_done, entries_length}
 use Rattle.matching.specs.Matching.{partner}
 use Rattle.matching.specs.Inner.Places.{nth, EntryReads, EachReads}
+use Rattle.matching.specs.declared.Side.{Side}
+use Rattle.matching.specs.Inner.Sides.{entries, entry_at as entry_of}
 
 -- The k-th entry, by what stands from it on.
 
@@ -94,3 +96,10 @@ module _ (ts : Texts) (w : List ℕ) (answer : Option Entry) (count j : ℕ) (t 
 pub each_at : (ts : Texts) (k count : ℕ) (t : List ℕ) → k < count → EachReads ts (entries_of count t) →
     EntryReads ts (first_of (drop (k * width) t))
 each_at ts k count t h all = all k _ (nth_at k count t h)
+
+-- What holds of each entry of a side by its number.
+pub by_number : (s : Side) (P : ℕ → Entry → Type 0) → ((i : ℕ) → i < s.count → P i (entry_of s i)) → (i : ℕ) (e : Entry) →
+    nth (entries s) i ≡ some e → P i e
+by_number s P h i e p =
+    let below : i < s.count = omega (arith, nth_below (entries s) i e p, entries_length s.count s.table.now) in
+    subst (P i) (some_is (sym (nth_at i s.count s.table.now below) ∙ p)) (h i below)

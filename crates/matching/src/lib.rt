@@ -4,9 +4,9 @@
 
 ghost use Rattle.std.specs.Prelude.{◌≡◌, ◌+◌, ◌*◌, ◌≤◌, length, drop};
 ghost use Rattle.rows.specs.Rows.{read_texts, text_of, name_in};
-ghost use Rattle.rows.specs.Tables.{first_of, entries_of, width};
+ghost use Rattle.rows.specs.Tables.{first_of, width};
 ghost use Rattle.rows.specs.Inner.Prints.{Printed};
-ghost use Rattle.matching.specs.Inner.Places.{printed_prop, EachReads, each_reads_prop};
+ghost use Rattle.matching.specs.Inner.Places.{printed_prop};
 
 use rows::table::Texts;
 use rows::{ask, layout};
@@ -42,17 +42,16 @@ pub struct Side<'a, 't> {
     pub ghost few: { common ≤ count },
     pub ghost fits: { count * width ≤ length table.now },
     pub ghost printed: { Printed (read_texts header.now message.now) count table.now } by { printed_prop (read_texts header.now message.now) count table.now },
-    pub ghost reads: { EachReads (read_texts header.now message.now) (entries_of count table.now) } by { each_reads_prop (read_texts header.now message.now) (entries_of count table.now) },
 }
 
 impl<'a, 't> Side<'a, 't> {
-    ghost use Rattle.std.specs.Prelude.{◌≡◌, ◌≤◌, ◌<◌, drop, IfSome};
+    ghost use Rattle.std.specs.Prelude.{◌≡◌, ◌≤◌, ◌<◌, length, drop, IfSome};
     ghost use Rattle.grammar.specs.Spellings.{undo};
     ghost use Rattle.spelling.specs.Inner.Fingerprints.{fingerprint};
     ghost use Rattle.rows.specs.Rows.{text_of, name_in, name_says};
     ghost use Rattle.same.specs.Inner.Walking.{element_of};
     ghost use Rattle.matching.specs.Matching.{partner, value_of};
-    ghost use Rattle.matching.specs.Inner.Places.{found};
+    ghost use Rattle.matching.specs.Inner.Places.{found, Matched};
     ghost use Rattle.matching.specs.Inner.Sides.{texts, entries, entry_at};
 
     // The text in which an entry stands: the decoded protected header, or the message.
@@ -73,7 +72,8 @@ impl<'a, 't> Side<'a, 't> {
 
     // The value of an entry, by its place and kind.
     pub fn value(&self, i: usize) -> Value
-        requires { i < self.now.count }
+        requires i_lt_count { i < self.now.count }
+        requires kind_bound { (entry_at self.now i).member.kind < 256 }
         ensures { element_of result ≡ value_of (entry_at self.now i) }
     {
         Value {
@@ -116,5 +116,15 @@ impl<'a, 't> Side<'a, 't> {
             }
         }
         None
+    }
+
+    // For each entry of another side the number of its partner here: matched once for all recipients, whose common parameters they are.
+    pub fn seek_all(&self, other: &Side<'_, '_>, numbers: &mut [Option<usize>])
+        requires { other.now.count ≤ length numbers.old }
+        ensures { Matched (texts other.now) (texts self.now) (entries other.now) (entries self.now) numbers.new }
+    {
+        for i in 0..other.count {
+            numbers[i] = self.seek(0, other, i);
+        }
     }
 }

@@ -11,26 +11,19 @@ use Rattle.same.specs.Same.{depth, same_at}
 use Rattle.same.specs.Inner.Walking.{Reads}
 use Rattle.matching.specs.declared.Side.{Side}
 use Rattle.matching.specs.Matching.{partner, value_of}
-use Rattle.matching.specs.Inner.Places.{nth, found}
+use Rattle.matching.specs.Inner.Places.{nth, found, MatchedAt, EachReads}
 use Rattle.matching.specs.Inner.Sides.{texts, entries, common, entry_at}
-use Rattle.matching.proofs.Partners.{nth_at, nth_below, some_is, or_else, partner_append, each_at}
+use Rattle.matching.proofs.Partners.{nth_at, or_else, partner_append, each_at}
 use Rattle.parameters.specs.Parameters.{other_value}
 use Rattle.parameters.specs.Inner.Kept.{there, Pairs}
 use Rattle.parameters.specs.declared.Pair.{Pair}
 
--- What holds of each entry of a side by its number.
-pub by_number : (s : Side) (P : ℕ → Entry → Type 0) → ((i : ℕ) → i < s.count → P i (entry_at s i)) → (i : ℕ) (e : Entry) →
-    nth (entries s) i ≡ lists.some e → P i e
-by_number s P h i e p =
-    let below : i < s.count = omega (arith, nth_below (entries s) i e p, entries_length s.count s.table.now) in
-    subst (P i) (some_is (sym (nth_at i s.count s.table.now below) ∙ p)) (h i below)
-
 -- The value of an entry reads where the code has found it.
-pub reads_at : (s : Side) (i : ℕ) → i < s.count → {x : List ℕ} {a : Element} → x ≡ text_of (texts s) (entry_at s i).origin →
+pub reads_at : (s : Side) (i : ℕ) → i < s.count → EachReads (texts s) (entries s) → {x : List ℕ} {a : Element} → x ≡ text_of (texts s) (entry_at s i).origin →
     a ≡ value_of (entry_at s i) → Reads x a
-reads_at s i h {x} {a} e f =
+reads_at s i h all {x} {a} e f =
     let r : Reads (text_of (texts s) (entry_at s i).origin) (value_of (entry_at s i)) =
-    (each_at (texts s) i s.count s.table.now h s.reads).reads in
+    (each_at (texts s) i s.count s.table.now h all).reads in
     subst (λ (b : Element). Reads x b) (sym f) (subst (λ (t : List ℕ). Reads t (value_of (entry_at s i))) (sym e) r)
 
 -- Two values that the code has found and compared.
@@ -67,6 +60,14 @@ module _ (s : Side) where
   there_found None h p e = e ∙ sym (ap there p)
   there_found (Some j) h p e = e ∙ sym (ap there (p ∙ nth_at j s.count s.table.now h))
 
+  -- The same among the first ones.
+  pub there_kept : (o : Option ℕ) {x : lists.Option Entry} {b : Bool} → IfSome o (λ j. j < length (common s)) → x ≡ found (common s) o →
+      b ≡ is_some o → b ≡ there x
+  there_kept None h p e = e ∙ sym (ap there p)
+  there_kept (Some j) h p e =
+      let low : j < length (common s) = h in
+      e ∙ sym (ap there (p ∙ nth_at j s.common s.table.now (omega (arith, entries_length s.common s.table.now))))
+
   -- Among the first ones, and where there is none, among the others.
 
   pub there_front : (w : List ℕ) (b : Bool) → b ≡ there (partner (texts s) w (common s)) → b ≡ true → b ≡ there (partner (texts s) w (entries s))
@@ -85,10 +86,15 @@ module _ (s : Side) where
     name = name_in ls e
 
     -- A pair that was kept.
-    pub kept_pair : {q : Option Pair} (p : Pair) → q ≡ Some p → Pairs ls (texts s) e (common s) (common s) q →
-        Pairs ls (texts s) e (entries s) (entries s) (Some p)
-    kept_pair {q} p is kept =
-        let k : Pairs ls (texts s) e (common s) (common s) (Some p) = subst (Pairs ls (texts s) e (common s) (common s)) is kept in
+    pub kept_pair : {o : Option ℕ} (p : Pair) → o ≡ Some p.at → MatchedAt ls (texts s) (common s) e o →
+        p.other ≡ other_value ls (texts s) e (found (common s) o) → Pairs ls (texts s) e (entries s) (entries s) (Some p)
+    kept_pair {o} p is kept differs =
+        let m : MatchedAt ls (texts s) (common s) e (Some p.at) = subst (MatchedAt ls (texts s) (common s) e) is kept in
+        let k : Pairs ls (texts s) e (common s) (common s) (Some p) = record {
+          fits = m.fits;
+          is = m.is;
+          other = subst (λ (x : Option ℕ). p.other ≡ other_value ls (texts s) e (found (common s) x)) is differs;
+        } in
         let few : s.common ≤ s.count = s.few in
         let low : p.at < length (common s) = k.fits in
         let front : p.at < s.common = omega (arith, entries_length s.common s.table.now) in
@@ -104,10 +110,10 @@ module _ (s : Side) where
         }
 
     -- None was: it is among the others.
-    pub rest_pair : {q p : Option Pair} → q ≡ None → Pairs ls (texts s) e (common s) (common s) q →
+    pub rest_pair : {o : Option ℕ} {p : Option Pair} → o ≡ None → MatchedAt ls (texts s) (common s) e o →
         Pairs ls (texts s) e (drop s.common (entries s)) (entries s) p → Pairs ls (texts s) e (entries s) (entries s) p
-    rest_pair {q} {p} is kept rest =
-        let k : Pairs ls (texts s) e (common s) (common s) None = subst (Pairs ls (texts s) e (common s) (common s)) is kept in
+    rest_pair {o} {p} is kept rest =
+        let k : MatchedAt ls (texts s) (common s) e None = subst (MatchedAt ls (texts s) (common s) e) is kept in
         record {
           fits = rest.fits;
           is =

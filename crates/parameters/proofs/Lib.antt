@@ -1,4 +1,3 @@
-pub mod Below
 pub mod Laying
 pub mod Keeping
 pub mod Appending

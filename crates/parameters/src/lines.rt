@@ -2,7 +2,7 @@
 ghost use Rattle.std.specs.Prelude.{◌≡◌, ◌∷◌, [], ◌++◌, ◌+◌, ◌*◌, ◌≤◌, ◌<◌, length};
 ghost use Rattle.prelude.specs.Buffer.{written};
 ghost use Rattle.parameters.specs.Lines.{missing, line, line_if, line_width, line_numbers, laid};
-ghost use Rattle.parameters.specs.Inner.Puts.{most_lines, kind_number, half_is, line_is};
+ghost use Rattle.parameters.specs.Inner.Puts.{kind_number, half_is, line_is};
 
 use prelude::limits::{MOST_MEMBERS, MOST_RECIPIENTS};
 use std::marker::Model;
@@ -96,27 +96,27 @@ fn put_numbers(list: &mut [u32], from: usize, l: Line)
     list[from + 7] = l.right.len;
 }
 
-// The lines that have been put.
+// The lines that have been put; there is room for N.
 #[derive(Drop)]
-pub struct Lines {
-    lines: [Line; MOST],
+pub struct Lines<const N: usize> {
+    lines: [Line; N],
     count: usize,
 }
 
-impl Model for Lines {
+impl<const N: usize> Model for Lines<N> {
     ghost use Rattle.std.specs.Prelude.{◌≡◌, List, map, take, ◌≤◌, length};
     ghost use Rattle.parameters.specs.Lines.{Line};
 
     ghost Value = { List Line };
 
-    ghost use Rattle.parameters.specs.Inner.Puts.{most_lines, line_is};
+    ghost use Rattle.parameters.specs.Inner.Puts.{line_is};
 
     ghost view = { λ a. map line_is (take a.count a.lines) };
 
-    ghost invariant = { λ a. (a.count ≤ most_lines) × (length a.lines ≡ most_lines) };
+    ghost invariant = { λ a. (a.count ≤ N) × (length a.lines ≡ N) };
 }
 
-impl Lines {
+impl<const N: usize> Lines<N> {
     #[inline]
     pub fn new() -> Self
         ensures { result ≡ [] }
@@ -128,7 +128,7 @@ impl Lines {
             right: missing(),
         };
         Lines {
-            lines: [none; MOST],
+            lines: [none; N],
             count: 0,
         }
     }
@@ -137,12 +137,13 @@ impl Lines {
     pub fn len(&self) -> usize
         ensures { result ≡ length self.now }
     {
-        self.count
+        let Lines { count: len, .. } = self;
+        *len
     }
 
     // A line put behind the first ones.
     pub fn put(&mut self, kind: Kind, recipient: u32, left: Half, right: Half)
-        requires { length self.old < most_lines }
+        requires { length self.old < N }
         ensures { self.new ≡ self.old ++ line (kind_number kind) recipient (half_is left) (half_is right) ∷ [] }
     {
         let Lines { lines, count } = self;
@@ -157,7 +158,7 @@ impl Lines {
 
     // The same where something holds; none where it does not.
     pub fn put_if(&mut self, test: bool, kind: Kind, recipient: u32, left: Half, right: Half)
-        requires { length self.old < most_lines }
+        requires { length self.old < N }
         ensures { self.new ≡ self.old ++ line_if test (line (kind_number kind) recipient (half_is left) (half_is right)) }
     {
         if test {

@@ -1,5 +1,5 @@
 -- Entries by their numbers in a table, and what is known of each.
-use Rattle.std.specs.Prelude.{◌≡◌, List, [], ◌∷◌, Option, None, Some, ℕ, zero, suc, ◌<◌, drop}
+use Rattle.std.specs.Prelude.{◌≡◌, List, [], ◌∷◌, Option, None, Some, IfSome, ℕ, zero, suc, ◌<◌, length, drop, get_or}
 use Rattle.std.specs.Coded.{coded_ℕ, Coded-set, ×_prop, Unit-prop}
 use Rattle.std.proofs.Math.Option as lists
 use mathlib.Core.Path.{sym, ◌∙◌}
@@ -8,10 +8,10 @@ use mathlib.Core.Sum.{⊎_set}
 use denote.Struct.Props as plain
 use Rattle.grammar.specs.Places.{Element}
 use Rattle.grammar.specs.Reader.{Answer, found as read, value_at}
-use Rattle.rows.specs.Rows.{Entry, Texts, text_of}
+use Rattle.rows.specs.Rows.{Entry, Texts, text_of, name_in}
 use Rattle.same.specs.Same.{depth}
 use Rattle.same.specs.Inner.Walking.{Reads}
-use Rattle.matching.specs.Matching.{value_of}
+use Rattle.matching.specs.Matching.{partner, value_of}
 use Rattle.rows.specs.Tables.{width}
 use Rattle.rows.specs.Inner.Prints.{Printed}
 
@@ -25,6 +25,14 @@ nth (e ∷ es) (suc k) = nth es k
 abbrev pub found : List Entry → Option ℕ → lists.Option Entry
 found es None = lists.none
 found es (Some k) = nth es k
+
+-- The number of its partner is kept for each of some entries, es in one message and fs in the other; none, where there is none.
+pub record MatchedAt (ts us : Texts) (fs : List Entry) (e : Entry) (o : Option ℕ) : Type 0 where
+  pub fits : IfSome o (λ j. j < length fs)
+  pub is : partner us (name_in ts e) fs ≡ found fs o
+
+abbrev pub Matched : Texts → Texts → List Entry → List Entry → List (Option ℕ) → Type 0
+Matched ts us es fs numbers = (k : ℕ) (e : Entry) → nth es k ≡ lists.some e → MatchedAt ts us fs e (get_or numbers k None)
 
 -- That a table has fingerprints is a plain fact: a side keeps it.
 pub printed_prop : (ts : Texts) (n : ℕ) (t : List ℕ) → IsProp (Printed ts n t)

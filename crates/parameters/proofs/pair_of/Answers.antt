@@ -7,18 +7,22 @@ use Rattle.parameters.proofs.Keeping.{kept_pair, rest_pair}
 use Rattle.parameters.proofs.pair_of.Goals as goal
 
 pub bounds : goal.bounds
-bounds c = omega (arith, c.requires.keeps.room.0, entries_length c.args.left.now.common c.args.left.now.table.now, c.if-left-i.false)
+bounds g c = omega (arith, c.requires.keeps.room.0, entries_length c.args.left.now.common c.args.left.now.table.now, c.if-left-i.false)
+
+pub bounds-kept-i : goal.bounds-kept-i
+bounds-kept-i g c = omega (arith, c.requires.keeps.room.0, entries_length c.args.left.now.common c.args.left.now.table.now, c.if-left-i.false)
 
 pub returns-in-Some : goal.returns-in-Some
-returns-in-Some c =
+returns-in-Some g c =
     let left = c.args.left.now in
     let i = c.args.i in
     let e = entry_at left i in
-    kept_pair c.args.right.now (texts left) e c.in-Some.pair c.in-Some.is (c.requires.keeps.pairs i e (nth_at i left.common left.table.now c.if-left-i.false))
+    let here = nth_at i left.common left.table.now c.if-left-i.false in
+    kept_pair c.args.right.now (texts left) e _ c.in-Some.is (c.requires.keeps.matched i e here) (c.requires.keeps.valued i e here)
 
 pub returns-in-None : goal.returns-in-None
-returns-in-None c =
+returns-in-None g c =
     let left = c.args.left.now in
     let i = c.args.i in
     let e = entry_at left i in
-    rest_pair c.args.right.now (texts left) e c.in-None.is (c.requires.keeps.pairs i e (nth_at i left.common left.table.now c.if-left-i.false)) c.find-in-None.ensures
+    rest_pair c.args.right.now (texts left) e c.in-None.is (c.requires.keeps.matched i e (nth_at i left.common left.table.now c.if-left-i.false)) c.find-in-None.ensures

@@ -6,7 +6,7 @@ use Rattle.parameters.proofs.Appending.{pair_put}
 use Rattle.parameters.proofs.put_pair.Goals as goal
 
 pub returns : goal.returns
-returns c =
+returns g c =
     let right = c.args.right.now in
     let p = c.in-Some.pair in
     let below : p.at < right.count = rw c.in-Some.is at c.requires.pair_in_bounds in

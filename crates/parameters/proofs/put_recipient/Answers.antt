@@ -12,15 +12,23 @@ use Rattle.parameters.proofs.put_recipient.Goals as goal
 
 pub loop-i-init : goal.loop-i-init
 unfolding flat_map
-loop-i-init c = (omega arith, sym (append-nil c.args.lines.now))
+loop-i-init g c = (omega arith, sym (append-nil c.args.lines.now))
 
-pub put_pair-requires-clause-pair_in_bounds : goal.put_pair-requires-clause-pair_in_bounds
-put_pair-requires-clause-pair_in_bounds c =
-    let right = c.args.right.now in
-    subst (λ (n : ℕ). IfSome c.pair_of-pair.result (λ q. q.at < n)) (entries_length right.count right.table.now) c.pair_of-pair.ensures.fits
+pub put_pair-requires : goal.put_pair-requires
+put_pair-requires g c =
+    let right = c.args.right.now in (
+      omega arith,
+      (
+        omega arith,
+        (
+          subst (λ (n : ℕ). IfSome c.pair_of-pair.result (λ q. q.at < n)) (entries_length right.count right.table.now) c.pair_of-pair.ensures.fits,
+          omega (arith, c.loop-i.invariant.0),
+        ),
+      ),
+    )
 
 pub loop-i-preserved : goal.loop-i-preserved
-loop-i-preserved c =
+loop-i-preserved g c =
     let left = c.args.left.now in
     let right = c.args.right.now in
     let e = entry_at left c.loop-i.i in
@@ -33,7 +41,7 @@ loop-i-preserved c =
 
 pub loop-j-init : goal.loop-j-init
 unfolding flat_map
-loop-j-init c =
+loop-j-init g c =
     let left = c.args.left.now in
     let g = left_lines (texts left) (texts c.args.right.now) (entries c.args.right.now) c.args.recipient in (
       omega (arith, c.loop-i.invariant.0),
@@ -41,7 +49,7 @@ loop-j-init c =
     )
 
 pub loop-j-preserved : goal.loop-j-preserved
-loop-j-preserved c =
+loop-j-preserved g c =
     let left = c.args.left.now in
     let right = c.args.right.now in
     let n = c.args.recipient in
@@ -56,7 +64,7 @@ loop-j-preserved c =
 
 pub returns-clause-lines : goal.returns-clause-lines
 unfolding parameter_lines
-returns-clause-lines c =
+returns-clause-lines g c =
     let left = c.args.left.now in
     let right = c.args.right.now in
     let es = flat_map (left_lines (texts left) (texts right) (entries right) c.args.recipient) (entries left) in

@@ -1,10 +1,9 @@
 -- What is kept of parameters that have been matched and compared.
-use Rattle.std.specs.Prelude.{◌≡◌, Bool, true, false, List, Option, None, Some, IfSome, ℕ, ◌<◌, ◌≤◌, ◌*◌, length, get_or}
+use Rattle.std.specs.Prelude.{◌≡◌, Bool, true, false, List, Option, None, Some, IfSome, ℕ, ◌<◌, ◌≤◌, length, get_or}
 use Rattle.std.proofs.Math.Option as lists
-use Rattle.prelude.specs.Limits.{most_members}
 use Rattle.rows.specs.Rows.{Entry, Texts, name_in}
 use Rattle.matching.specs.Matching.{partner}
-use Rattle.matching.specs.Inner.Places.{nth}
+use Rattle.matching.specs.Inner.Places.{nth, found, Matched}
 use Rattle.parameters.specs.Parameters.{other_value}
 use Rattle.parameters.specs.declared.Pair.{Pair}
 use Rattle.parameters.specs.declared.Kept.{Kept}
@@ -29,8 +28,15 @@ pub record Pairs (ls rs : Texts) (e : Entry) (gs fs : List Entry) (p : Option Pa
   pub is : partner rs (name_in ls e) gs ≡ partner_of fs p
   pub other : differs p ≡ other_value ls rs e (partner_of fs p)
 
--- What is kept of the entries es that are all recipients' on the left, and fs on the right.
-pub record Keeps (ls rs : Texts) (es fs : List Entry) (k : Kept) : Type 0 where
-  pub room : (length es ≤ 2 * most_members) × (length fs ≤ 2 * most_members)
-  pub pairs : (i : ℕ) (e : Entry) → nth es i ≡ lists.some e → Pairs ls rs e fs fs (get_or k.pairs i None)
-  pub paired : (j : ℕ) (f : Entry) → nth fs j ≡ lists.some f → get_or k.paired j false ≡ there (partner ls (name_in rs f) es)
+-- For each of some entries, es on the left and fs on the right, whether its value is another than that of its partner, whose number is kept
+-- beside it.
+abbrev pub Valued : Texts → Texts → List Entry → List Entry → List (Option ℕ) → List Bool → Type 0
+Valued ls rs es fs partners others =
+    (k : ℕ) (e : Entry) → nth es k ≡ lists.some e → get_or others k false ≡ other_value ls rs e (found fs (get_or partners k None))
+
+-- What is kept of the entries es that are all recipients' on the left, and fs on the right; there is room for m on each side.
+pub record Keeps (m : ℕ) (ls rs : Texts) (es fs : List Entry) (k : Kept m) : Type 0 where
+  pub room : (length es ≤ m) × (length fs ≤ m)
+  pub matched : Matched ls rs es fs k.partners
+  pub valued : Valued ls rs es fs k.partners k.others
+  pub back : Matched rs ls fs es k.back

@@ -15,5 +15,10 @@ invariant_of-result c =
       few = omega arith;
       fits = omega arith;
       printed = printed_side message header common table self.judged.decoded c.requires.front.printed;
-      reads = reads_side message header common table self.judged.decoded _ c.requires.front.entries (common_read message);
     }
+
+pub returns-clause-reads : goal.returns-clause-reads
+returns-clause-reads c =
+    let self = c.args.self.now in
+    let message = self.message.now in
+    reads_side message self.header.now self.holds.common c.args.table.now self.judged.decoded _ c.requires.front.entries (common_read message)

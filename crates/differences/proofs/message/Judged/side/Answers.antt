@@ -13,5 +13,10 @@ invariant_of-result c =
       few = c.requires.some;
       fits = c.requires.gathers.few;
       printed = printed_side message header c.args.count table self.judged.decoded c.requires.gathers.printed;
-      reads = reads_side message header c.args.count table self.judged.decoded _ c.requires.gathers.entries (recipient_read message c.args.n);
     }
+
+pub returns-clause-reads : goal.returns-clause-reads
+returns-clause-reads c =
+    let self = c.args.self.now in
+    let message = self.message.now in
+    reads_side message self.header.now c.args.count c.args.table.now self.judged.decoded _ c.requires.gathers.entries (recipient_read message c.args.n)

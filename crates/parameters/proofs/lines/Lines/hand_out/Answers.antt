@@ -10,10 +10,10 @@ use Rattle.parameters.proofs.lines.Lines.hand_out.Goals as goal
 
 pub loop-i-init : goal.loop-i-init
 unfolding written laid
-loop-i-init c = refl
+loop-i-init g c = refl
 
 pub loop-i-preserved : goal.loop-i-preserved
-loop-i-preserved c =
+loop-i-preserved g c =
     let all = c.self.inside in
     let fits : (c.loop-i.i + 1) * line_width ≤ length c.args.list.now =
     omega (arith, ap length c.self.view_is, length-map (take all.count all.lines) line_is, length-take-le all.count all.lines (omega arith)) in

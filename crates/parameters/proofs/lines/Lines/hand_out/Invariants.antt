@@ -6,4 +6,4 @@ use Rattle.parameters.specs.Inner.Puts.{line_is}
 use Rattle.parameters.proofs.lines.Lines.hand_out.Given as goal
 
 abbrev pub invariant-loop-i : goal.invariant-loop-i
-invariant-loop-i l = l.list ≡ written 0 (laid (map line_is (take l.i l.self-inside.lines))) l.initial.list
+invariant-loop-i g l = l.list ≡ written 0 (laid (map line_is (take l.i l.self-inside.lines))) l.initial.list

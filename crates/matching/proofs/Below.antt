@@ -10,6 +10,9 @@ module _ {A : Type 0} (d : A) (P : ℕ → A → Type 0) where
   abbrev pub Below : ℕ → List A → Type 0
   Below n xs = (k : ℕ) → k < n → P k (get_or xs k d)
 
+  pub below_none : (xs : List A) → Below 0 xs
+  below_none xs k h = absurd (omega arith)
+
   pub below_set : (n : ℕ) (xs : List A) (v : A) → n < length xs → P n v → Below n xs → Below (n + 1) (set xs n v)
   below_set n xs v fits p before k h = cases (eqb k n) refl
     where
