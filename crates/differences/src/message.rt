@@ -23,7 +23,7 @@ impl<'a> Judged<'a> {
     ghost use Rattle.headers.specs.Answers.{place_of};
     ghost use Rattle.jwe.specs.Judge.{held};
     ghost use Rattle.matching.specs.Inner.Places.{EachReads};
-    ghost use Rattle.matching.specs.Inner.Sides.{texts, entries, common};
+    ghost use Rattle.matching.specs.Inner.Sides.{texts, entries, common, HasPrints};
     ghost use Rattle.differences.specs.Differences.{compared, texts_of, parameters_of};
     ghost use Rattle.differences.specs.Inner.Holding.{Fronted, Gathered};
 
@@ -40,6 +40,7 @@ impl<'a> Judged<'a> {
         requires { Fronted self.now.message.now self.now.holds.common table.now }
         ensures texts { texts result ≡ texts_of (compared self.now.message.now) }
         ensures entries { entries result ≡ (held self.now.message.now).common }
+        ensures printed { HasPrints result }
         ensures reads { EachReads (texts result) (entries result) }
         ensures few { result.count ≤ 2 * most_members }
     {
@@ -68,6 +69,7 @@ impl<'a> Judged<'a> {
         ensures texts { texts result ≡ texts_of (compared self.now.message.now) }
         ensures common { common result ≡ (held self.now.message.now).common }
         ensures entries { entries result ≡ parameters_of (compared self.now.message.now) n }
+        ensures printed { HasPrints result }
         ensures reads { EachReads (texts result) (entries result) }
         ensures few { result.count ≤ 3 * most_members }
     {

@@ -5,8 +5,6 @@
 ghost use Rattle.std.specs.Prelude.{◌≡◌, ◌+◌, ◌*◌, ◌≤◌, length, drop};
 ghost use Rattle.rows.specs.Rows.{read_texts, text_of, name_in};
 ghost use Rattle.rows.specs.Tables.{first_of, width};
-ghost use Rattle.rows.specs.Inner.Prints.{Printed};
-ghost use Rattle.matching.specs.Inner.Places.{printed_prop};
 
 use rows::table::Texts;
 use rows::{ask, layout};
@@ -31,7 +29,7 @@ pub fn name<'a>(header: &'a [u8], message: &'a [u8], table: &[u32], i: usize) ->
     ask::name(text(header, message, table, i), table, i)
 }
 
-// Of the table's first `count` entries, the first `common` are all recipients'. Each keeps the fingerprint of its name.
+// Of the table's first `count` entries, the first `common` are all recipients'.
 #[derive(Clone, Copy)]
 pub struct Side<'a, 't> {
     pub header: &'a [u8],
@@ -41,18 +39,19 @@ pub struct Side<'a, 't> {
     pub count: usize,
     pub ghost few: { common ≤ count },
     pub ghost fits: { count * width ≤ length table.now },
-    pub ghost printed: { Printed (read_texts header.now message.now) count table.now } by { printed_prop (read_texts header.now message.now) count table.now },
 }
 
 impl<'a, 't> Side<'a, 't> {
-    ghost use Rattle.std.specs.Prelude.{◌≡◌, ◌≤◌, ◌<◌, length, drop, IfSome};
+    ghost use Rattle.std.specs.Prelude.{◌≡◌, ◌*◌, ◌≤◌, ◌<◌, length, drop, IfSome};
     ghost use Rattle.grammar.specs.Spellings.{undo};
     ghost use Rattle.spelling.specs.Inner.Fingerprints.{fingerprint};
     ghost use Rattle.rows.specs.Rows.{text_of, name_in, name_says};
+    ghost use Rattle.rows.specs.Tables.{width};
+    ghost use Rattle.rows.specs.Inner.Prints.{HasPrint};
     ghost use Rattle.same.specs.Inner.Walking.{element_of};
     ghost use Rattle.matching.specs.Matching.{partner, value_of};
     ghost use Rattle.matching.specs.Inner.Places.{found, Matched};
-    ghost use Rattle.matching.specs.Inner.Sides.{texts, entries, entry_at};
+    ghost use Rattle.matching.specs.Inner.Sides.{texts, entries, entry_at, HasPrints};
 
     // The text in which an entry stands: the decoded protected header, or the message.
     pub fn text(&self, i: usize) -> &'a [u8]
@@ -86,6 +85,7 @@ impl<'a, 't> Side<'a, 't> {
     // Whether the name of an entry says what a spelling does, whose fingerprint is given: fingerprints are compared first.
     fn named(&self, i: usize, print: usize, w: &[u8]) -> bool
         requires i_lt_count { i < self.now.count }
+        requires has_print { HasPrint (texts self.now) (drop (i * width) self.now.table.now) }
         requires print_value { print ≡ fingerprint (undo w.now) }
         ensures { result ≡ name_says (texts self.now) w.now (entry_at self.now i) }
     {
@@ -104,6 +104,8 @@ impl<'a, 't> Side<'a, 't> {
     pub fn seek(&self, from: usize, other: &Side<'_, '_>, i: usize) -> Option<usize>
         requires from_le_count { from ≤ self.now.count }
         requires i_lt_count { i < other.now.count }
+        requires printed { HasPrints self.now }
+        requires has_print { HasPrint (texts other.now) (drop (i * width) other.now.table.now) }
         ensures lower_bound { IfSome result (λ j. from ≤ j) }
         ensures bounds { IfSome result (λ j. j < self.now.count) }
         ensures partner { partner (texts self.now) (name_in (texts other.now) (entry_at other.now i)) (drop from (entries self.now)) ≡ found (entries self.now) result }
@@ -120,7 +122,9 @@ impl<'a, 't> Side<'a, 't> {
 
     // For each entry of another side the number of its partner here: matched once for all recipients, whose common parameters they are.
     pub fn seek_all(&self, other: &Side<'_, '_>, numbers: &mut [Option<usize>])
-        requires { other.now.count ≤ length numbers.old }
+        requires other_in_bounds { other.now.count ≤ length numbers.old }
+        requires printed { HasPrints self.now }
+        requires other_printed { HasPrints other.now }
         ensures { Matched (texts other.now) (texts self.now) (entries other.now) (entries self.now) numbers.new }
     {
         for i in 0..other.count {

@@ -8,7 +8,7 @@ ghost use Rattle.rows.specs.Rows.{name_in};
 ghost use Rattle.same.specs.Inner.Walking.{work_room};
 ghost use Rattle.matching.specs.Matching.{partner};
 ghost use Rattle.matching.specs.Inner.Places.{found, EachReads};
-ghost use Rattle.matching.specs.Inner.Sides.{texts, entries, common, entry_at};
+ghost use Rattle.matching.specs.Inner.Sides.{texts, entries, common, entry_at, HasPrints};
 ghost use Rattle.parameters.specs.Lines.{line};
 ghost use Rattle.parameters.specs.Parameters.{side_of, other_value, pair_lines, left_lines, right_lines, parameter_lines};
 ghost use Rattle.parameters.specs.Inner.Puts.{half_is};
@@ -105,6 +105,8 @@ fn find(
 ) -> Option<Pair>
     requires i_lt_count { i < left.now.count }
     requires from_le_count { from ≤ right.now.count }
+    requires left_printed { HasPrints left.now }
+    requires right_printed { HasPrints right.now }
     requires left_reads { EachReads (texts left.now) (entries left.now) }
     requires right_reads { EachReads (texts right.now) (entries right.now) }
     requires work_room_in_bounds { work_room ≤ length work.old }
@@ -119,6 +121,8 @@ fn find(
 pub fn keep<const M: usize>(left: &Side<'_, '_>, right: &Side<'_, '_>, work: &mut [u32]) -> Kept<M>
     requires left_few { left.now.count ≤ M }
     requires right_few { right.now.count ≤ M }
+    requires left_printed { HasPrints left.now }
+    requires right_printed { HasPrints right.now }
     requires left_reads { EachReads (texts left.now) (entries left.now) }
     requires right_reads { EachReads (texts right.now) (entries right.now) }
     requires work_room_in_bounds { work_room ≤ length work.old }
@@ -148,6 +152,8 @@ fn pair_of<const M: usize>(
 ) -> Option<Pair>
     requires i_lt_count { i < left.now.count }
     requires keeps { Keeps M (texts left.now) (texts right.now) (common left.now) (common right.now) kept.now }
+    requires left_printed { HasPrints left.now }
+    requires right_printed { HasPrints right.now }
     requires left_reads { EachReads (texts left.now) (entries left.now) }
     requires right_reads { EachReads (texts right.now) (entries right.now) }
     requires work_room_in_bounds { work_room ≤ length work.old }
@@ -200,6 +206,8 @@ fn has_partner<const M: usize>(
 ) -> bool
     requires j_lt_count { j < right.now.count }
     requires keeps { Keeps M (texts left.now) (texts right.now) (common left.now) (common right.now) kept.now }
+    requires left_printed { HasPrints left.now }
+    requires right_printed { HasPrints right.now }
     ensures { result ≡ there (partner (texts left.now) (name_in (texts right.now) (entry_at right.now j)) (entries left.now)) }
 {
     if right.common <= j {
@@ -219,6 +227,8 @@ pub fn put_recipient<const M: usize, const N: usize>(
 )
     requires keeps { Keeps M (texts left.now) (texts right.now) (common left.now) (common right.now) kept.now }
     requires room { length lines.old + (2 * left.now.count + right.now.count) ≤ N }
+    requires left_printed { HasPrints left.now }
+    requires right_printed { HasPrints right.now }
     requires left_reads { EachReads (texts left.now) (entries left.now) }
     requires right_reads { EachReads (texts right.now) (entries right.now) }
     requires work_room_in_bounds { work_room ≤ length work.old }

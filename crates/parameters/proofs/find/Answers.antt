@@ -1,8 +1,15 @@
 -- `find` seeks the partner, and compares the values.
 use Rattle.std.proofs.Common.{refl, arith}
 use Rattle.rows.proofs.Entries.{entries_length}
+use Rattle.rows.proofs.Printing.{printed_at}
+use Rattle.matching.specs.Inner.Sides.{texts}
 use Rattle.parameters.specs.Parameters.{other_value}
 use Rattle.parameters.proofs.find.Goals as goal
+
+pub seek-requires-clause-has_print : goal.seek-requires-clause-has_print
+seek-requires-clause-has_print c =
+    let left = c.args.left.now in
+    printed_at (texts left) c.args.i left.count left.table.now c.requires.i_lt_count c.requires.left_printed
 
 pub returns-in_err-at : goal.returns-in_err-at
 unfolding other_value

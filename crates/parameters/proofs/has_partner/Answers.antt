@@ -2,10 +2,21 @@
 use Rattle.std.proofs.Common.{arith}
 use Rattle.rows.specs.Rows.{name_in}
 use Rattle.rows.proofs.Entries.{entries_length}
+use Rattle.rows.proofs.Printing.{printed_at}
 use Rattle.matching.specs.Inner.Sides.{texts, entry_at}
 use Rattle.matching.proofs.Partners.{nth_at}
 use Rattle.parameters.proofs.Keeping.{there_found, there_kept, there_front, there_rest}
 use Rattle.parameters.proofs.has_partner.Goals as goal
+
+pub seek-requires-clause-has_print : goal.seek-requires-clause-has_print
+seek-requires-clause-has_print g c =
+    let right = c.args.right.now in
+    printed_at (texts right) c.args.j right.count right.table.now c.requires.j_lt_count c.requires.right_printed
+
+pub seek-requires-else-is_some-clause-has_print : goal.seek-requires-else-is_some-clause-has_print
+seek-requires-else-is_some-clause-has_print g c =
+    let right = c.args.right.now in
+    printed_at (texts right) c.args.j right.count right.table.now c.requires.j_lt_count c.requires.right_printed
 
 pub returns-then-right-j : goal.returns-then-right-j
 returns-then-right-j g c = there_found c.args.left.now _ c.seek.ensures.bounds c.seek.ensures.partner c.is_some.ensures

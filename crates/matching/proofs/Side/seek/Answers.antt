@@ -10,9 +10,12 @@ use Rattle.matching.proofs.Side.seek.Goals as goal
 
 pub named-requires-clause-print_value : goal.named-requires-clause-print_value
 named-requires-clause-print_value c =
-    let other = c.args.other.now in
-    c.field-print.ensures.value ∙ printed_at (texts other) c.args.i other.count other.table.now c.requires.i_lt_count other.printed
-    ∙ ap (λ (x : List ℕ). fingerprint (undo x)) (sym c.name-w.ensures)
+    c.field-print.ensures.value ∙ c.requires.has_print ∙ ap (λ (x : List ℕ). fingerprint (undo x)) (sym c.name-w.ensures)
+
+pub named-requires-clause-has_print : goal.named-requires-clause-has_print
+named-requires-clause-has_print c =
+    let self = c.args.self.now in
+    printed_at (texts self) c.loop-j.j self.count self.table.now c.loop-j-test.true c.requires.printed
 
 pub returns-then-named-clause-partner : goal.returns-then-named-clause-partner
 returns-then-named-clause-partner c =

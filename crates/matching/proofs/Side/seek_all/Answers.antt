@@ -2,6 +2,7 @@
 use Rattle.std.proofs.Common.{ℕ, Option, None, IfSome, get_or, ◌∙◌, ◌<◌, length-set, refl, subst, sym, arith}
 use Rattle.rows.specs.Rows.{Entry}
 use Rattle.rows.proofs.Entries.{entries_length}
+use Rattle.rows.proofs.Printing.{printed_at}
 use Rattle.matching.specs.Inner.Places.{MatchedAt}
 use Rattle.matching.specs.Inner.Sides.{texts, entries, entry_at}
 use Rattle.matching.proofs.Below.{below_none, below_set}
@@ -13,6 +14,11 @@ loop-i-init c =
     let self = c.args.self.now in
     let other = c.args.other.now in
     (refl, below_none None (λ (k : ℕ) (o : Option ℕ). MatchedAt (texts other) (texts self) (entries self) (entry_at other k) o) c.args.numbers.now)
+
+pub seek-requires-clause-has_print : goal.seek-requires-clause-has_print
+seek-requires-clause-has_print c =
+    let other = c.args.other.now in
+    printed_at (texts other) c.loop-i.i other.count other.table.now c.loop-i-test.true c.requires.other_printed
 
 pub loop-i-preserved : goal.loop-i-preserved
 loop-i-preserved c =

@@ -14,8 +14,16 @@ invariant_of-result c =
     record {
       few = omega arith;
       fits = omega arith;
-      printed = printed_side message header common table self.judged.decoded c.requires.front.printed;
     }
+
+pub returns-clause-printed : goal.returns-clause-printed
+returns-clause-printed c =
+    let self = c.args.self.now in
+    let message = self.message.now in
+    let header = self.header.now in
+    let table = c.args.table.now in
+    let common = self.holds.common in
+    printed_side message header common table self.judged.decoded c.requires.front.printed
 
 pub returns-clause-reads : goal.returns-clause-reads
 returns-clause-reads c =

@@ -12,8 +12,15 @@ invariant_of-result c =
     record {
       few = c.requires.some;
       fits = c.requires.gathers.few;
-      printed = printed_side message header c.args.count table self.judged.decoded c.requires.gathers.printed;
     }
+
+pub returns-clause-printed : goal.returns-clause-printed
+returns-clause-printed c =
+    let self = c.args.self.now in
+    let message = self.message.now in
+    let header = self.header.now in
+    let table = c.args.table.now in
+    printed_side message header c.args.count table self.judged.decoded c.requires.gathers.printed
 
 pub returns-clause-reads : goal.returns-clause-reads
 returns-clause-reads c =
